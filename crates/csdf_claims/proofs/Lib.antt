@@ -1,0 +1,14 @@
+pub mod Totals
+pub mod Counting
+pub mod Tracks
+pub mod Lawful
+pub mod Found
+pub mod Moves
+pub mod Records
+pub mod Claims
+pub mod Openings
+pub mod Lists
+pub mod Joins
+pub mod Gathered
+pub mod Laws
+pub mod Examples

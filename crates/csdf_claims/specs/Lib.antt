@@ -1,0 +1,4 @@
+pub mod Board
+pub mod Steps
+pub mod Face
+pub mod Laws

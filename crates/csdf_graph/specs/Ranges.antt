@@ -1,0 +1,128 @@
+-- Numbers and counts are within their limits.
+use Rattle.std.specs.Prelude.{ℕ, ◌-◌, ◌^◌, ℤ, pos, negsuc, max, nat_le, nat_lt, sum_by, Bool, ◌&&◌, List, ◌++◌, length, replicate, map, Option, Some, None, option_map, option_and_then, if◌then◌else◌, Result, Ok, Err}
+use Rattle.csdf_graph.specs.declared.fault.GraphFault.{GraphFault}
+use Rattle.csdf_graph.specs.declared.fault.GraphFault.TheVariants as fault
+use Rattle.csdf_graph.specs.declared.fault.At.TheVariants as at
+use Rattle.csdf_graph.specs.declared.graph.Kernel.{Kernel}
+use Rattle.csdf_graph.specs.declared.graph.Kernel.TheVariants as kernel
+use Rattle.csdf_graph.specs.declared.ranges.RangedChannel.{RangedChannel as RangedCode}
+use Rattle.csdf_graph.specs.declared.ranges.Ranged.{Ranged as FileCode}
+use Rattle.csdf_graph.specs.Graph.{Actor, actor_view}
+use Rattle.csdf_graph.specs.Shape.{KernelDraft, source, sink, copy, sum, fir, ActorDraft, ChannelDraft, Draft}
+use Rattle.csdf_graph.specs.Passes as passes
+use Rattle.csdf_graph.specs.Told.{told}
+use Rattle.csdf_graph.specs.Passes.{or_fault, each}
+use Rattle.csdf_graph.specs.Tree.{all_some}
+
+infixl 10 ◌>>=◌
+abbrev ◌>>=◌ : {A B : Type 0} → Option A → (A → Option B) → Option B
+o >>= f = option_and_then f o
+
+-- a whole number from low to high
+abbrev pub number_within : ℕ → ℕ → ℤ → Option ℕ
+number_within low high (pos n) = if nat_le low n && nat_le n high then Some n else None
+number_within low high (negsuc n) = None
+
+-- a number of so many bits and a sign
+abbrev pub signed_within : ℕ → ℤ → Option ℤ
+signed_within bits (pos n) = if nat_lt n (2 ^ bits) then Some (pos n) else None
+signed_within bits (negsuc n) = if nat_lt n (2 ^ bits) then Some (negsuc n) else None
+
+-- the weights, with zeros up to 16
+unfoldable pub weights_within : List ℤ → Option (List ℤ)
+weights_within ws =
+    if nat_le 1 (length ws) && nat_le (length ws) 16
+    then option_map (λ zs. zs ++ replicate (16 - length ws) (pos 0)) (all_some (signed_within 15) ws)
+    else None
+
+unfoldable pub kernel_within : KernelDraft → Option Kernel
+kernel_within source = Some kernel.Source
+kernel_within sink = Some kernel.Sink
+kernel_within copy = Some kernel.Copy
+kernel_within sum = Some kernel.Sum
+kernel_within (fir ws s) = do
+  weights ← weights_within ws
+  shift ← number_within 0 31 s
+  Some (kernel.Fir weights (length ws) shift)
+
+unfoldable pub actor_within : ActorDraft → Option Actor
+actor_within a = do
+  kernel ← kernel_within a.kernel
+  phases ← number_within 1 16 a.phases
+  Some (record { name = a.name; kernel = kernel; phases = phases })
+
+-- a channel in range, with its ends by name
+pub record RangedChannel : Type 0 where
+  pub name : List ℕ
+  pub from : List ℕ
+  pub to : List ℕ
+  pub produce : List ℕ
+  pub consume : List ℕ
+  pub initial : List ℤ
+  pub capacity : Option ℕ
+
+abbrev pub ranged_view : RangedCode → RangedChannel
+ranged_view d = record {
+  name = d.name.now;
+  from = d.from.now;
+  to = d.to.now;
+  produce = d.produce.items;
+  consume = d.consume.items;
+  initial = d.initial.items;
+  capacity = d.capacity;
+}
+
+abbrev pub rates_within : List ℤ → Option (List ℕ)
+rates_within = all_some (number_within 0 64)
+
+unfoldable pub tokens_within : List ℤ → Option (List ℤ)
+tokens_within zs = if nat_le (length zs) 256 then all_some (signed_within 31) zs else None
+
+abbrev pub capacity_within : ℕ → Option ℤ → Option (Option ℕ)
+capacity_within held None = Some None
+capacity_within held (Some z) = option_map Some (number_within (max 1 held) 65535 z)
+
+unfoldable pub channel_within : ChannelDraft → Option RangedChannel
+channel_within d = do
+  produce ← rates_within d.produce
+  consume ← rates_within d.consume
+  initial ← tokens_within d.initial
+  capacity ← capacity_within (length d.initial) d.capacity
+  Some (record { name = d.name; from = d.from; to = d.to; produce = produce; consume = consume; initial = initial; capacity = capacity })
+
+abbrev pub ranged_actor : ℕ → ActorDraft → Result Actor GraphFault
+ranged_actor i a = or_fault (fault.Range (at.Actor (told i))) (actor_within a)
+
+abbrev pub ranged_channel : ℕ → ChannelDraft → Result RangedChannel GraphFault
+ranged_channel i d = or_fault (fault.Range (at.Channel (told i))) (channel_within d)
+
+-- a file whose numbers are in range
+pub record Ranged : Type 0 where
+  pub actors : List Actor
+  pub channels : List RangedChannel
+  pub cells : Option ℕ
+
+abbrev pub file_view : FileCode → Ranged
+file_view f = record { actors = map actor_view f.actors.items; channels = map ranged_view f.channels.items; cells = f.cells }
+
+-- 1 to 64 actors, and at most 128 channels
+abbrev pub counts_fit : Draft → Bool
+counts_fit d = (nat_le 1 (length d.actors) && nat_le (length d.actors) 64) && nat_le (length d.channels) 128
+
+-- how many tokens the channels begin with
+abbrev pub initial_count : List ChannelDraft → ℕ
+initial_count channels = sum_by (λ (d : ChannelDraft). length d.initial) channels
+
+-- a number of cells has room for all initial tokens
+abbrev pub cells_within : List ChannelDraft → Option ℤ → Option (Option ℕ)
+cells_within channels None = Some None
+cells_within channels (Some z) = option_map Some (number_within (initial_count channels) 8388480 z)
+
+unfoldable pub range_of : Draft → Result Ranged GraphFault
+range_of d =
+    if counts_fit d
+    then passes.◌>>=◌ (or_fault (fault.Range at.File) (cells_within d.channels d.cells)) (λ cells.
+    passes.◌>>=◌ (each ranged_actor 0 d.actors) (λ actors.
+    passes.◌>>=◌ (each ranged_channel 0 d.channels) (λ channels.
+    Ok (record { actors = actors; channels = channels; cells = cells }))))
+    else Err (fault.Range at.File)

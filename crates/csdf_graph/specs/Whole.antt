@@ -1,0 +1,20 @@
+-- What a graph keeps with the names that its numbers stand for.
+use Rattle.std.specs.Prelude.{◌≡◌, ℕ, List, map, length}
+use Rattle.csdf_graph.specs.Graph.{Graph, Actor, Channel}
+use Rattle.csdf_graph.specs.Joined.{AreJoined}
+use Rattle.csdf_graph.specs.WellFormed.{IsFitting, IsWellFormed}
+
+-- the names of actors and of channels, by number
+pub record IsNumbered (actor_names channel_names : List (List ℕ)) (g : Graph) : Type 0 where
+  pub actors : actor_names ≡ map (λ (a : Actor). a.name) g.actors
+  pub channels : channel_names ≡ map (λ (c : Channel). c.name) g.channels
+
+-- what holds of a graph before it is known whether its actors are joined
+pub record IsUnjoined (actor_names channel_names : List (List ℕ)) (g : Graph) : Type 0 where
+  pub numbered : IsNumbered actor_names channel_names g
+  pub fitting : IsFitting g
+
+-- what holds of every graph
+pub record IsKept (actor_names channel_names : List (List ℕ)) (g : Graph) : Type 0 where
+  pub numbered : IsNumbered actor_names channel_names g
+  pub well_formed : IsWellFormed g

@@ -1,0 +1,217 @@
+//! Worked examples of devices and token files.
+
+use crate::token_word::word_of_line;
+use crate::{
+    DeviceFailed, FromReader, Fused, InputFault, Intake, Outlet, Slice, ToWriter, TokenFault,
+    WordFault, WriteFault, read_bytes, read_tokens, token_of, write_bytes, write_tokens,
+};
+use std::io;
+use std::io::{ErrorKind, Read, Write};
+use std::test::Fail;
+
+#[test]
+fn well_formed_texts_give_their_tokens(rt: HostRuntime) -> Result<(), Fail> {
+    let table: [(&[u8], &[i32]); 7] = [
+        (b"", &[]),
+        (b"7\n8", &[7, 8]),
+        (b"1\n\n2\n", &[1, 2]),
+        (b"+1\r\n -5\t\n007\n", &[1, -5, 7]),
+        (b"2147483647\n-2147483648\n", &[2147483647, -2147483648]),
+        (b"-0\n", &[0]),
+        (b"5 \r", &[5]),
+    ];
+    for (text, want) in table {
+        let tokens = read_tokens(rt.alloc(), &mut Slice::new(text))?;
+        assert_eq!(rt; tokens.as_slice(), want);
+    }
+    Ok(())
+}
+
+#[test]
+fn the_first_faulty_line_is_told(rt: HostRuntime) {
+    let table: [(&[u8], TokenFault); 13] = [
+        (b"1\n2147483648\n", TokenFault::Range(2)),
+        (b"1\n-2147483649\n", TokenFault::Range(2)),
+        (b"1x\n", TokenFault::Syntax(1)),
+        (b"-\n", TokenFault::Syntax(1)),
+        (b"1 2\n", TokenFault::Syntax(1)),
+        (b"1\n\xff\n", TokenFault::Syntax(2)),
+        (b"--1\n", TokenFault::Syntax(1)),
+        (b"99999999999999999999\n", TokenFault::Range(1)),
+        (b"99999999999999999999x\n", TokenFault::Syntax(1)),
+        (b"5\r \n", TokenFault::Syntax(1)),
+        (b"5\r\r\n", TokenFault::Syntax(1)),
+        (b"\x0c5\n", TokenFault::Syntax(1)),
+        (b"\xef\xbb\xbf5\n", TokenFault::Syntax(1)),
+    ];
+    for (text, want) in table {
+        let answer = read_tokens(rt.alloc(), &mut Slice::new(text));
+        assert_eq!(rt; answer.err(), Some(want));
+    }
+}
+
+/// A line that is given so many times, and then the end of the text.
+fn repeated(rt: &HostRuntime, line: &[u8], count: usize, end: &[u8]) -> Result<Vec<u8>, Fail> {
+    let mut text = Vec::new(rt.alloc());
+    for _ in 0..count {
+        text.extend_from_slice(line)?;
+    }
+    text.extend_from_slice(end)?;
+    Ok(text)
+}
+
+#[test]
+fn tokens_have_a_limit(rt: HostRuntime) -> Result<(), Fail> {
+    let most = repeated(&rt, b"0\n", 1_000_000, b"")?;
+    assert_eq!(rt;
+        read_tokens(rt.alloc(), &mut Slice::new(&most))?.len(),
+        1_000_000
+    );
+    let table: [(&[u8], TokenFault); 3] = [
+        (b"0\n", TokenFault::TooMany),
+        (b"x\n", TokenFault::Syntax(1_000_001)),
+        (b"2147483648\n", TokenFault::Range(1_000_001)),
+    ];
+    for (end, want) in table {
+        let text = repeated(&rt, b"0\n", 1_000_000, end)?;
+        assert_eq!(rt;
+            read_tokens(rt.alloc(), &mut Slice::new(&text)).err(),
+            Some(want)
+        );
+    }
+    Ok(())
+}
+
+#[test]
+fn bytes_have_a_limit(rt: HostRuntime) -> Result<(), Fail> {
+    let mut text = vec![in rt.alloc(); b'\n'; 16_777_216]?;
+    assert_eq!(rt;
+        read_bytes(rt.alloc(), &mut Slice::new(&text))?.len(),
+        16_777_216
+    );
+    assert_eq!(rt; read_tokens(rt.alloc(), &mut Slice::new(&text))?.len(), 0);
+    // 256 pieces and the end: the reader is not asked byte by byte.
+    let mut reader = Fused::new(Slice::new(&text), 257);
+    assert_eq!(rt; read_bytes(rt.alloc(), &mut reader)?.len(), 16_777_216);
+    text.push(b'\n')?;
+    let bytes = read_bytes(rt.alloc(), &mut Slice::new(&text));
+    assert_eq!(rt; bytes.err(), Some(InputFault::TooLong));
+    let tokens = read_tokens(rt.alloc(), &mut Slice::new(&text));
+    assert_eq!(rt; tokens.err(), Some(TokenFault::TooMany));
+    Ok(())
+}
+
+#[test]
+fn a_failing_reader_is_told_before_any_line(rt: HostRuntime) {
+    for text in [b"1x\n".as_slice(), b"1\n"] {
+        let mut reader = Fused::new(Slice::new(text), 1);
+        assert_eq!(rt;
+            read_tokens(rt.alloc(), &mut reader).err(),
+            Some(TokenFault::Read)
+        );
+        assert_eq!(rt;
+            read_tokens(rt.alloc(), &mut reader).err(),
+            Some(TokenFault::Read)
+        );
+        let mut reader = Fused::new(Slice::new(text), 1);
+        assert_eq!(rt;
+            read_bytes(rt.alloc(), &mut reader).err(),
+            Some(InputFault::Read)
+        );
+    }
+}
+
+#[test]
+fn tokens_are_written(rt: HostRuntime) -> Result<(), Fail> {
+    let mut text = Vec::new(rt.alloc());
+    write_tokens(&mut ToWriter::new(&mut text), &[-2147483648, 0, 7])?;
+    assert_eq!(rt; text.as_slice(), b"-2147483648\n0\n7\n".as_slice());
+    Ok(())
+}
+
+#[test]
+fn a_failing_writer_is_told(rt: HostRuntime) {
+    for calls in 0..3 {
+        let mut text = Vec::new(rt.alloc());
+        let mut writer = Fused::new(ToWriter::new(&mut text), calls);
+        assert_eq!(rt;
+            write_tokens(&mut writer, &[-2147483648, 0, 7]),
+            Err(WriteFault)
+        );
+        assert_eq!(rt; write_tokens(&mut writer, &[1]), Err(WriteFault));
+        assert_eq!(rt; write_bytes(&mut writer, b"1"), Err(WriteFault));
+        assert_eq!(rt; write_tokens(&mut writer, &[]), Ok(()));
+    }
+}
+
+/// A reader and a writer of which every second call fails.
+#[derive(Drop)]
+struct Moody {
+    fails: bool,
+}
+
+impl Moody {
+    fn turn(&mut self) -> io::Result<usize> {
+        self.fails = !self.fails;
+        if self.fails {
+            Ok(1)
+        } else {
+            Err(io::Error::from(ErrorKind::Other))
+        }
+    }
+}
+
+impl Read for Moody {
+    fn read(&mut self, buf: &mut [u8]) -> io::Result<usize> {
+        Ok(self.turn()?.min(buf.len()))
+    }
+}
+
+impl Write for Moody {
+    fn write(&mut self, buf: &[u8]) -> io::Result<usize> {
+        Ok(self.turn()?.min(buf.len()))
+    }
+
+    fn flush(&mut self) -> io::Result<()> {
+        Ok(())
+    }
+}
+
+#[test]
+fn a_failed_device_stays_failed(rt: HostRuntime) {
+    let mut buffer = [0; 4];
+    let mut reader = FromReader::new(Moody { fails: false });
+    let mut writer = ToWriter::new(Moody { fails: false });
+    let answers = [Ok(1), Err(DeviceFailed), Err(DeviceFailed)];
+    for want in answers {
+        assert_eq!(rt; reader.fetch(&mut buffer), want);
+        assert_eq!(rt; writer.emit(&buffer), want);
+    }
+}
+
+#[test]
+fn a_writer_that_takes_nothing_has_failed(rt: HostRuntime) {
+    let mut room = [0; 2];
+    let mut writer = ToWriter::new(room.as_mut_slice());
+    let answers = [Ok(2), Err(DeviceFailed), Err(DeviceFailed)];
+    for want in answers {
+        assert_eq!(rt; writer.emit(b"abc"), want);
+    }
+}
+
+#[test]
+fn readers_give_their_bytes(rt: HostRuntime) -> Result<(), Fail> {
+    let mut reader = FromReader::new(b"ab\ncd".as_slice());
+    let bytes = read_bytes(rt.alloc(), &mut reader)?;
+    assert_eq!(rt; bytes.as_slice(), b"ab\ncd".as_slice());
+    Ok(())
+}
+
+#[test]
+fn words_are_read(rt: HostRuntime) {
+    assert_eq!(rt; word_of_line(b" \t-12 \r"), b"-12".as_slice());
+    assert_eq!(rt; word_of_line(b"\r"), b"".as_slice());
+    assert_eq!(rt; token_of(b"-12"), Ok(-12));
+    assert_eq!(rt; token_of(b""), Err(WordFault::Malformed));
+    assert_eq!(rt; token_of(b"2147483648"), Err(WordFault::OutOfRange));
+}

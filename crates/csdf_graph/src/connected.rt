@@ -1,0 +1,83 @@
+//! Whether all actors are joined by channels, directions ignored.
+
+ghost use Rattle.std.specs.Prelude.{◌≡◌, ◌==◌, map, IfOk, IsTrue, slice_get, ◌↔◌};
+ghost use Rattle.std.specs.List.{list_all, range_with_len};
+ghost use Rattle.csdf_graph.specs.Graph.{channel_view};
+ghost use Rattle.csdf_graph.specs.Joined.{HasEnds, AreJoined};
+ghost use Rattle.csdf_graph.specs.Connected.{relabel, merge, groups_of, are_one_group};
+
+use crate::graph::Channel;
+use std::alloc::{AllocError, Global};
+
+fn relabeled(
+    alloc: Global,
+    groups: &[usize],
+    old: usize,
+    new: usize,
+) -> Result<Vec<usize>, AllocError>
+    ensures { IfOk result (λ v. v.items ≡ relabel old new groups.now) }
+{
+    groups
+        .iter()
+        .map(|group| if *group == old { new } else { *group })
+        .collect(alloc)
+}
+
+/// The groups once the channel has joined those of its ends.
+fn merged(alloc: Global, groups: &[usize], channel: &Channel) -> Result<Vec<usize>, AllocError>
+    ensures { IfOk result (λ v. v.items ≡ merge (slice_get groups.now channel.now.from) (slice_get groups.now channel.now.to) groups.now) }
+{
+    let Some(from) = groups.get(channel.from as usize) else {
+        return Vec::from_slice(alloc, groups);
+    };
+    let Some(to) = groups.get(channel.to as usize) else {
+        return Vec::from_slice(alloc, groups);
+    };
+    relabeled(alloc, groups, *from, *to)
+}
+
+fn numbers(alloc: Global, count: usize) -> Result<Vec<usize>, AllocError>
+    ensures { IfOk result (λ v. v.items ≡ range_with_len 0 count) }
+{
+    (0..count).collect(alloc)
+}
+
+fn groups_of(alloc: Global, count: usize, channels: &[Channel]) -> Result<Vec<usize>, AllocError>
+    ensures { IfOk result (λ v. v.items ≡ groups_of count (map channel_view channels.now)) }
+{
+    let mut groups = numbers(alloc, count)?;
+    for channel in channels {
+        groups = merged(alloc, &groups, channel)?;
+    }
+    Ok(groups)
+}
+
+fn are_all(groups: &[usize], group: usize) -> bool
+    ensures { result ≡ list_all (λ g. g == group) groups.now }
+{
+    groups.iter().all(|g| *g == group)
+}
+
+/// Whether so many actors end up in one group.
+fn are_one_group(alloc: Global, count: usize, channels: &[Channel]) -> Result<bool, AllocError>
+    ensures { IfOk result (λ b. b ≡ are_one_group count (map channel_view channels.now)) }
+{
+    let groups = groups_of(alloc, count, channels)?;
+    match groups.first() {
+        Some(group) => Ok(are_all(&groups, *group)),
+        None => Ok(true),
+    }
+}
+
+/// Whether any two of so many actors are joined by the channels.
+pub(crate) fn is_connected(
+    alloc: Global,
+    count: usize,
+    channels: &[Channel],
+) -> Result<bool, AllocError>
+    requires { HasEnds count (map channel_view channels.now) }
+    ensures { IfOk result (λ b. IsTrue b ↔ AreJoined count (map channel_view channels.now)) }
+{
+    let one = are_one_group(alloc, count, channels)?;
+    Ok(one)
+}

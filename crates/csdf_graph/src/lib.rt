@@ -1,0 +1,47 @@
+//! Cyclo-static dataflow graphs: graph files, scripts, token files and devices.
+#![tactic(auto)]
+
+mod checks;
+mod connected;
+mod device;
+mod fault;
+mod from_reader;
+mod fused;
+mod graph;
+mod intake;
+mod links;
+mod names;
+mod outlet;
+mod ranges;
+mod rates;
+mod read;
+mod script;
+mod shape;
+mod slice;
+mod to_writer;
+mod token_line;
+mod token_word;
+mod tokens;
+mod tree;
+mod whole;
+
+pub use device::{DeviceFailed, Intake, Outlet};
+pub use fault::{At, GraphFault};
+pub use from_reader::FromReader;
+pub use fused::Fused;
+pub use graph::{Actor, Channel, Kernel};
+pub use intake::{INPUT_LIMIT, InputFault, read_bytes};
+pub use outlet::{WriteFault, write_bytes};
+pub use rates::{rate, total};
+pub use read::read_graph;
+pub use script::{Script, read_script};
+pub use slice::Slice;
+pub use to_writer::ToWriter;
+pub use token_word::{WordFault, token_of};
+pub use tokens::{TOKEN_LIMIT, TokenFault, read_tokens, write_tokens, written_tokens_read_back};
+pub use whole::Graph;
+
+#[cfg(test)]
+mod byte_tests;
+#[cfg(test)]
+mod tests;

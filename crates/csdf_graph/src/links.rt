@@ -1,0 +1,89 @@
+//! The ends of each channel, by name in the file and by number in the graph.
+
+ghost use Rattle.std.specs.Prelude.{◌≡◌, map, option_map, string_bytes, ◌<◌, ◌≤◌, length, IfSome};
+ghost use Rattle.csdf_graph.specs.declared.fault.GraphFault.TheVariants.{Memory};
+ghost use Rattle.csdf_graph.specs.Passes.{Gives, Reads, each};
+ghost use Rattle.csdf_graph.specs.Graph.{channel_view};
+ghost use Rattle.csdf_graph.specs.Ranges.{ranged_view};
+ghost use Rattle.csdf_graph.specs.Links.{number_in, linked, linked_at};
+
+use crate::fault::{GraphFault, Misfit, told};
+use crate::graph::Channel;
+use crate::ranges::RangedChannel;
+use indexmap::IndexSet;
+use std::alloc::Global;
+
+/// The number of a name.
+#[tactic(auto, using(crate::proofs::LinkLemmas::position_map, crate::proofs::LinkLemmas::length_of_map))]
+pub(crate) fn number_in(names: &IndexSet<String>, name: &str) -> Option<usize>
+    ensures value { result ≡ number_in (map string_bytes names.now.keys) name.now }
+    ensures within { IfSome result (λ i. i < length (map string_bytes names.now.keys)) }
+{
+    names.get_index_of(name)
+}
+
+/// The number of the actor with the name.
+fn end_of(names: &IndexSet<String>, name: &str) -> Option<u32>
+    requires { length names.now.keys ≤ 64 }
+    ensures { result ≡ number_in (map string_bytes names.now.keys) name.now }
+{
+    match number_in(names, name) {
+        Some(number) => Some(number as u32),
+        None => None,
+    }
+}
+
+#[tactic(auto, unfolding(crate::specs::Links::linked))]
+fn linked(
+    alloc: Global,
+    names: &IndexSet<String>,
+    channel: RangedChannel<'_>,
+) -> Result<Channel, Misfit>
+    requires { length names.now.keys ≤ 64 }
+    ensures { Reads channel_view result (linked (map string_bytes names.now.keys) (ranged_view channel.entry)) }
+{
+    let from = end_of(names, channel.from).ok_or(Misfit::Fault)?;
+    let to = end_of(names, channel.to).ok_or(Misfit::Fault)?;
+    Ok(Channel {
+        name: String::from_str(alloc, channel.name)?,
+        from,
+        to,
+        produce: channel.produce,
+        consume: channel.consume,
+        initial: channel.initial,
+        capacity: channel.capacity,
+    })
+}
+
+fn channel_linked(
+    alloc: Global,
+    names: &IndexSet<String>,
+    place: usize,
+    channel: RangedChannel<'_>,
+) -> Result<Channel, GraphFault>
+    requires { length names.now.keys ≤ 64 }
+    ensures { Gives channel_view result (linked_at (map string_bytes names.now.keys) place (ranged_view channel.entry)) }
+{
+    match linked(alloc, names, channel) {
+        Ok(channel) => Ok(channel),
+        Err(Misfit::Fault) => Err(GraphFault::UnknownActor(told(place))),
+        Err(Misfit::Memory) => Err(GraphFault::Memory),
+    }
+}
+
+/// The channels, with the numbers of their ends.
+pub(crate) fn linked_channels(
+    alloc: Global,
+    names: &IndexSet<String>,
+    channels: Vec<RangedChannel<'_>>,
+) -> Result<Vec<Channel>, GraphFault>
+    requires { length names.now.keys ≤ 64 }
+    ensures { Gives (λ v. map channel_view v.items) result (each (linked_at (map string_bytes names.now.keys)) 0 (map ranged_view channels.entry.items)) }
+{
+    let mut linked = Vec::new(alloc);
+    for channel in channels {
+        let place = linked.len();
+        linked.push(channel_linked(alloc, names, place, channel)?)?;
+    }
+    Ok(linked)
+}

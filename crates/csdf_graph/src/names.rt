@@ -1,0 +1,78 @@
+//! Names have the right form, and none is used twice.
+
+ghost use Rattle.std.specs.Prelude.{◌≡◌, map, string_bytes};
+ghost use Rattle.std.specs.List.{list_all};
+ghost use Rattle.csdf_graph.specs.Passes.{Gives};
+ghost use Rattle.csdf_graph.specs.Names.{is_word_byte, is_name, is_free, at, names_of};
+
+use crate::fault::{At, GraphFault, told};
+use indexmap::IndexSet;
+use std::alloc::Global;
+
+/// What has a name.
+#[derive(Clone, Copy, Debug, PartialEq, Eq)]
+pub(crate) enum Kind {
+    Actor,
+    Channel,
+}
+
+impl Kind {
+    fn at(self, number: u32) -> At
+        ensures { result ≡ at self number }
+    {
+        match self {
+            Kind::Actor => At::Actor(number),
+            Kind::Channel => At::Channel(number),
+        }
+    }
+}
+
+fn is_word_byte(byte: u8) -> bool
+    ensures { result ≡ is_word_byte byte }
+{
+    byte.is_ascii_alphanumeric() || byte == b'_'
+}
+
+fn are_word_bytes(bytes: &[u8]) -> bool
+    ensures { result ≡ list_all is_word_byte bytes.now }
+{
+    bytes.iter().all(|byte| is_word_byte(*byte))
+}
+
+/// Whether the text is an ASCII letter, and at most 31 letters, digits or underscores.
+pub(crate) fn is_name(text: &str) -> bool
+    ensures { result ≡ is_name text.now }
+{
+    match text.as_bytes() {
+        [first, rest @ ..] => first.is_ascii_alphabetic()
+            && rest.len() <= 31
+            && are_word_bytes(rest),
+        [] => false,
+    }
+}
+
+/// Whether the text is a name, and none of these.
+#[tactic(auto, using(crate::proofs::TreeLemmas::list_any_map))]
+fn is_free(name: &str, taken: &IndexSet<String>) -> bool
+    ensures { result ≡ is_free name.now (map string_bytes taken.now.keys) }
+{
+    is_name(name) && !taken.contains(name)
+}
+
+/// The names in order, so that each has its place as its number.
+pub(crate) fn numbered(
+    alloc: Global,
+    kind: Kind,
+    names: &[&str],
+) -> Result<IndexSet<String>, GraphFault>
+    ensures { Gives (λ s. map string_bytes s.keys) result (names_of kind (map (λ n. n.now) names.now)) }
+{
+    let mut numbers = IndexSet::new(alloc);
+    for (place, name) in names.iter().enumerate() {
+        if !is_free(name, &numbers) {
+            return Err(GraphFault::Name(kind.at(told(place))));
+        }
+        numbers.insert(String::from_str(alloc, name)?)?;
+    }
+    Ok(numbers)
+}

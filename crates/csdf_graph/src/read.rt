@@ -1,0 +1,160 @@
+//! The graph of a text.
+
+ghost use Rattle.std.specs.Prelude.{◌≡◌, ◌≤◌, map, length, string_bytes, IfOk};
+ghost use Rattle.toml.specs.View.{table_view};
+ghost use Rattle.csdf_graph.specs.declared.names.Kind.TheVariants as kind;
+ghost use Rattle.csdf_graph.specs.declared.fault.GraphFault.TheVariants.{NotToml};
+ghost use Rattle.csdf_graph.specs.Passes.{Gives, Tells, itself, or_fault};
+ghost use Rattle.csdf_graph.specs.Names.{names_of};
+ghost use Rattle.csdf_graph.specs.Whole.{IsUnjoined};
+ghost use Rattle.csdf_graph.specs.GraphText.{parts_view, parts_of, unjoined_in, IsJudged, IsGraphIn, IsGraphOf, file_of};
+ghost use Rattle.csdf_graph.specs.Shape.{draft_view};
+ghost use Rattle.csdf_graph.specs.Ranges.{file_view};
+
+use crate::checks::{check_phase_lengths, check_ports, check_rates};
+use crate::connected::is_connected;
+use crate::fault::GraphFault;
+use crate::graph::{Actor, Channel};
+use crate::links::linked_channels;
+use crate::names::{Kind, numbered};
+use crate::ranges::{Ranged, range_of};
+use crate::shape::{ActorDraft, ChannelDraft, Draft, draft_of};
+use crate::whole::Graph;
+use indexmap::IndexSet;
+use std::alloc::{AllocError, Global};
+use toml::Table;
+
+fn actor_names<'a>(alloc: Global, drafts: &[ActorDraft<'a>]) -> Result<Vec<&'a str>, AllocError>
+    ensures { IfOk result (λ v. v.items ≡ map (λ a. a.name) drafts.now) }
+{
+    drafts.iter().map(|draft| draft.name).collect(alloc)
+}
+
+fn channel_names<'a>(alloc: Global, drafts: &[ChannelDraft<'a>]) -> Result<Vec<&'a str>, AllocError>
+    ensures { IfOk result (λ v. v.items ≡ map (λ c. c.name) drafts.now) }
+{
+    drafts.iter().map(|draft| draft.name).collect(alloc)
+}
+
+#[tactic(auto, using(crate::proofs::ReadLemmas::map_map))]
+fn numbered_actors(alloc: Global, draft: &Draft<'_>) -> Result<IndexSet<String>, GraphFault>
+    ensures { Gives (λ s. map string_bytes s.keys) result (names_of kind.Actor (map (λ a. a.name) (draft_view draft.now).actors)) }
+{
+    let names = actor_names(alloc, &draft.actors)?;
+    numbered(alloc, Kind::Actor, &names)
+}
+
+#[tactic(auto, using(crate::proofs::ReadLemmas::map_map))]
+fn numbered_channels(alloc: Global, draft: &Draft<'_>) -> Result<IndexSet<String>, GraphFault>
+    ensures { Gives (λ s. map string_bytes s.keys) result (names_of kind.Channel (map (λ c. c.name) (draft_view draft.now).channels)) }
+{
+    let names = channel_names(alloc, &draft.channels)?;
+    numbered(alloc, Kind::Channel, &names)
+}
+
+/// Actors and channels that fit each other.
+#[derive(Drop)]
+struct Parts {
+    actors: Vec<Actor>,
+    channels: Vec<Channel>,
+    cells: Option<u32>,
+}
+
+/// The checks of channels against actors.
+#[tactic(auto, unfolding(crate::specs::GraphText::parts_of))]
+fn parts_of(
+    alloc: Global,
+    names: &IndexSet<String>,
+    ranged: Ranged<'_>,
+) -> Result<Parts, GraphFault>
+    requires { length names.now.keys ≤ 64 }
+    ensures { Gives parts_view result (parts_of (map string_bytes names.now.keys) (file_view ranged.entry)) }
+{
+    let channels = linked_channels(alloc, names, ranged.channels)?;
+    let actors = ranged.actors;
+    check_phase_lengths(&actors, &channels)?;
+    check_rates(&channels)?;
+    check_ports(&actors, &channels)?;
+    Ok(Parts {
+        actors,
+        channels,
+        cells: ranged.cells,
+    })
+}
+
+/// The parts of a graph, with the names that have become numbers.
+#[derive(Drop)]
+struct Named {
+    parts: Parts,
+    actor_names: IndexSet<String>,
+    channel_names: IndexSet<String>,
+}
+
+/// All checks but the last.
+#[tactic(auto, unfolding(crate::specs::GraphText::unjoined_in))]
+fn named_parts(alloc: Global, file: &Table) -> Result<Named, GraphFault>
+    ensures value { Gives (λ n. parts_view n.parts) result (unjoined_in (table_view file.now)) }
+    ensures kept { IfOk result (λ n. IsUnjoined (map string_bytes n.actor_names.keys) (map string_bytes n.channel_names.keys) (parts_view n.parts)) }
+{
+    let draft = draft_of(alloc, file)?;
+    let actor_names = numbered_actors(alloc, &draft)?;
+    let channel_names = numbered_channels(alloc, &draft)?;
+    let ranged = range_of(alloc, &draft)?;
+    let parts = parts_of(alloc, &actor_names, ranged)?;
+    Ok(Named {
+        parts,
+        actor_names,
+        channel_names,
+    })
+}
+
+/// The graph of the parts, where any two of its actors are joined.
+fn judged(alloc: Global, named: Named) -> Result<Graph, GraphFault>
+    requires { IsUnjoined (map string_bytes named.actor_names.keys) (map string_bytes named.channel_names.keys) (parts_view named.parts) }
+    ensures { Tells itself result (IsJudged (parts_view named.parts)) }
+{
+    let Named {
+        parts,
+        actor_names,
+        channel_names,
+    } = named;
+    let Parts {
+        actors,
+        channels,
+        cells,
+    } = parts;
+    if !is_connected(alloc, actors.len(), &channels)? {
+        return Err(GraphFault::NotConnected);
+    }
+    Ok(Graph::new(actors, channels, cells, actor_names, channel_names))
+}
+
+/// The graph of a file.
+fn graph_of(alloc: Global, file: &Table) -> Result<Graph, GraphFault>
+    ensures { Tells itself result (IsGraphIn (table_view file.now)) }
+{
+    let named = named_parts(alloc, file)?;
+    judged(alloc, named)
+}
+
+/// The file that the bytes are.
+pub(crate) fn file_of(alloc: Global, bytes: &[u8]) -> Result<Table, GraphFault>
+    ensures { Gives table_view result (or_fault NotToml (file_of bytes.now)) }
+{
+    match toml::table_from_slice(alloc, bytes) {
+        Ok(file) => Ok(file),
+        Err(error) if error.is_memory() => Err(GraphFault::Memory),
+        Err(_) => Err(GraphFault::NotToml),
+    }
+}
+
+/// Reads a graph from the text of a graph file (Bilsen et al. 1996 has the model).
+///
+/// The error is the first fault of the file, in the order of [`GraphFault`]'s variants, each check
+/// over the whole file before the next; or [`GraphFault::Memory`], which says nothing of the file.
+pub fn read_graph(alloc: Global, bytes: &[u8]) -> Result<Graph, GraphFault>
+    ensures { Tells itself result (IsGraphOf bytes.now) }
+{
+    let file = file_of(alloc, bytes)?;
+    graph_of(alloc, &file)
+}

@@ -1,0 +1,118 @@
+//! A graph as a whole.
+
+ghost use Rattle.std.specs.Prelude.{◌≡◌, map, string_bytes, slice_get, option_map, IfOk};
+ghost use Rattle.csdf_graph.specs.Graph.{actor_view, channel_view};
+ghost use Rattle.csdf_graph.specs.WellFormed.{IsWellFormed};
+ghost use Rattle.csdf_graph.specs.Links.{number_in};
+
+use crate::graph::{Actor, Channel};
+use crate::links::number_in;
+use indexmap::IndexSet;
+use std::alloc::AllocError;
+use std::marker::Model;
+
+/// A cyclo-static dataflow graph that has passed each check of [`read_graph`](crate::read_graph).
+///
+/// Actors and channels are numbered from 0 in file order.
+#[derive(Drop)]
+pub struct Graph {
+    actors: Vec<Actor>,
+    channels: Vec<Channel>,
+    cells: Option<u32>,
+    actor_names: IndexSet<String>,
+    channel_names: IndexSet<String>,
+}
+
+impl Model for Graph {
+    ghost use Rattle.std.specs.Prelude.{map, string_bytes};
+    ghost use Rattle.csdf_graph.specs.Graph.{Graph as GraphModel, actor_view, channel_view};
+    ghost use Rattle.csdf_graph.specs.Whole.{IsKept};
+
+    ghost Value = { GraphModel };
+
+    ghost view = { λ g. record { actors = map actor_view g.actors.items; channels = map channel_view g.channels.items; cells = g.cells } };
+
+    ghost invariant = { λ g. IsKept (map string_bytes g.actor_names.keys) (map string_bytes g.channel_names.keys) (record { actors = map actor_view g.actors.items; channels = map channel_view g.channels.items; cells = g.cells }) };
+}
+
+impl Graph {
+    ghost use Rattle.csdf_graph.specs.Whole.{IsKept};
+
+    pub(crate) fn new(
+        actors: Vec<Actor>,
+        channels: Vec<Channel>,
+        cells: Option<u32>,
+        actor_names: IndexSet<String>,
+        channel_names: IndexSet<String>,
+    ) -> Graph
+        requires { IsKept (map string_bytes actor_names.keys) (map string_bytes channel_names.keys) (record { actors = map actor_view actors.items; channels = map channel_view channels.items; cells = cells }) }
+        ensures { result ≡ record { actors = map actor_view actors.items; channels = map channel_view channels.items; cells = cells } }
+    {
+        Graph {
+            actors,
+            channels,
+            cells,
+            actor_names,
+            channel_names,
+        }
+    }
+
+    /// The actors, in file order.
+    pub fn actors(&self) -> &[Actor]
+        ensures value { map actor_view result.now ≡ self.now.actors }
+        ensures well_formed { IsWellFormed self.now }
+    {
+        &self.actors
+    }
+
+    /// The channels, in file order.
+    pub fn channels(&self) -> &[Channel]
+        ensures value { map channel_view result.now ≡ self.now.channels }
+        ensures well_formed { IsWellFormed self.now }
+    {
+        &self.channels
+    }
+
+    /// The number of cells of the pool that all channels share, where the file gives one.
+    pub fn cells(&self) -> Option<u32>
+        ensures { result ≡ self.now.cells }
+    {
+        self.cells
+    }
+
+    /// The number of the actor with this name, by one look-up.
+    #[tactic(auto, using(crate::proofs::LinkLemmas::length_of_map))]
+    pub fn actor_number(&self, name: &str) -> Option<u32>
+        ensures { result ≡ number_in (map (λ a. a.name) self.now.actors) name.now }
+    {
+        match number_in(&self.actor_names, name) {
+            Some(number) => Some(number as u32),
+            None => None,
+        }
+    }
+
+    /// The number of the channel with this name, by one look-up.
+    #[tactic(auto, using(crate::proofs::LinkLemmas::length_of_map))]
+    pub fn channel_number(&self, name: &str) -> Option<u32>
+        ensures { result ≡ number_in (map (λ c. c.name) self.now.channels) name.now }
+    {
+        match number_in(&self.channel_names, name) {
+            Some(number) => Some(number as u32),
+            None => None,
+        }
+    }
+
+    /// An equal graph in memory of its own.
+    ///
+    /// An error says that memory ran out.
+    pub fn try_copy(&self) -> Result<Graph, AllocError>
+        ensures { IfOk result (λ graph. graph ≡ self.now) }
+    {
+        let actors = self.actors.clone()?;
+        let channels = self.channels.clone()?;
+        let actor_names = self.actor_names.clone()?;
+        let channel_names = self.channel_names.clone()?;
+        let cells = self.cells;
+        Ok(Graph::new(actors, channels, self.cells, actor_names, channel_names))
+    }
+}

@@ -1,0 +1,15 @@
+pub mod Times
+pub mod Walks
+pub mod Totals
+pub mod ChainLemmas
+pub mod Joins
+pub mod Fills
+pub mod Lists
+pub mod Shares
+pub mod Moves
+pub mod CallerLemmas
+pub mod Tables
+pub mod Views
+pub mod Segments
+pub mod Opening
+pub mod OneByOne

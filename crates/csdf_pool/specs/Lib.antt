@@ -1,0 +1,5 @@
+pub mod Cells
+pub mod Chains
+pub mod Inside
+pub mod Pens
+pub mod Pool

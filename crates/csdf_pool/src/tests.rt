@@ -1,0 +1,193 @@
+//! Worked examples, and a plain pool of lists that is played beside the real one.
+
+mod plain;
+
+ghost use Rattle.std.specs.Prelude.{◌≡◌, ◌<◌, length, IfOk};
+
+use crate::pool::{NoCell, Pool};
+use plain::Plain;
+use std::alloc::{AllocError, Global};
+use std::process::Abort;
+use std::test::Fail;
+
+// A pool of two chains.
+#[derive(Drop)]
+struct Two {
+    pool: Pool,
+    ghost two: { length pool.chains ≡ 2 },
+}
+
+impl Two {
+    fn new(alloc: Global, cells: u32) -> Result<Two, AllocError>
+        requires { cells < 1000 }
+    {
+        let pool = Pool::new(alloc, cells, 2)?;
+        Ok(Two { pool })
+    }
+
+    fn put(&mut self, chain: u32, token: i32) -> Result<(), NoCell> {
+        self.pool.put(chain % 2, token)
+    }
+
+    fn take(&mut self, chain: u32) -> Option<i32> {
+        self.pool.take(chain % 2)
+    }
+
+    // Whether there was room for all the tokens.
+    fn put_all(&mut self, chain: u32, tokens: &[i32]) -> bool {
+        if tokens.len() > self.pool.free_len() as usize {
+            return false;
+        }
+        self.pool.put_all(chain % 2, tokens);
+        true
+    }
+
+    // So many tokens, or none where the chain has fewer.
+    fn take_some(&mut self, alloc: Global, chain: u32, n: usize) -> Result<Vec<i32>, AllocError> {
+        if n > self.pool.len(chain % 2) as usize {
+            return Ok(Vec::new(alloc));
+        }
+        let mut tokens = vec![in alloc; 0; n]?;
+        self.pool.take_into(chain % 2, &mut tokens);
+        Ok(tokens)
+    }
+
+    // The cells and tokens of both chains, and the free cells, as `1=8 | 2=9 | 3 0`.
+    fn shown(&self, alloc: Global) -> Result<String, AllocError> {
+        let mut text = String::new(alloc);
+        for chain in 0..2 {
+            for (cell, token) in self.pool.cells(chain).zip(self.pool.tokens(chain)) {
+                write!(text, "{cell}={token} ")?;
+            }
+            write!(text, "| ")?;
+        }
+        for cell in self.pool.free_cells() {
+            write!(text, "{cell} ")?;
+        }
+        Ok(text)
+    }
+}
+
+// One call on a pool of two chains, and what it is to answer.
+#[derive(Drop)]
+enum Call {
+    Put(u32, i32, Result<(), NoCell>),
+    Take(u32, Option<i32>),
+    PutAll(u32, &'static [i32]),
+    TakeInto(u32, &'static [i32]),
+}
+
+// A call, and what the pool is to show after it.
+#[derive(Drop)]
+struct Step(Call, &'static str);
+
+fn plays(rt: &impl Abort, alloc: Global, cells: u32, steps: &[Step]) -> Result<(), Fail>
+    requires { cells < 1000 }
+{
+    let mut two = Two::new(alloc, cells)?;
+    for step in steps {
+        match step.0 {
+            Call::Put(chain, token, answer) => assert_eq!(rt; two.put(chain, token), answer),
+            Call::Take(chain, answer) => assert_eq!(rt; two.take(chain), answer),
+            Call::PutAll(chain, tokens) => assert!(rt; two.put_all(chain, tokens)),
+            Call::TakeInto(chain, answer) => {
+                let taken = two.take_some(alloc, chain, answer.len())?;
+                assert_eq!(rt; taken.as_slice(), answer);
+            }
+        }
+        assert_eq!(rt; two.shown(alloc)?.as_str(), step.1);
+    }
+    Ok(())
+}
+
+#[test]
+fn single_calls(rt: HostRuntime) -> Result<(), Fail> {
+    let steps = [
+        Step(Call::Put(0, 7, Ok(())), "0=7 | | 1 2 3 "),
+        Step(Call::Put(0, 8, Ok(())), "0=7 1=8 | | 2 3 "),
+        Step(Call::Take(0, Some(7)), "1=8 | | 2 3 0 "),
+        Step(Call::Put(1, 9, Ok(())), "1=8 | 2=9 | 3 0 "),
+        Step(Call::Put(1, 5, Ok(())), "1=8 | 2=9 3=5 | 0 "),
+        Step(Call::Put(0, 6, Ok(())), "1=8 0=6 | 2=9 3=5 | "),
+        Step(Call::Put(1, 4, Err(NoCell)), "1=8 0=6 | 2=9 3=5 | "),
+        Step(Call::Take(0, Some(8)), "0=6 | 2=9 3=5 | 1 "),
+        Step(Call::Take(0, Some(6)), "| 2=9 3=5 | 1 0 "),
+        Step(Call::Take(0, None), "| 2=9 3=5 | 1 0 "),
+    ];
+    plays(&rt, rt.alloc(), 4, &steps)
+}
+
+#[test]
+fn whole_segments(rt: HostRuntime) -> Result<(), Fail> {
+    let steps = [
+        Step(Call::PutAll(0, &[1, 2, 3, 4]), "0=1 1=2 2=3 3=4 | | 4 5 "),
+        Step(Call::TakeInto(0, &[1, 2]), "2=3 3=4 | | 4 5 0 1 "),
+        Step(Call::PutAll(1, &[5, 6, 7]), "2=3 3=4 | 4=5 5=6 0=7 | 1 "),
+        Step(Call::TakeInto(0, &[3, 4]), "| 4=5 5=6 0=7 | 1 2 3 "),
+        Step(Call::Put(0, 8, Ok(())), "1=8 | 4=5 5=6 0=7 | 2 3 "),
+        Step(Call::PutAll(1, &[9, 10]), "1=8 | 4=5 5=6 0=7 2=9 3=10 | "),
+        Step(
+            Call::Put(0, 11, Err(NoCell)),
+            "1=8 | 4=5 5=6 0=7 2=9 3=10 | ",
+        ),
+        Step(Call::PutAll(1, &[]), "1=8 | 4=5 5=6 0=7 2=9 3=10 | "),
+    ];
+    plays(&rt, rt.alloc(), 6, &steps)
+}
+
+#[test]
+fn no_cells_and_no_chains(rt: HostRuntime) -> Result<(), Fail> {
+    let pool = Pool::new(rt.alloc(), 0, 0)?;
+    assert_eq!(rt; pool.free_len(), 0);
+    assert_eq!(rt; pool.free_cells().count(), 0);
+    let mut two = Two::new(rt.alloc(), 0)?;
+    assert_eq!(rt; two.put(0, 1), Err(NoCell));
+    assert_eq!(rt; two.take(0), None);
+    Ok(())
+}
+
+// The next number of a fixed sequence.
+fn next(seed: u64) -> u64 {
+    (seed % 1_000_003 * 48_271 + 11) % 1_000_003
+}
+
+// One call on both pools, picked by the number: whether both answered alike.
+fn same_answer(
+    alloc: Global,
+    two: &mut Two,
+    plain: &mut Plain,
+    pick: u64,
+) -> Result<bool, AllocError> {
+    let chain = (pick / 8 % 2) as u32;
+    let n = (pick / 16 % 4) as usize;
+    let token = (pick % 1000) as i32;
+    match pick % 8 {
+        0..=2 => Ok(two.put(chain, token).is_ok() == plain.put(chain, token)?),
+        3 | 4 => Ok(two.take(chain) == plain.take(chain)?),
+        5 | 6 => {
+            let tokens = [token, token + 1, token + 2];
+            let put = two.put_all(chain, &tokens[..n.min(3)]);
+            Ok(put == plain.put_all(chain, &tokens[..n.min(3)])?)
+        }
+        _ => {
+            let taken = two.take_some(alloc, chain, n)?;
+            Ok(taken.as_slice() == plain.take_some(alloc, chain, n)?.as_slice())
+        }
+    }
+}
+
+#[test]
+fn beside_the_plain_pool(rt: HostRuntime) -> Result<(), Fail> {
+    let mut two = Two::new(rt.alloc(), 11)?;
+    let mut plain = Plain::new(rt.alloc(), 11)?;
+    let mut pick = 5;
+    for _ in 0..2000 {
+        pick = next(pick);
+        assert!(rt; same_answer(rt.alloc(), &mut two, &mut plain, pick)?);
+        assert_eq!(rt;
+            two.shown(rt.alloc())?.as_str(),
+            plain.shown(rt.alloc())?.as_str()
+        );
+    }
+    Ok(())
+}
