@@ -112,7 +112,6 @@ impl Graph {
         let channels = self.channels.clone()?;
         let actor_names = self.actor_names.clone()?;
         let channel_names = self.channel_names.clone()?;
-        let cells = self.cells;
         Ok(Graph::new(actors, channels, self.cells, actor_names, channel_names))
     }
 }

@@ -1,0 +1,27 @@
+-- The definitions at worked examples.
+use Rattle.std.proofs.Common.{◌≡◌, [], ◌∷◌, pos, negsuc, refl}
+use Rattle.csdf_graph.specs.declared.graph.Kernel.TheVariants.{Copy, Sum, Fir}
+use Rattle.csdf_kernel.specs.Value.{places, clamp, floor, copy_token, convolution, filter_token, value_of}
+
+sum_at_the_top : value_of Sum (2 ∷ []) (pos 2147483647 ∷ pos 1 ∷ []) ≡ pos 2147483647 ∷ pos 2147483647 ∷ []
+unfolding value_of clamp
+sum_at_the_top = refl
+
+-- -2147483648, -1
+sum_at_the_bottom : value_of Sum (2 ∷ []) (negsuc 2147483647 ∷ negsuc 0 ∷ []) ≡ negsuc 2147483647 ∷ negsuc 2147483647 ∷ []
+unfolding value_of clamp
+sum_at_the_bottom = refl
+
+-- 4, 8, 12, -7 give 8, 6, -1
+filtered : value_of (Fir (pos 1 ∷ pos 2 ∷ pos 1 ∷ []) 3 2) (3 ∷ []) (pos 4 ∷ pos 8 ∷ pos 12 ∷ negsuc 6 ∷ []) ≡ pos 8 ∷ pos 6 ∷ negsuc 0 ∷ []
+unfolding value_of filter_token convolution places clamp floor
+filtered = refl
+
+copied : value_of Copy (2 ∷ 4 ∷ []) (pos 1 ∷ pos 2 ∷ pos 3 ∷ []) ≡ pos 1 ∷ pos 2 ∷ pos 1 ∷ pos 2 ∷ pos 3 ∷ pos 1 ∷ []
+unfolding value_of copy_token places
+copied = refl
+
+-- a weight below zero is told as any other
+filtered_below : value_of (Fir (negsuc 0 ∷ pos 2 ∷ []) 2 1) (2 ∷ []) (pos 5 ∷ pos 1 ∷ []) ≡ negsuc 1 ∷ negsuc 0 ∷ []
+unfolding value_of filter_token convolution places clamp floor
+filtered_below = refl

@@ -1,0 +1,4 @@
+pub mod PlaceLemmas
+pub mod NumberLemmas
+pub mod ValueLemmas
+pub mod Examples

@@ -1,0 +1,68 @@
+//! The arithmetic of kernels, in 128 bits.
+ghost use Rattle.std.specs.Prelude.{◌≡◌, ◌*◌, ◌^◌, ◌≤◌, length, pos, ◌+ℤ◌, ◌*ℤ◌, ◌≤ℤ◌, ◌<ℤ◌, unsigned_abs};
+ghost use Rattle.csdf_kernel.specs.Value.{token_at, total, clamp, floor, convolution};
+
+/// Token `place` of the inputs, or 0 past their end.
+pub(crate) fn token(inputs: &[i32], place: usize) -> i32
+    ensures { result ≡ token_at inputs.now place }
+{
+    match inputs.get(place) {
+        Some(token) => *token,
+        None => 0,
+    }
+}
+
+/// The nearest number in the range of `i32`.
+#[tactic(auto, using(crate::proofs::NumberLemmas::clamp_is))]
+pub(crate) fn clamped(value: i128) -> i32
+    ensures { result ≡ clamp value }
+{
+    value.clamp(i32::MIN as i128, i32::MAX as i128) as i32
+}
+
+/// The sum of the tokens.
+pub(crate) fn sum_of(inputs: &[i32]) -> i128
+    requires { length inputs.now ≤ 8192 }
+    ensures { result ≡ total inputs.now }
+{
+    let mut sum = 0;
+    for token in inputs {
+        sum += i128::from(*token);
+    }
+    sum
+}
+
+/// The product of two numbers.
+fn product(a: i32, b: i32) -> i128
+    ensures value { result ≡ a *ℤ b }
+    ensures bound { unsigned_abs result ≤ 2 ^ 62 }
+{
+    i128::from(a) * i128::from(b)
+}
+
+/// The sum of the products of the first `taps` weights with the tokens from `place` on.
+pub(crate) fn products_at(weights: &[i32], taps: usize, inputs: &[i32], place: usize) -> i128
+    requires taps { taps ≤ 16 }
+    requires place { place ≤ 8192 }
+    ensures value { result ≡ convolution weights.now taps inputs.now place }
+    ensures bound { unsigned_abs result ≤ taps * 2 ^ 62 }
+{
+    let mut sum = 0;
+    for tap in 0..taps {
+        sum += product(token(weights, tap), token(inputs, place + tap));
+    }
+    sum
+}
+
+/// A number divided by two to the power of `shift`, rounded down.
+#[tactic(auto, using(crate::proofs::NumberLemmas::shr_is))]
+pub(crate) fn shifted(value: i128, shift: u32) -> i128
+    requires { shift ≤ 31 }
+    ensures value { result ≡ floor value (2 ^ shift) }
+
+    // Times that power it is at most the value, and one more would be too great.
+    ensures below { (result *ℤ pos (2 ^ shift)) ≤ℤ value }
+    ensures above { value <ℤ ((result +ℤ pos 1) *ℤ pos (2 ^ shift)) }
+{
+    value >> shift
+}

@@ -1,0 +1,104 @@
+//! The worked examples, and a job at its limits.
+use crate::{Counts, Inputs, Job, eval};
+use csdf_graph::Kernel;
+use std::alloc::Global;
+use std::process::Abort;
+use std::test::Fail;
+
+/// Evaluates a job, whose outputs have to be these.
+fn gives(
+    rt: &impl Abort,
+    alloc: Global,
+    kernel: Kernel,
+    counts: &[u32],
+    inputs: &[i32],
+    wanted: &[i32],
+) -> Result<(), Fail> {
+    assert!(rt; counts.len() <= 128);
+    assert!(rt; counts.iter().all(|count| *count <= 64));
+    assert!(rt; inputs.len() <= 8192);
+    if let Kernel::Fir { taps, shift, .. } = kernel {
+        assert!(rt; taps <= 16);
+        assert!(rt; shift <= 31);
+    }
+    let job = Job {
+        kernel,
+        actor: 3,
+        firing: 5,
+        counts: Counts::from_slice(alloc, counts)?,
+        inputs: Inputs::from_slice(alloc, inputs)?,
+    };
+    match eval(alloc, job) {
+        Ok(done) => {
+            assert_eq!(rt; done.outputs(), wanted);
+            assert_eq!(rt; done.job().actor, 3);
+            assert_eq!(rt; done.job().firing, 5);
+            assert_eq!(rt; done.job().inputs.as_slice(), inputs);
+            Ok(())
+        }
+        Err((_job, error)) => Err(error.into()),
+    }
+}
+
+#[test]
+fn sums(rt: HostRuntime) -> Result<(), Fail> {
+    let (alloc, kernel) = (rt.alloc(), Kernel::Sum);
+    let (low, high) = (-2147483648, 2147483647);
+    gives(&rt, alloc, kernel, &[2], &[high, 1], &[high, high])?;
+    gives(&rt, alloc, kernel, &[2], &[low, -1], &[low, low])?;
+    gives(&rt, alloc, kernel, &[2], &[], &[0, 0])
+}
+
+#[test]
+fn filters(rt: HostRuntime) -> Result<(), Fail> {
+    let mut weights = [0; 16];
+    weights[0] = 1;
+    weights[1] = 2;
+    weights[2] = 1;
+    let kernel = Kernel::Fir {
+        weights,
+        taps: 3,
+        shift: 2,
+    };
+    gives(&rt, rt.alloc(), kernel, &[3], &[4, 8, 12, -7], &[8, 6, -1])
+}
+
+#[test]
+fn copies(rt: HostRuntime) -> Result<(), Fail> {
+    let (alloc, kernel) = (rt.alloc(), Kernel::Copy);
+    gives(&rt, alloc, kernel, &[2, 4], &[1, 2, 3], &[1, 2, 1, 2, 3, 1])?;
+    gives(&rt, alloc, kernel, &[2, 4], &[], &[0, 0, 0, 0, 0, 0])
+}
+
+#[test]
+fn feeds(rt: HostRuntime) -> Result<(), Fail> {
+    let alloc = rt.alloc();
+    gives(
+        &rt,
+        alloc,
+        Kernel::Source,
+        &[1, 3],
+        &[7, 8, 9],
+        &[7, 8, 9, 0],
+    )?;
+    gives(&rt, alloc, Kernel::Sink, &[2], &[7, 8, 9], &[0, 0])
+}
+
+/// As many and as great counts, inputs, weights, taps and shift as there may be. With k inputs left, at
+/// most 16 of them in reach, a sum of products is k * 2^62, and k * 2^31 once it is shifted: it clamps.
+#[test]
+fn meets_the_limits(rt: HostRuntime) -> Result<(), Fail> {
+    let alloc = rt.alloc();
+    let low = i32::MIN;
+    let inputs = vec![in alloc; low; 8192]?;
+    let counts = vec![in alloc; 64u32; 128]?;
+    let wanted = vec![in alloc; i32::MAX; 8192]?;
+    let kernel = Kernel::Fir {
+        weights: [low; 16],
+        taps: 16,
+        shift: 31,
+    };
+    gives(&rt, alloc, kernel, &counts, &inputs, &wanted)?;
+    let lowest = vec![in alloc; low; 8192]?;
+    gives(&rt, alloc, Kernel::Sum, &counts, &inputs, &lowest)
+}
