@@ -1,0 +1,5 @@
+pub mod DivisorLemmas
+pub mod MemberLemmas
+pub mod JoinLemmas
+pub mod LeastLemmas
+pub mod BoundLemmas

@@ -1,0 +1,3 @@
+pub mod Divisor
+pub mod Members
+pub mod Repetition

@@ -1,0 +1,125 @@
+use super::*;
+use csdf_graph::{Graph, read_graph};
+use std::test::Fail;
+
+/// A source that gives 2, a stage that takes 3 and gives 1, and a sink that takes 2.
+const CHAIN: &str = r#"actor = [
+  { name = "a", kernel = "source" },
+  { name = "b", kernel = "copy" },
+  { name = "c", kernel = "sink" },
+]
+channel = [
+  { name = "x", from = "a", to = "b", produce = [2], consume = [3] },
+  { name = "y", from = "b", to = "c", produce = [1], consume = [2] },
+]
+"#;
+
+const TWO_PHASES: &str = r#"actor = [
+  { name = "a", kernel = "source", phases = 2 },
+  { name = "b", kernel = "sink", phases = 2 },
+]
+channel = [{ name = "x", from = "a", to = "b", produce = [1, 1], consume = [1, 1] }]
+"#;
+
+const TWO_TOKENS: &str = r#"actor = [
+  { name = "a", kernel = "source" },
+  { name = "b", kernel = "sink" },
+]
+channel = [{ name = "x", from = "a", to = "b", produce = [2], consume = [2] }]
+"#;
+
+const UNEVEN_PHASES: &str = r#"actor = [
+  { name = "a", kernel = "source", phases = 3 },
+  { name = "b", kernel = "sink", phases = 2 },
+]
+channel = [{ name = "x", from = "a", to = "b", produce = [1, 0, 2], consume = [0, 3] }]
+"#;
+
+/// From compact disc to digital tape: 147 samples in, 160 out.
+const CONVERTER: &str = r#"actor = [
+  { name = "a", kernel = "source" },
+  { name = "b", kernel = "copy" },
+  { name = "c", kernel = "copy" },
+  { name = "d", kernel = "copy" },
+  { name = "e", kernel = "copy" },
+  { name = "f", kernel = "sink" },
+]
+channel = [
+  { name = "ab", from = "a", to = "b", produce = [1], consume = [1] },
+  { name = "bc", from = "b", to = "c", produce = [2], consume = [3] },
+  { name = "cd", from = "c", to = "d", produce = [2], consume = [7] },
+  { name = "de", from = "d", to = "e", produce = [8], consume = [7] },
+  { name = "ef", from = "e", to = "f", produce = [5], consume = [1] },
+]
+"#;
+
+/// Two channels that ask for different vectors.
+const DISAGREEING: &str = r#"actor = [
+  { name = "a", kernel = "source" },
+  { name = "b", kernel = "sink" },
+]
+channel = [
+  { name = "x", from = "a", to = "b", produce = [1], consume = [1] },
+  { name = "y", from = "a", to = "b", produce = [2], consume = [1] },
+]
+"#;
+
+/// The first actor would fire 4,096 times.
+const STEEP: &str = r#"actor = [
+  { name = "a", kernel = "source" },
+  { name = "b", kernel = "copy" },
+  { name = "c", kernel = "sink" },
+]
+channel = [
+  { name = "x", from = "a", to = "b", produce = [1], consume = [64] },
+  { name = "y", from = "b", to = "c", produce = [1], consume = [64] },
+]
+"#;
+
+/// The vector is 67 1024, and the channel would hold 68,608 tokens.
+const WIDE: &str = r#"actor = [
+  { name = "a", kernel = "source", phases = 16 },
+  { name = "b", kernel = "sink", phases = 2 },
+]
+channel = [{ name = "x", from = "a", to = "b", produce = [64, 64, 64, 64, 64, 64, 64, 64, 64, 64, 64, 64, 64, 64, 64, 64], consume = [64, 3] }]
+"#;
+
+fn graph(rt: &HostRuntime, text: &str) -> Result<Graph, Fail> {
+    Ok(read_graph(rt.alloc(), text.as_bytes())?)
+}
+
+#[test]
+fn finds_the_least_vector(rt: HostRuntime) -> Result<(), Fail> {
+    let rows = [
+        (CHAIN, [3, 2, 1].as_slice(), [3, 2, 1].as_slice()),
+        (TWO_PHASES, [1, 1].as_slice(), [2, 2].as_slice()),
+        (TWO_TOKENS, [1, 1].as_slice(), [1, 1].as_slice()),
+        (UNEVEN_PHASES, [1, 1].as_slice(), [3, 2].as_slice()),
+        (
+            CONVERTER,
+            [147, 147, 98, 28, 32, 160].as_slice(),
+            [147, 147, 98, 28, 32, 160].as_slice(),
+        ),
+    ];
+    for (text, r, q) in rows {
+        let vector = repetition(rt.alloc(), &graph(&rt, text)?)?;
+        assert_eq!(rt; vector.r.as_slice(), r, "r of {text}");
+        assert_eq!(rt; vector.q.as_slice(), q, "q of {text}");
+    }
+    Ok(())
+}
+
+#[test]
+fn names_the_channel_that_is_refused(rt: HostRuntime) -> Result<(), Fail> {
+    for (text, want) in [
+        (DISAGREEING, AcceptFault::Unbalanced(1)),
+        (STEEP, AcceptFault::Unbalanced(1)),
+        (WIDE, AcceptFault::TooLarge(0)),
+    ] {
+        match repetition(rt.alloc(), &graph(&rt, text)?) {
+            Ok(vector) => assert!(rt; false, "{vector:?} of {text}"),
+            Err(fault) => assert_eq!(rt; fault, want, "of {text}"),
+        }
+    }
+    Ok(())
+}
