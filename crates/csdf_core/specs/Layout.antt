@@ -1,0 +1,48 @@
+-- What a core keeps of its setup, and what it plays by it.
+use Rattle.std.specs.Prelude.{◌≡◌, ℕ, ◌+◌, ◌≤◌, Bool, true, false, ℤ, List, Option, length, map, sum, unwrap_or, All}
+use Rattle.std.specs.List.{zip, range_with_len, AllByRecursion}
+use Rattle.csdf_graph.specs.declared.graph.Kernel.{Kernel}
+use Rattle.csdf_graph.specs.declared.graph.Kernel.TheVariants as kernel
+use Rattle.csdf_graph.specs.Graph as graph
+use Rattle.csdf_graph.specs.Graph.{Graph, inputs_of, outputs_of}
+use Rattle.csdf_graph.specs.WellFormed.{IsWellFormed}
+use Rattle.csdf_core.specs.declared.ports.Ports.{Ports}
+use Rattle.csdf_core.specs.Plan.{Channel, Plan}
+use Rattle.csdf_core.specs.Playable.{IsPlayable}
+
+abbrev pub is_source_kernel : Kernel → Bool
+is_source_kernel kernel.Source = true
+is_source_kernel kernel.Sink = false
+is_source_kernel kernel.Copy = false
+is_source_kernel kernel.Sum = false
+is_source_kernel (kernel.Fir weights taps shift) = false
+
+-- a channel of the graph with its capacity
+abbrev pub with_capacity : graph.Channel × ℕ → Channel
+with_capacity row = record {
+  from = row.0.from;
+  to = row.0.to;
+  produce = row.0.produce;
+  consume = row.0.consume;
+  initial = row.0.initial;
+  capacity = row.1;
+}
+
+abbrev pub plan_of : Graph → List ℕ → List ℕ → List ℕ → Option ℕ → ℕ → Plan
+plan_of g capacities limits supplies firings cells = record {
+  sources = map (λ (a : graph.Actor). is_source_kernel a.kernel) g.actors;
+  channels = map with_capacity (zip g.channels capacities);
+  limits = limits;
+  supplies = supplies;
+  firings = firings;
+  cells = cells;
+}
+
+-- the facts that a layout keeps
+pub record IsLaidOut (g : Graph) (capacities limits supplies : List ℕ) (firings : Option ℕ) (cells : ℕ) (ports : List Ports) : Type 0 where
+  pub well_formed : IsWellFormed g
+  pub roomy : length capacities ≡ length g.channels
+  pub supplied : length supplies ≡ length g.actors
+  pub inputs : map (λ (p : Ports). p.inputs.items) ports ≡ map (inputs_of g.channels) (range_with_len 0 (length g.actors))
+  pub outputs : map (λ (p : Ports). p.outputs.items) ports ≡ map (outputs_of g.channels) (range_with_len 0 (length g.actors))
+  pub playable : IsPlayable (plan_of g capacities limits supplies firings cells)

@@ -1,0 +1,12 @@
+pub mod Plan
+pub mod Moves
+pub mod State
+pub mod Rows
+pub mod Step
+pub mod Ready
+pub mod Shows
+pub mod Streams
+pub mod Ports
+pub mod Playable
+pub mod Layout
+pub mod Sound

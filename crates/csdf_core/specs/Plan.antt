@@ -1,0 +1,28 @@
+-- What a core plays: a graph whose channels have their capacities, the limits on firings, and the number of cells.
+use Rattle.std.specs.Prelude.{ℕ, Bool, ◌==◌, if◌then◌else◌, ℤ, List, Option}
+use Rattle.csdf_graph.specs.Rates.{rate}
+
+-- a channel with its capacity
+pub record Channel : Type 0 where
+  pub from : ℕ
+  pub to : ℕ
+  pub produce : List ℕ
+  pub consume : List ℕ
+  pub initial : List ℤ
+  pub capacity : ℕ
+
+-- per actor whether it is a source, its greatest number of firings and the tokens in its file; the greatest number of firings of all actors, where there is one; and the number of cells that all channels share
+pub record Plan : Type 0 where
+  pub sources : List Bool
+  pub channels : List Channel
+  pub limits : List ℕ
+  pub supplies : List ℕ
+  pub firings : Option ℕ
+  pub cells : ℕ
+
+-- how many tokens firing number k of actor a takes out of the channel, and how many it puts in
+abbrev pub takes_of : ℕ → ℕ → Channel → ℕ
+takes_of a k channel = if channel.to == a then rate channel.consume k else 0
+
+abbrev pub gives_of : ℕ → ℕ → Channel → ℕ
+gives_of a k channel = if channel.from == a then rate channel.produce k else 0
