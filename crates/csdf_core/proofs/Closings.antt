@@ -1,7 +1,6 @@
 -- Nothing is written to a channel after an accepted close.
-use Rattle.std.proofs.Common.{◌≡◌, ◌≢◌, ℕ, zero, suc, ◌<◌, ◌⊎◌, inl, inr, List, [], ◌∷◌, ◌++◌, length, get_or, set, take, drop, map, refl, ap, subst, ◌∙◌, sym, arith, Bool, true, false, cond, Option, Some, None}
-use Rattle.std.specs.Prelude.{ℤ, ◌==◌, Ok, Err}
-use Rattle.std.specs.List.{zip, AllByRecursion}
+use Rattle.std.proofs.Common.{◌≡◌, ℕ, zero, suc, inl, inr, List, [], ◌∷◌, ◌++◌, length, get_or, set, take, drop, refl, ap, subst, ◌∙◌, sym, arith, Bool, true, false, cond, Option, Some, None}
+use Rattle.std.specs.Prelude.{ℤ, ◌==◌}
 use Rattle.std.proofs.lemmas.Bool.Decides.{eqb_tells}
 use Rattle.csdf_graph.specs.Rates.{rate}
 use Rattle.csdf_core.specs.declared.setup.Stage.{Stage}
@@ -12,7 +11,7 @@ use Rattle.csdf_core.specs.Moves.{Begin, Read, Write, Finish, Close}
 use Rattle.csdf_core.specs.Plan.{Channel, Plan, gives_of}
 use Rattle.csdf_core.specs.Rows.{cut}
 use Rattle.csdf_core.specs.State.{State, present, opening}
-use Rattle.csdf_core.specs.Step.{count, is_open, refusal, answer, accepted, reply_to, reply_by, after, state_by, Reply, replies_of, state_after}
+use Rattle.csdf_core.specs.Step.{count, is_open, refusal, answer, accepted, reply_to, reply_by, after, state_by, replies_of}
 use Rattle.csdf_core.specs.Streams.{part, written_by, finishes_after, written_from, written_to, IsCloseOf, IsClosedIn}
 use Rattle.csdf_core.proofs.Kept.{writes}
 use Rattle.csdf_core.proofs.ClosedLemmas.{AreStill}

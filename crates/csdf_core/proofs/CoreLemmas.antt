@@ -1,15 +1,14 @@
 -- What a core's own counts say of the model's.
-use Rattle.std.proofs.Common.{◌≡◌, ℕ, zero, suc, ◌+◌, ◌-◌, ◌*◌, ◌<◌, ◌≤◌, ◌==◌, List, [], ◌∷◌, length, get_or, map, refl, ap, subst, ◌∙◌, sym, arith, Bool, true, false, cond}
-use Rattle.std.specs.Prelude.{ℤ, sum_by, slice_index}
+use Rattle.std.proofs.Common.{◌≡◌, ℕ, zero, suc, ◌<◌, ◌≤◌, List, [], ◌∷◌, length, map, refl, ap, arith, cond}
+use Rattle.std.specs.Prelude.{sum_by, slice_index}
 use Rattle.std.specs.List.{AllByRecursion}
 use Rattle.std.proofs.lemmas.Bool.{ne_eqb}
 use Rattle.std.proofs.lemmas.List.{length-map}
 use Rattle.std.proofs.lemmas.List.Sums.{sum_by-cons}
-use Rattle.csdf_graph.specs.Rates.{rate, total}
+use Rattle.csdf_graph.specs.Rates.{rate}
 use Rattle.csdf_pool.specs.Pool.{Held, held_tokens}
-use Rattle.csdf_core.specs.Plan.{Channel, Plan, takes_of, gives_of}
+use Rattle.csdf_core.specs.Plan.{Channel, takes_of, gives_of}
 use Rattle.csdf_core.specs.Rows.{need, gift}
-use Rattle.csdf_core.specs.Step.{given}
 
 abbrev pub HaveEnds : ℕ → List Channel → Type 0
 HaveEnds n cs = AllByRecursion (λ (c : Channel). (c.from < n) × (c.to < n)) cs

@@ -10,9 +10,9 @@ use Rattle.csdf_core.specs.declared.setup.Refusal.{Refusal}
 use Rattle.csdf_core.specs.Moves.{Move}
 use Rattle.csdf_core.specs.Moves.{Begin, Read, Write, Finish, Close}
 use Rattle.csdf_core.specs.Plan.{Channel, Plan}
-use Rattle.csdf_core.specs.Rows.{Row, left, joined, shares, gift}
-use Rattle.csdf_core.specs.State.{State, Present, present, IsLawful, opening, waiting}
-use Rattle.csdf_core.specs.Step.{count, stage, refusal, first_of, write_table, accepted, after, state_by, state_after}
+use Rattle.csdf_core.specs.Rows.{Row, left, joined, shares}
+use Rattle.csdf_core.specs.State.{State, Present, present, IsLawful, waiting}
+use Rattle.csdf_core.specs.Step.{count, refusal, first_of, write_table, accepted, after, state_by, state_after}
 use Rattle.csdf_core.specs.Ready.{IsReady, AreBelow, IsFit}
 use Rattle.csdf_core.specs.Streams.{AreWithin}
 use Rattle.csdf_core.proofs.Kept.{begins, reads, writes, finishes, closes}

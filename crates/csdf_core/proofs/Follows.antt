@@ -1,12 +1,10 @@
 -- A core's call follows the step.
 use Rattle.std.proofs.Common.{◌≡◌, ℕ, ◌≤◌, max, List, [], ◌∷◌, length, map, refl, ap, subst, ◌∙◌, sym, arith, Option, Some, None}
 use Rattle.std.specs.Prelude.{ℤ, Ok, Err}
-use Rattle.std.specs.List.{zip, AllByRecursion}
 use Rattle.csdf_pool.specs.Pool.{held_tokens, IsPartition}
 use Rattle.csdf_core.specs.Moves.{Move}
 use Rattle.csdf_core.specs.declared.setup.Refusal.{Refusal}
-use Rattle.csdf_core.specs.Plan.{Plan}
-use Rattle.csdf_core.specs.State.{State, Present, present}
+use Rattle.csdf_core.specs.State.{present}
 use Rattle.csdf_core.specs.Step.{refusal, answer, accepted, reply_by, state_by}
 use Rattle.csdf_core.specs.Shows.{View, Shows, Follows, raised, ArePeaks}
 use Rattle.csdf_core.specs.Ready.{IsFit}

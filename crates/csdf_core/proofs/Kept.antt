@@ -10,7 +10,7 @@ use Rattle.csdf_core.specs.declared.setup.Stage.{Stage}
 use Rattle.csdf_core.specs.declared.setup.Stage.TheVariants.{Idle, Begun, Fetched, Written}
 use Rattle.csdf_core.specs.Moves.{Begin, Read, Finish, Close}
 use Rattle.csdf_core.specs.declared.setup.Refusal.{Refusal}
-use Rattle.csdf_core.specs.declared.setup.Refusal.TheVariants.{Unknown, Busy, Spent, Closed, Dry, Short, Full, Stopped, NoCells, NotBegun, NotRead, NotWritten, WrongCount}
+use Rattle.csdf_core.specs.declared.setup.Refusal.TheVariants.{Unknown, Busy, Spent, Closed, Short, Full, NoCells, NotBegun, NotRead, NotWritten, WrongCount}
 use Rattle.csdf_core.specs.Plan.{Channel}
 use Rattle.csdf_core.specs.Rows.{Row, is_closed, is_short, is_full, gift}
 use Rattle.csdf_core.specs.State.{Present}

@@ -1,9 +1,8 @@
 -- What the firing code moves is what the step says.
-use Rattle.std.proofs.Common.{◌≡◌, ℕ, ◌+◌, ◌-◌, ◌<◌, ◌≤◌, ◌==◌, List, [], ◌∷◌, ◌++◌, length, take, drop, map, refl, ap, subst, ◌∙◌, sym, arith, append-nil, None, false, cond}
+use Rattle.std.proofs.Common.{◌≡◌, ℕ, ◌+◌, ◌-◌, ◌<◌, ◌≤◌, ◌==◌, List, [], ◌∷◌, ◌++◌, length, take, drop, refl, ap, subst, ◌∙◌, sym, arith, append-nil, None, false, cond}
 use Rattle.std.specs.Prelude.{ℤ}
 use Rattle.std.specs.List.{zip, AllByRecursion}
 use Rattle.csdf_graph.specs.Rates.{rate}
-use Rattle.csdf_core.specs.declared.setup.Stage.TheVariants.{Begun, Fetched}
 use Rattle.csdf_core.specs.Moves.{Read}
 use Rattle.csdf_core.specs.Plan.{Channel, Plan, gives_of}
 use Rattle.csdf_core.specs.Rows.{taken, left, joined, shares, need, gift, AreThere}

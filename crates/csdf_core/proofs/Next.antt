@@ -1,11 +1,11 @@
 -- What is present after each accepted move.
-use Rattle.std.proofs.Common.{◌≡◌, ℕ, suc, List, length, set, map, refl, subst, sym, ap, ◌∙◌, None, false}
+use Rattle.std.proofs.Common.{◌≡◌, ℕ, suc, List, set, map, refl, None, false}
 use Rattle.std.specs.Prelude.{ℤ}
 use Rattle.csdf_core.specs.declared.setup.Stage.TheVariants.{Idle, Begun, Fetched, Written}
 use Rattle.csdf_core.specs.Moves.{Move}
 use Rattle.csdf_core.specs.Moves.{Begin, Read, Write, Finish, Close}
 use Rattle.csdf_core.specs.Plan.{Plan}
-use Rattle.csdf_core.specs.Rows.{left, joined, shares, AreThere}
+use Rattle.csdf_core.specs.Rows.{left, joined, shares}
 use Rattle.csdf_core.specs.State.{State, Present, present, waiting, IsLawful}
 use Rattle.csdf_core.specs.Step.{count, refusal, accepted}
 use Rattle.csdf_core.specs.Ready.{IsFit}

@@ -1,10 +1,9 @@
 -- The peak of a channel is its greatest length after any prefix of the moves.
-use Rattle.std.proofs.Common.{◌≡◌, ℕ, zero, suc, ◌<◌, ◌≤◌, max, List, [], ◌∷◌, length, get_or, map, refl, ap, ◌∙◌, sym, arith}
+use Rattle.std.proofs.Common.{◌≡◌, ℕ, zero, suc, ◌≤◌, max, List, [], ◌∷◌, length, get_or, map, refl, ap, ◌∙◌, sym, arith}
 use Rattle.std.specs.Prelude.{ℤ}
-use Rattle.std.specs.List.{zip}
 use Rattle.csdf_core.specs.Moves.{Move}
 use Rattle.csdf_core.specs.Plan.{Channel, Plan}
-use Rattle.csdf_core.specs.State.{State, present, opening, waiting}
+use Rattle.csdf_core.specs.State.{State, present, opening}
 use Rattle.csdf_core.specs.Step.{after}
 use Rattle.csdf_core.specs.Shows.{raised, raised_over}
 use Rattle.csdf_core.specs.Streams.{part, length_of, peak_of}

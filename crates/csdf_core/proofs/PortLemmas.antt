@@ -10,8 +10,8 @@ use Rattle.std.proofs.lemmas.Bool.{cases_Bool, le-ltb, eq-eqb, ne_eqb}
 use Rattle.csdf_pool.specs.Pool.{Held, held_tokens}
 use Rattle.csdf_graph.specs.Graph.{numbers_from}
 use Rattle.csdf_graph.specs.Rates.{rate}
-use Rattle.csdf_core.specs.Plan.{Channel, takes_of, gives_of}
-use Rattle.csdf_core.specs.Rows.{Row, is_closed, is_short, is_full, first, taken, left, AreThere, cut, shares, joined, need, gift}
+use Rattle.csdf_core.specs.Plan.{Channel, takes_of}
+use Rattle.csdf_core.specs.Rows.{Row, is_closed, is_short, is_full, first, cut, joined, need, gift}
 use Rattle.csdf_core.specs.Shows.{raised}
 use Rattle.csdf_core.specs.Ports.{inputs_at, outputs_at, take_at, give_at, tokens_at, takes_over, taken_over, EnoughOver, puts_over, raise_over, closed_at, short_at, own_take_at, full_at}
 

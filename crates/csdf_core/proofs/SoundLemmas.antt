@@ -1,7 +1,6 @@
 -- A core stays sound at each accepted move.
-use Rattle.std.proofs.Common.{◌≡◌, ◌≢◌, ℕ, zero, suc, ◌+◌, ◌-◌, ◌*◌, ◌<◌, ◌≤◌, List, [], ◌∷◌, ◌++◌, inl, inr, length, get_or, set, take, drop, map, refl, ap, subst, ◌∙◌, sym, arith, None, false, cond}
+use Rattle.std.proofs.Common.{◌≡◌, ℕ, zero, suc, ◌+◌, ◌-◌, ◌*◌, ◌<◌, ◌≤◌, List, [], ◌∷◌, inl, inr, length, get_or, set, drop, ap, subst, ◌∙◌, sym, arith, None, cond}
 use Rattle.std.specs.Prelude.{ℤ, slice_index, sum, sum_by, count_by, not, All}
-use Rattle.std.specs.List.{zip, AllByRecursion}
 use Rattle.std.proofs.lemmas.List.{get_or-set_other, get_or-set_same, get_or_default, length-set, length-drop}
 use Rattle.std.proofs.lemmas.List.Sums.{sum_by-cons, sum_by-le}
 use Rattle.std.proofs.lemmas.Bool.Decides.{eqb_tells}
@@ -10,10 +9,9 @@ use Rattle.csdf_core.specs.declared.setup.Stage.{Stage}
 use Rattle.csdf_core.specs.declared.setup.Stage.TheVariants.{Idle, Begun, Fetched, Written}
 use Rattle.csdf_core.specs.Moves.{Begin, Read, Finish, Close}
 use Rattle.csdf_core.specs.Plan.{Channel, Plan, takes_of}
-use Rattle.csdf_core.specs.Playable.{IsPlayable}
 use Rattle.csdf_core.specs.Rows.{left, need, gift}
 use Rattle.csdf_core.specs.State.{Present}
-use Rattle.csdf_core.specs.Step.{count, stage, is_stage, given, begun_count, reserved, refusal, first_of, write_table}
+use Rattle.csdf_core.specs.Step.{count, stage, is_stage, given, refusal, first_of, write_table}
 use Rattle.csdf_core.specs.Shows.{ArePeaks, raised}
 use Rattle.csdf_core.specs.Sound.{IsSound}
 use Rattle.csdf_core.proofs.Kept.{begins, reads, writes, finishes}

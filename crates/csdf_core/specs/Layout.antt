@@ -1,6 +1,6 @@
 -- What a core keeps of its setup, and what it plays by it.
-use Rattle.std.specs.Prelude.{◌≡◌, ℕ, ◌+◌, ◌≤◌, Bool, true, false, ℤ, List, Option, length, map, sum, unwrap_or, All}
-use Rattle.std.specs.List.{zip, range_with_len, AllByRecursion}
+use Rattle.std.specs.Prelude.{◌≡◌, ℕ, Bool, true, false, List, Option, length, map}
+use Rattle.std.specs.List.{zip, range_with_len}
 use Rattle.csdf_graph.specs.declared.graph.Kernel.{Kernel}
 use Rattle.csdf_graph.specs.declared.graph.Kernel.TheVariants as kernel
 use Rattle.csdf_graph.specs.Graph as graph

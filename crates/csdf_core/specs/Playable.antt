@@ -1,5 +1,5 @@
 -- What every plan keeps.
-use Rattle.std.specs.Prelude.{◌≡◌, ℕ, ◌<◌, ◌≤◌, length, sum_by, List, All}
+use Rattle.std.specs.Prelude.{◌≡◌, ◌<◌, ◌≤◌, length, sum_by, All}
 use Rattle.std.specs.List.{AllByRecursion}
 use Rattle.csdf_core.specs.Plan.{Channel, Plan}
 

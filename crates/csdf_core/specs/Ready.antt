@@ -1,5 +1,5 @@
 -- What every state that is reached has: the channels are ready for what the actors are about to do.
-use Rattle.std.specs.Prelude.{ℕ, ◌+◌, ◌-◌, ◌<◌, ◌≤◌, ◌≡◌, ◌≢◌, Bool, true, false, List, ℤ, length, slice_index, slice_index_or}
+use Rattle.std.specs.Prelude.{ℕ, ◌+◌, ◌-◌, ◌<◌, ◌≤◌, ◌≡◌, ◌≢◌, Bool, false, List, ℤ, length, slice_index, slice_index_or}
 use Rattle.std.specs.List.{zip, AllByRecursion}
 use Rattle.csdf_core.specs.declared.setup.Stage.{Stage}
 use Rattle.csdf_core.specs.declared.setup.Stage.TheVariants.{Idle, Begun, Fetched}

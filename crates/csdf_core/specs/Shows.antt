@@ -1,7 +1,7 @@
 -- What a core shows of a plain state, and how its calls follow the step.
 use Rattle.std.specs.Prelude.{ℕ, ◌≡◌, ◌≤◌, max, List, [], ◌∷◌, ℤ, Result, Ok, Err, length, map, take}
 use Rattle.std.specs.List.{zip, AllByRecursion}
-use Rattle.csdf_pool.specs.Pool.{Held, Shared, held_tokens, IsPartition}
+use Rattle.csdf_pool.specs.Pool.{Shared, held_tokens, IsPartition}
 use Rattle.csdf_core.specs.Moves.{Move}
 use Rattle.csdf_core.specs.declared.setup.Refusal.{Refusal}
 use Rattle.csdf_core.specs.Plan.{Plan}

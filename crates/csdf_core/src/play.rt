@@ -53,11 +53,7 @@ fn play_one(core: &mut Core, alloc: Global, next: &Move) -> Result<Reply, AllocE
 /// Makes the moves in order, and answers their replies.
 ///
 /// An error says that memory ran out; then some of the moves were made, from the first on.
-pub fn play_on(
-    core: &mut Core,
-    alloc: Global,
-    moves: &[Move],
-) -> Result<Vec<Reply>, AllocError>
+pub fn play_on(core: &mut Core, alloc: Global, moves: &[Move]) -> Result<Vec<Reply>, AllocError>
     ensures played { IfOk result (λ replies. Plays core.old core.new (map move_of moves.now) (map (told (λ tokens. tokens.items)) replies.items)) }
     ensures some { OnErr result (PlayedSome core.old core.new (map move_of moves.now)) }
 {

@@ -1,4 +1,4 @@
-use Rattle.std.proofs.Common.{◌≡◌, true, sym, ap, ◌∙◌}
+use Rattle.std.proofs.Common.{ap, ◌∙◌}
 use Rattle.std.specs.Prelude.{find, not}
 use Rattle.csdf_core.specs.Ports.{closed_at}
 use Rattle.csdf_core.proofs.PortLemmas.{find_here, find_none, first_closed}

@@ -1,9 +1,9 @@
-use Rattle.std.proofs.Common.{◌≡◌, length, sym, ap, ◌∙◌, arith}
+use Rattle.std.proofs.Common.{◌≡◌, length, sym, ap, ◌∙◌}
 use Rattle.std.specs.Prelude.{find}
 use Rattle.std.proofs.lemmas.List.{length-map}
 use Rattle.csdf_pool.specs.Pool.{held_tokens}
-use Rattle.csdf_core.specs.Ports.{short_at, full_at, tokens_in}
-use Rattle.csdf_core.proofs.PortLemmas.{find_here, find_none, first_short, first_full}
+use Rattle.csdf_core.specs.Ports.{short_at, tokens_in}
+use Rattle.csdf_core.proofs.PortLemmas.{find_here, find_none, first_short}
 use Rattle.csdf_core.proofs.lanes.first_short.Goals as goal
 
 pub returns-then-is_short : goal.returns-then-is_short

@@ -1,6 +1,6 @@
 use Rattle.std.proofs.Common.{◌≡◌, drop}
 use Rattle.std.specs.Prelude.{find}
-use Rattle.csdf_core.specs.Ports.{closed_at, short_at, full_at, tokens_in}
+use Rattle.csdf_core.specs.Ports.{short_at, tokens_in}
 use Rattle.csdf_core.proofs.lanes.first_short.Given as goal
 
 abbrev pub invariant-loop-channel : goal.invariant-loop-channel

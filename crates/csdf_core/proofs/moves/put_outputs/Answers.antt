@@ -1,4 +1,4 @@
-use Rattle.std.proofs.Common.{ap, sym, ◌∙◌, refl, arith, ◌≡◌, length}
+use Rattle.std.proofs.Common.{ap, ◌∙◌, refl, arith, ◌≡◌, length}
 use Rattle.std.specs.Prelude.{sum_by}
 use Rattle.csdf_core.specs.Ports.{give_at}
 use Rattle.csdf_core.proofs.PortLemmas.{gift_is}

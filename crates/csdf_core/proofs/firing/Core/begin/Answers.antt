@@ -1,10 +1,9 @@
 use Rattle.std.proofs.Common.{◌≡◌, ◌+◌, ◌-◌, get_or, None, sym, ◌∙◌, ap, refl, arith}
-use Rattle.csdf_core.specs.declared.setup.Refusal.{Refusal}
 use Rattle.csdf_core.specs.State.{Present}
 use Rattle.csdf_core.specs.Ports.{tokens_in}
 use Rattle.csdf_core.specs.Moves.{Begin}
 use Rattle.csdf_core.specs.Rows.{need, gift}
-use Rattle.csdf_core.specs.Step.{refusal, reserved}
+use Rattle.csdf_core.specs.Step.{refusal}
 use Rattle.csdf_core.proofs.Follows.{follows_refused, follows_accepted}
 use Rattle.csdf_core.proofs.SoundLemmas.{sound_begun, few_started}
 use Rattle.csdf_core.proofs.Peaceful.{peaks_stay}

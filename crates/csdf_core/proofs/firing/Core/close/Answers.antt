@@ -1,5 +1,4 @@
 use Rattle.std.proofs.Common.{◌≡◌, None, sym, ◌∙◌, refl}
-use Rattle.csdf_core.specs.declared.setup.Refusal.{Refusal}
 use Rattle.csdf_core.specs.State.{Present}
 use Rattle.csdf_core.specs.Ports.{tokens_in}
 use Rattle.csdf_core.specs.Moves.{Close}

@@ -2,8 +2,7 @@ use Rattle.std.specs.Prelude.{slice_index}
 use Rattle.csdf_core.specs.declared.setup.Stage.TheVariants.{Idle}
 use Rattle.csdf_core.specs.Sound.{IsSound}
 use Rattle.csdf_core.proofs.Next.{finished}
-use Rattle.std.proofs.Common.{◌≡◌, ◌≤◌, ◌<◌, ◌+◌, length, suc, get_or, set, None, sym, ◌∙◌, ap, subst, refl, arith}
-use Rattle.csdf_core.specs.declared.setup.Refusal.{Refusal}
+use Rattle.std.proofs.Common.{◌≡◌, ◌≤◌, ◌<◌, ◌+◌, length, suc, set, None, sym, ◌∙◌, ap, subst, refl, arith}
 use Rattle.csdf_core.specs.State.{Present}
 use Rattle.csdf_core.specs.Ports.{tokens_in}
 use Rattle.csdf_core.specs.Moves.{Finish}

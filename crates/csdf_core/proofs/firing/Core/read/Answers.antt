@@ -1,6 +1,4 @@
-use Rattle.std.specs.Prelude.{ℤ}
-use Rattle.std.proofs.Common.{◌≡◌, ◌≤◌, ◌<◌, ◌+◌, ◌-◌, List, length, set, None, sym, ◌∙◌, ap, subst, refl, arith}
-use Rattle.csdf_core.specs.declared.setup.Refusal.{Refusal}
+use Rattle.std.proofs.Common.{◌≡◌, ◌≤◌, ◌+◌, ◌-◌, set, None, sym, ◌∙◌, ap, subst, refl, arith}
 use Rattle.csdf_core.specs.declared.setup.Stage.TheVariants.{Fetched}
 use Rattle.csdf_core.specs.State.{Present}
 use Rattle.csdf_core.specs.Ports.{tokens_in}

@@ -1,8 +1,6 @@
-use Rattle.std.specs.Prelude.{ℤ}
 use Rattle.std.specs.Vec.{with_items}
 use Rattle.std.proofs.lemmas.List.{with_items_is}
-use Rattle.std.proofs.Common.{◌≡◌, ◌≤◌, ◌<◌, ◌+◌, ◌-◌, List, length, set, None, sym, ◌∙◌, ap, subst, refl, arith}
-use Rattle.csdf_core.specs.declared.setup.Refusal.{Refusal}
+use Rattle.std.proofs.Common.{◌≡◌, ◌+◌, ◌-◌, length, set, None, sym, ◌∙◌, ap, subst, refl, arith}
 use Rattle.csdf_core.specs.declared.setup.Stage.TheVariants.{Written}
 use Rattle.csdf_core.specs.State.{Present}
 use Rattle.csdf_core.specs.Ports.{tokens_in, outputs_at, raise_over}
