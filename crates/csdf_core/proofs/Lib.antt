@@ -20,3 +20,6 @@ pub mod CoreLemmas
 pub mod SoundLemmas
 pub mod Peaceful
 pub mod Moving
+pub mod Setups
+pub mod Fillings
+pub mod Beginnings

@@ -45,13 +45,13 @@ all-still p idle [] n = tt
 all-still p idle (c ∷ cs) zero = tt
 all-still p idle (c ∷ cs) (suc n) = ((λ shut. absurd (cc)), all-still p idle cs n)
 
-none_reserved : (plan : Plan) (p : Present) → ((a : ℕ) → stage p a ≡ Idle) → (k n : ℕ) → sum_by (reserved_by plan p) (range_with_len k n) ≡ 0
+pub none_reserved : (plan : Plan) (p : Present) → ((a : ℕ) → stage p a ≡ Idle) → (k n : ℕ) → sum_by (reserved_by plan p) (range_with_len k n) ≡ 0
 none_reserved plan p idle k zero = refl
 none_reserved plan p idle k (suc n) =
     let here : reserved_by plan p k ≡ 0 = ap (λ s. reserved_at s (need k (count p k) plan.channels) (gift k (count p k) plan.channels)) (idle k) in
     omega (arith, sum_by-cons (reserved_by plan p) k (range_with_len (k + 1) n), here, none_reserved plan p idle (k + 1) n)
 
-held-initial : (cs : List Channel) → sum_by length (map (λ (c : Channel). c.initial) cs) ≡ sum_by (λ (c : Channel). length c.initial) cs
+pub held-initial : (cs : List Channel) → sum_by length (map (λ (c : Channel). c.initial) cs) ≡ sum_by (λ (c : Channel). length c.initial) cs
 held-initial [] = refl
 held-initial (c ∷ cs) = omega (arith, sum_by-cons length c.initial (map (λ (d : Channel). d.initial) cs), sum_by-cons (λ (d : Channel). length d.initial) c cs, held-initial cs)
 

@@ -1,14 +1,16 @@
 //! The firing core.
 
-ghost use Rattle.std.specs.Prelude.{◌≡◌, ◌||◌, ◌+◌, ◌-◌, ◌*◌, ◌<◌, ◌≤◌, ◌++◌, [], suc, length, take, drop, map, sum, sum_by, IfOk, OnErr, slice_index, slice_index_or};
+ghost use Rattle.std.specs.Prelude.{◌≡◌, ◌||◌, ◌+◌, ◌-◌, ◌*◌, ◌<◌, ◌≤◌, ◌++◌, [], suc, length, take, drop, map, sum, sum_by, IfOk, OnErr, All, slice_index, slice_index_or};
 ghost use Rattle.csdf_pool.specs.Pool.{chain_of, held_cells};
 ghost use Rattle.csdf_core.specs.Step.{is_stage, exceeds};
 
+use crate::filling::{filled_pool, lengths_of};
 use crate::lanes::{first_closed, first_full, first_short};
 use crate::layout::Layout;
 use crate::moves::{gift_of, need_of, put_outputs, raise_peaks, take_inputs};
-use crate::setup::{Refusal, Stage};
+use crate::setup::{Refusal, Setup, Stage};
 use csdf_pool::{Cells, Pool};
+use std::alloc::{AllocError, Global};
 use std::marker::Model;
 
 /// A machine whose moves are those of firings, over one pool of cells that all channels share.
@@ -75,6 +77,39 @@ impl Core {
     ghost use Rattle.csdf_core.specs.Step.{refusal, refused, first_of, space_table, write_table, is_source, is_dry, is_stopped, lacks_cells, is_stage, is_open, given, held, reserved, count, stage};
     ghost use Rattle.csdf_core.specs.Rows.{need, gift};
     ghost use Rattle.csdf_core.specs.Ports.{tokens_at};
+    ghost use Rattle.csdf_core.specs.Plan.{Channel as ChannelModel};
+    ghost use Rattle.csdf_core.specs.Layout.{HasCapacities, plan_for};
+
+    /// A core of the setup in the state in which nothing has fired: the initial tokens are in the
+    /// channels, in order. It keeps a copy of the graph.
+    ///
+    /// An error says that memory ran out.
+    pub fn new(alloc: Global, setup: Setup<'_>) -> Result<Core, AllocError>
+        requires given { HasCapacities setup.graph.now }
+        requires limits { length setup.limits.items ≡ length setup.graph.now.actors }
+        requires supply { length setup.supply.items ≡ length setup.graph.now.actors }
+        requires few { All (λ n. n ≤ 16_384_000) setup.limits.items }
+        ensures plan { IfOk result (λ core. core.plan ≡ plan_for setup.entry.graph.now setup.entry.limits.items setup.entry.supply.items setup.entry.firings) }
+        ensures opening { IfOk result (λ core. Shows core (opening core.plan)) }
+        ensures peaks { IfOk result (λ core. core.peaks ≡ map length (map (λ (c : ChannelModel). c.initial) core.plan.channels)) }
+    {
+        let layout = Layout::new(alloc, setup)?;
+        let actors = layout.actors();
+        let channels = layout.channels();
+        let pool = filled_pool(alloc, &layout)?;
+        let peaks = lengths_of(alloc, &pool, channels as u32)?;
+        Ok(Core {
+            layout,
+            counts: vec![in alloc; 0; actors]?,
+            stages: vec![in alloc; Stage::Idle; actors]?,
+            opens: vec![in alloc; true; channels]?,
+            sums: vec![in alloc; 0; actors]?,
+            peaks,
+            started: 0,
+            reserved: 0,
+            pool,
+        })
+    }
 
     /// How many firings of the actor are finished.
     pub fn fired(&self, actor: u32) -> u32

@@ -1,12 +1,18 @@
 //! What a core plays: its graph, with the channels of each actor gathered once.
 
-ghost use Rattle.std.specs.Prelude.{◌≡◌, ◌<◌, ◌≤◌, length, map, slice_index, slice_index_or, false, All};
+ghost use Rattle.std.specs.Prelude.{◌≡◌, ◌<◌, ◌≤◌, length, map, slice_index, slice_index_or, sum, unwrap_or, false, All, IfOk};
+ghost use Rattle.std.specs.List.{range_with_len};
+ghost use Rattle.csdf_graph.specs.Graph.{channel_view, inputs_of, outputs_of};
 ghost use Rattle.csdf_core.specs.Plan.{Channel as ChannelModel};
-ghost use Rattle.csdf_core.specs.Layout.{is_source_kernel};
+ghost use Rattle.csdf_core.specs.Layout.{is_source_kernel, plan_for, given_capacity, cells_for, HasCapacities};
+ghost use Rattle.csdf_core.specs.Playable.{IsPlayable};
+ghost use Rattle.csdf_core.specs.Streams.{part};
 ghost use Rattle.csdf_core.specs.Ports.{inputs_at, outputs_at, take_at, give_at};
 
 use crate::ports::Ports;
-use csdf_graph::{Graph, Kernel};
+use crate::setup::Setup;
+use csdf_graph::{Channel, Graph, Kernel};
+use std::alloc::{AllocError, Global};
 use std::marker::Model;
 
 /// A graph with its capacities and limits.
@@ -39,7 +45,80 @@ fn is_source(kernel: Kernel) -> bool
     matches!(kernel, Kernel::Source)
 }
 
+/// The capacity that each channel is given.
+fn given_capacities(alloc: Global, channels: &[Channel]) -> Result<Vec<u32>, AllocError>
+    ensures { IfOk result (λ v. v.items ≡ map (λ channel. unwrap_or channel.capacity 0) channels.now) }
+{
+    channels.iter().map(|channel| channel.capacity.unwrap_or(0)).collect(alloc)
+}
+
+/// The sum of the capacities.
+fn sum_of(capacities: &[u32]) -> u32
+    requires few { length capacities.now ≤ 128 }
+    requires small { All (λ n. n ≤ 65_535) capacities.now }
+    ensures { result ≡ sum capacities.now }
+{
+    let mut cells = 0;
+    for capacity in capacities {
+        cells += *capacity;
+    }
+    cells
+}
+
+/// The number of cells that the graph gives, or else the sum of the capacities.
+fn cells_for(given: Option<u32>, capacities: &[u32]) -> u32
+    requires few { length capacities.now ≤ 128 }
+    requires small { All (λ n. n ≤ 65_535) capacities.now }
+    ensures { result ≡ cells_for given capacities.now }
+{
+    match given {
+        Some(cells) => cells,
+        None => sum_of(capacities),
+    }
+}
+
+/// The channels of each actor.
+fn ports_of(alloc: Global, channels: &[Channel], actors: usize) -> Result<Vec<Ports>, AllocError>
+    requires actors { actors ≤ 64 }
+    requires channels { length channels.now ≤ 128 }
+    ensures inputs { IfOk result (λ ports. map (λ p. p.inputs.items) ports.items ≡ map (inputs_of (map channel_view channels.now)) (range_with_len 0 actors)) }
+    ensures outputs { IfOk result (λ ports. map (λ p. p.outputs.items) ports.items ≡ map (outputs_of (map channel_view channels.now)) (range_with_len 0 actors)) }
+{
+    let mut all = Vec::new(alloc);
+    for actor in 0..actors {
+        let ports = Ports::of(alloc, channels, actor as u32)?;
+        all.push(ports)?;
+    }
+    Ok(all)
+}
+
 impl Layout {
+    /// The layout of the setup, whose graph it copies; each channel has the capacity that it is given.
+    ///
+    /// An error says that memory ran out.
+    pub(crate) fn new(alloc: Global, setup: Setup<'_>) -> Result<Layout, AllocError>
+        requires given { HasCapacities setup.graph.now }
+        requires limits { length setup.limits.items ≡ length setup.graph.now.actors }
+        requires supply { length setup.supply.items ≡ length setup.graph.now.actors }
+        requires few { All (λ n. n ≤ 16_384_000) setup.limits.items }
+        ensures plan { IfOk result (λ layout. layout ≡ plan_for setup.entry.graph.now setup.entry.limits.items setup.entry.supply.items setup.entry.firings) }
+        ensures playable { IfOk result IsPlayable }
+    {
+        let graph = setup.graph.try_copy()?;
+        let capacities = given_capacities(alloc, graph.channels())?;
+        let cells = cells_for(graph.cells(), &capacities);
+        let ports = ports_of(alloc, graph.channels(), graph.actors().len())?;
+        Ok(Layout {
+            graph,
+            capacities,
+            limits: setup.limits,
+            supply: setup.supply,
+            firings: setup.firings,
+            cells,
+            ports,
+        })
+    }
+
     /// The number of actors.
     pub(crate) fn actors(&self) -> usize
         ensures count { result ≡ length self.now.sources }
@@ -118,6 +197,14 @@ impl Layout {
         ensures { result ≡ slice_index (map (λ (c : ChannelModel). c.capacity) self.now.channels) channel }
     {
         self.capacities[channel as usize]
+    }
+
+    /// The channel's initial tokens.
+    pub(crate) fn initial(&self, channel: u32) -> &[i32]
+        requires { channel < length self.now.channels }
+        ensures { result.now ≡ part channel (map (λ (c : ChannelModel). c.initial) self.now.channels) }
+    {
+        &self.graph.channels()[channel as usize].initial
     }
 
     /// The greatest number of firings of the actor.

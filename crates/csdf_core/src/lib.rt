@@ -1,6 +1,7 @@
 //! The moves of firings over one shared pool of cells.
 #![tactic(auto)]
 
+mod filling;
 mod firing;
 mod lanes;
 mod layout;

@@ -50,7 +50,7 @@ fn take_tokens(pool: &mut Pool, channel: u32, into: &mut [i32])
 }
 
 /// Puts tokens at the end of a channel.
-fn put_tokens(pool: &mut Pool, channel: u32, tokens: &[i32])
+pub(crate) fn put_tokens(pool: &mut Pool, channel: u32, tokens: &[i32])
     requires channel { channel < length pool.old.chains }
     requires room { length tokens.now ≤ length pool.old.free }
     ensures put { tokens_in pool.new ≡ slice_set (tokens_in pool.old) channel (tokens_at (tokens_in pool.old) channel ++ tokens.now) }

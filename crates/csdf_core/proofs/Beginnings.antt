@@ -1,0 +1,83 @@
+-- A core before its first move.
+use Rattle.std.proofs.Common.{◌≡◌, ℕ, zero, suc, ◌+◌, ◌*◌, ◌≤◌, List, [], ◌∷◌, length, get_or, map, replicate, refl, ap, subst, ◌∙◌, sym, arith, Bool, true, false, cond}
+use Rattle.std.specs.Prelude.{ℤ, sum, sum_by, count_by, not, ◌==◌, slice_index}
+use Rattle.std.proofs.lemmas.List.{length-map, length-replicate}
+use Rattle.std.proofs.lemmas.List.Sums.{sum_by-cons}
+use Rattle.csdf_graph.specs.Rates.{total}
+use Rattle.csdf_pool.specs.Pool.{Shared, IsPartition, held_tokens}
+use Rattle.csdf_core.specs.declared.setup.Stage.{Stage}
+use Rattle.csdf_core.specs.declared.setup.Stage.TheVariants.{Idle}
+use Rattle.csdf_core.specs.Plan.{Channel, Plan}
+use Rattle.csdf_core.specs.Playable.{IsPlayable}
+use Rattle.csdf_core.specs.State.{Present, present, opening}
+use Rattle.csdf_core.specs.Step.{count, stage, given, begun_count, reserved, is_stage}
+use Rattle.csdf_core.specs.Ports.{tokens_in}
+use Rattle.csdf_core.specs.Ready.{IsFit}
+use Rattle.csdf_core.specs.Shows.{Shows, ArePeaks}
+use Rattle.csdf_core.specs.Sound.{IsSound}
+use Rattle.csdf_core.proofs.Presents.{present_same}
+use Rattle.csdf_core.proofs.Opening.{alike, waiting-opening, fit_opening, reached_opening, none_reserved}
+
+high_same : (ts : List (List ℤ)) → ArePeaks (map length ts) ts
+high_same [] = tt
+high_same (t ∷ ts) = ((let h : length t ≤ length t = omega arith in h), high_same ts)
+
+either_way : (b : Bool) → (let n : ℕ = cond b 0 0 in n ≡ 0)
+either_way true = refl
+either_way false = refl
+
+none_given : (a : ℕ) (cs : List Channel) → sum_by (λ (c : Channel). cond (c.from == a) (total c.produce 0) 0) cs ≡ 0
+none_given a [] = refl
+none_given a (c ∷ cs) =
+    let f : Channel → ℕ = λ d. cond (d.from == a) (total d.produce 0) 0 in
+    let first : f c ≡ 0 = either_way (c.from == a) in
+    omega (arith, sum_by-cons f c cs, first, none_given a cs)
+
+given-zero : (plan : Plan) (a : ℕ) → given plan a 0 ≡ 0
+unfolding given
+given-zero plan a = none_given a plan.channels
+
+no_sum : (n : ℕ) → sum (replicate n 0) ≡ 0
+no_sum zero = refl
+no_sum (suc n) = omega (arith, sum_by-cons (λ k. k) 0 (replicate n 0), no_sum n)
+
+none_busy : (n : ℕ) → count_by (λ s. not (is_stage s Idle)) (replicate n Idle) ≡ 0
+none_busy zero = refl
+none_busy (suc n) = none_busy n
+
+module _ (plan : Plan) (pool : Shared) (counts sums peaks : List ℕ) (stages : List Stage) (opens : List Bool) (playable : IsPlayable plan) (counts_are : counts ≡ replicate (length plan.sources) 0) (stages_are : stages ≡ replicate (length plan.sources) Idle)
+    (opens_are : opens ≡ replicate (length plan.channels) true) (tokens_are : tokens_in pool ≡ map (λ (c : Channel). c.initial) plan.channels) (partition : IsPartition pool) where
+  abbrev pub here : Present
+  here = record { counts = counts; stages = stages; opens = opens; tokens = tokens_in pool }
+
+  is_opening : here ≡ present (opening plan)
+  is_opening = present_same here (present (opening plan)) counts_are stages_are opens_are (tokens_are ∙ sym (waiting-opening plan.channels))
+
+  none_counted : (a : ℕ) → count here a ≡ 0
+  none_counted a = ap (λ l. get_or l a 0) counts_are ∙ alike (length plan.sources) a 0
+
+  idle : (a : ℕ) → stage here a ≡ Idle
+  idle a = ap (λ l. get_or l a Idle) stages_are ∙ alike (length plan.sources) a Idle
+
+  pub sound_opening : sums ≡ replicate (length plan.sources) 0 → peaks ≡ map length (tokens_in pool) → pool.size ≡ plan.cells → IsSound plan here peaks sums 0 0 pool
+  sound_opening sums_are peaks_are size =
+      let tokens : length (tokens_in pool) ≡ length plan.channels = ap length tokens_are ∙ length-map plan.channels (λ (c : Channel). c.initial) in
+      let none : (a : ℕ) → slice_index sums a ≡ 0 = λ a. ap (λ l. get_or l a 0) sums_are ∙ alike (length plan.sources) a 0 in
+      record {
+        fit = subst (λ (q : Present). IsFit plan q) (sym is_opening) (fit_opening plan playable);
+        playable = playable;
+        peaked = ap length peaks_are ∙ length-map (tokens_in pool) length ∙ tokens;
+        high = subst (λ l. ArePeaks l (tokens_in pool)) (sym peaks_are) (high_same (tokens_in pool));
+        chained = sym (length-map pool.chains held_tokens) ∙ tokens;
+        sized = size;
+        partition = partition;
+        within = λ a. (let e = none_counted a in omega arith);
+        tallied = ap length sums_are ∙ length-replicate (length plan.sources) 0;
+        summed = λ a lt. none a ∙ sym (given-zero plan a) ∙ ap (given plan a) (sym (none_counted a));
+        small = λ a lt. (let e = none a in omega arith);
+        starts = (let a = ap sum counts_are ∙ no_sum (length plan.sources) in let b = ap (count_by (λ s. not (is_stage s Idle))) stages_are ∙ none_busy (length plan.sources) in omega arith);
+        keeps = sym (none_reserved plan here idle 0 (length plan.sources));
+      }
+
+  pub shows_opening : Shows (record { plan = plan; now = here; peaks = peaks; pool = pool }) (opening plan)
+  shows_opening = record { same = is_opening; lawful = (reached_opening plan playable).lawful; chains = refl; partition = partition }

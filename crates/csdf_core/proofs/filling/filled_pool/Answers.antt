@@ -1,0 +1,42 @@
+use Rattle.std.proofs.Common.{◌≡◌, ◌<◌, ◌≤◌, ℕ, ◌∙◌, ap, sym, subst, arith, List, length, map, replicate}
+use Rattle.std.specs.Prelude.{ℤ, sum_by}
+use Rattle.std.proofs.lemmas.List.{length-map, length-replicate}
+use Rattle.std.proofs.lemmas.List.FromFn.{length-range_with_len}
+use Rattle.csdf_pool.specs.Pool.{held_tokens}
+use Rattle.csdf_core.specs.Plan.{Channel}
+use Rattle.csdf_core.specs.Ports.{tokens_in}
+use Rattle.csdf_core.proofs.Opening.{held-initial}
+use Rattle.csdf_core.proofs.Fillings.{filled_more, filled_all, filled_none, free_more, has_room}
+use Rattle.csdf_core.proofs.filling.filled_pool.Goals as goal
+
+pub loop-channel-init : goal.loop-channel-init
+loop-channel-init c =
+    let cs : List Channel = c.args.layout.now.channels in
+    let count : c.channels.result ≡ length cs = c.channels.ensures.count in
+    let chains = c.in_ok-pool.ensures.chains in
+    let free = ap length c.in_ok-pool.ensures.free ∙ length-range_with_len 0 c.cells.result in
+    let cells = c.cells.ensures in
+    record {
+      front = ap (map held_tokens) chains ∙ filled_none (λ (d : Channel). d.initial) cs c.channels.result count;
+      rest = omega (arith, free, cells);
+      size = c.in_ok-pool.ensures.size ∙ cells;
+      same = ap length chains ∙ length-replicate c.channels.result _ ∙ count;
+      partition = c.in_ok-pool.ensures.shared_out;
+    }
+
+pub loop-channel-preserved : goal.loop-channel-preserved
+loop-channel-preserved c =
+    let cs : List Channel = c.args.layout.now.channels in
+    let xs : List (List ℤ) = map (λ (d : Channel). d.initial) cs in
+    let i : ℕ = c.loop-channel.channel in
+    let lt : i < length xs = (let t = c.loop-channel-test.true in let n = length-map cs (λ (d : Channel). d.initial) in let e = c.channels-channel-end.ensures.count in omega arith) in
+    let old = c.loop-channel.invariant in
+    let put = c.put_tokens.ensures in
+    record {
+      front = filled_more xs (tokens_in c.loop-channel.pool) (tokens_in c.put_tokens.new.pool) i c.initial.result.now lt old.front c.initial.ensures put.put;
+      rest = free_more xs i (length c.loop-channel.pool.free) (length c.put_tokens.new.pool.free) c.args.layout.now.cells c.initial.result.now lt c.initial.ensures old.rest put.free;
+      size = put.size ∙ old.size;
+      same = put.same ∙ old.same;
+      partition = put.partition;
+    }
+

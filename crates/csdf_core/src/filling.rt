@@ -1,0 +1,42 @@
+//! The pool of a core before its first move.
+
+ghost use Rattle.std.specs.Prelude.{◌≡◌, length, map, IfOk};
+ghost use Rattle.csdf_pool.specs.Pool.{IsPartition};
+ghost use Rattle.csdf_core.specs.Plan.{Channel as ChannelModel};
+ghost use Rattle.csdf_core.specs.Playable.{IsPlayable};
+ghost use Rattle.csdf_core.specs.Ports.{tokens_in};
+
+use crate::layout::Layout;
+use crate::moves::put_tokens;
+use csdf_pool::Pool;
+use std::alloc::{AllocError, Global};
+
+/// A pool of the layout's cells, where each channel holds its initial tokens.
+///
+/// An error says that memory ran out.
+pub(crate) fn filled_pool(alloc: Global, layout: &Layout) -> Result<Pool, AllocError>
+    requires { IsPlayable layout.now }
+    ensures tokens { IfOk result (λ pool. tokens_in pool ≡ map (λ (c : ChannelModel). c.initial) layout.now.channels) }
+    ensures size { IfOk result (λ pool. pool.size ≡ layout.now.cells) }
+    ensures partition { IfOk result IsPartition }
+{
+    let mut pool = Pool::new(alloc, layout.cells(), layout.channels() as u32)?;
+    for channel in 0..layout.channels() as u32 {
+        put_tokens(&mut pool, channel, layout.initial(channel));
+    }
+    Ok(pool)
+}
+
+/// How many tokens each channel holds.
+///
+/// An error says that memory ran out.
+pub(crate) fn lengths_of(alloc: Global, pool: &Pool, channels: u32) -> Result<Vec<u32>, AllocError>
+    requires { channels ≡ length pool.now.chains }
+    ensures { IfOk result (λ lengths. lengths.items ≡ map length (tokens_in pool.now)) }
+{
+    let mut lengths = Vec::new(alloc);
+    for channel in 0..channels {
+        lengths.push(pool.len(channel))?;
+    }
+    Ok(lengths)
+}
