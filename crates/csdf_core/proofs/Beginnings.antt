@@ -1,5 +1,5 @@
 -- A core before its first move.
-use Rattle.std.proofs.Common.{◌≡◌, ℕ, zero, suc, ◌+◌, ◌*◌, ◌≤◌, List, [], ◌∷◌, length, get_or, map, replicate, refl, ap, subst, ◌∙◌, sym, arith, Bool, true, false, cond}
+use Rattle.std.proofs.Common.{◌≡◌, ℕ, zero, suc, ◌≤◌, List, [], ◌∷◌, length, get_or, map, replicate, refl, ap, subst, ◌∙◌, sym, arith, Bool, true, false, cond}
 use Rattle.std.specs.Prelude.{ℤ, sum, sum_by, count_by, not, ◌==◌, slice_index}
 use Rattle.std.proofs.lemmas.List.{length-map, length-replicate}
 use Rattle.std.proofs.lemmas.List.Sums.{sum_by-cons}
@@ -7,10 +7,11 @@ use Rattle.csdf_graph.specs.Rates.{total}
 use Rattle.csdf_pool.specs.Pool.{Shared, IsPartition, held_tokens}
 use Rattle.csdf_core.specs.declared.setup.Stage.{Stage}
 use Rattle.csdf_core.specs.declared.setup.Stage.TheVariants.{Idle}
+use Rattle.std.specs.List.{AllByRecursion}
 use Rattle.csdf_core.specs.Plan.{Channel, Plan}
 use Rattle.csdf_core.specs.Playable.{IsPlayable}
-use Rattle.csdf_core.specs.State.{Present, present, opening}
-use Rattle.csdf_core.specs.Step.{count, stage, given, begun_count, reserved, is_stage}
+use Rattle.csdf_core.specs.State.{Stream, State, Present, present, opening, waiting}
+use Rattle.csdf_core.specs.Step.{count, stage, given, is_stage}
 use Rattle.csdf_core.specs.Ports.{tokens_in}
 use Rattle.csdf_core.specs.Ready.{IsFit}
 use Rattle.csdf_core.specs.Shows.{Shows, ArePeaks}
@@ -81,3 +82,23 @@ module _ (plan : Plan) (pool : Shared) (counts sums peaks : List ℕ) (stages : 
 
   pub shows_opening : Shows (record { plan = plan; now = here; peaks = peaks; pool = pool }) (opening plan)
   shows_opening = record { same = is_opening; lawful = (reached_opening plan playable).lawful; chains = refl; partition = partition }
+
+-- all that waits as written, and nothing taken
+as_written : List ℤ → Stream
+as_written ts = record { written = ts; taken = 0 }
+
+all_wait : (ts : List (List ℤ)) → map waiting (map as_written ts) ≡ ts
+unfolding as_written
+all_wait [] = refl
+all_wait (t ∷ ts) = ap (λ l. t ∷ l) (all_wait ts)
+
+none_taken : (ts : List (List ℤ)) → AllByRecursion (λ (stream : Stream). stream.taken ≤ length stream.written) (map as_written ts)
+unfolding as_written
+none_taken [] = tt
+none_taken (t ∷ ts) = ((let h : 0 ≤ length t = omega arith in h), none_taken ts)
+
+-- a core whose cells are shared out shows some state
+pub shows_some : (plan : Plan) (p : Present) (peaks : List ℕ) (pool : Shared) → tokens_in pool ≡ p.tokens → IsPartition pool → (s : State) × Shows (record { plan = plan; now = p; peaks = peaks; pool = pool }) s
+shows_some plan p peaks pool chains partition =
+    let s : State = record { counts = p.counts; stages = p.stages; opens = p.opens; streams = map as_written p.tokens } in
+    (s, record { same = present_same p (present s) refl refl refl (sym (all_wait p.tokens)); lawful = none_taken p.tokens; chains = chains; partition = partition })

@@ -29,8 +29,8 @@ length-raised [] (t ∷ tokens) e = absurd (omega arith)
 length-raised (p ∷ peaks) [] e = absurd (omega arith)
 length-raised (p ∷ peaks) (t ∷ tokens) e = let rest = length-raised peaks tokens (omega arith) in omega (arith, rest)
 
-pub follows_refused : (v : View) (m : Move) (e : Refusal) → refusal v.plan v.now m ≡ Some e → raised v.peaks v.now.tokens ≡ v.peaks → Follows v v m (Err e)
-follows_refused v m e why peaks = record {
+pub follows_refused : (v : View) (m : Move) (e : Refusal) → refusal v.plan v.now m ≡ Some e → raised v.peaks v.now.tokens ≡ v.peaks → IsPartition v.pool → Follows v v m (Err e)
+follows_refused v m e why peaks partition = record {
   plan = refl;
   reply_is = λ s shown.
       let at : refusal v.plan (present s) m ≡ Some e = ap (λ p. refusal v.plan p m) (sym shown.same) ∙ why in
@@ -39,6 +39,7 @@ follows_refused v m e why peaks = record {
       let at : refusal v.plan (present s) m ≡ Some e = ap (λ p. refusal v.plan p m) (sym shown.same) ∙ why in
       subst (λ (o : Option Refusal). Shows v (state_by o (accepted v.plan s m) s)) (sym at) shown;
   peaks = sym peaks;
+  partition = partition;
 }
 
 pub follows_accepted : (old new : View) (m : Move) (ts : List ℤ) → new.plan ≡ old.plan → refusal old.plan old.now m ≡ None → ts ≡ answer old.plan old.now m
@@ -59,4 +60,5 @@ follows_accepted old new m ts same why told now fit chains partition peaks = rec
       } in
       subst (λ (o : Option Refusal). Shows new (state_by o (accepted old.plan s m) s)) (sym at) after;
   peaks = peaks;
+  partition = partition;
 }

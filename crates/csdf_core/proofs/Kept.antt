@@ -23,11 +23,11 @@ all_none [] e = tt
 all_none (None ∷ table) e = (refl, all_none table e)
 all_none (Some r ∷ table) e = absurd (cc)
 
-when_none : (b : Bool) (r : Refusal) → when b r ≡ None → b ≡ false
+pub when_none : (b : Bool) (r : Refusal) → when b r ≡ None → b ≡ false
 when_none true r e = absurd (cc)
 when_none false r e = refl
 
-not_false : (b : Bool) → not b ≡ false → b ≡ true
+pub not_false : (b : Bool) → not b ≡ false → b ≡ true
 not_false true e = refl
 not_false false e = sym e
 
@@ -35,17 +35,17 @@ not_chosen : (b : Bool) (i : ℕ) (o : Option ℕ) → cond b (Some i) o ≡ Non
 not_chosen true i o e = absurd (cc)
 not_chosen false i o e = (refl, e)
 
-position_none : {X : Type 0} (test : X → Bool) (i : ℕ) (xs : List X) → position_from test i xs ≡ None → AllByRecursion (λ x. test x ≡ false) xs
+pub position_none : {X : Type 0} (test : X → Bool) (i : ℕ) (xs : List X) → position_from test i xs ≡ None → AllByRecursion (λ x. test x ≡ false) xs
 position_none test i [] e = tt
 position_none test i (x ∷ xs) e =
     let parts = not_chosen (test x) i (position_from test (i + 1) xs) e in
     (parts.0, position_none test (i + 1) xs parts.1)
 
-map_none : (f : ℕ → Refusal) (o : Option ℕ) → option_map f o ≡ None → o ≡ None
+pub map_none : (f : ℕ → Refusal) (o : Option ℕ) → option_map f o ≡ None → o ≡ None
 map_none f None e = refl
 map_none f (Some n) e = absurd (cc)
 
-is_stage_true : (s t : Stage) → is_stage s t ≡ true → s ≡ t
+pub is_stage_true : (s t : Stage) → is_stage s t ≡ true → s ≡ t
 is_stage_true Idle Idle e = refl
 is_stage_true Begun Begun e = refl
 is_stage_true Fetched Fetched e = refl

@@ -23,3 +23,5 @@ pub mod Moving
 pub mod Setups
 pub mod Fillings
 pub mod Beginnings
+pub mod Headline
+pub mod Ample

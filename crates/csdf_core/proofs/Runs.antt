@@ -6,7 +6,7 @@ use Rattle.csdf_core.specs.Moves.{Move}
 use Rattle.csdf_core.specs.Plan.{Plan}
 use Rattle.csdf_core.specs.State.{State, Present, present}
 use Rattle.csdf_core.specs.Step.{Reply, reply_to, after, replies_of, state_after}
-use Rattle.csdf_core.specs.Shows.{View, Shows, Follows, Plays, PlayedSome, raised, raised_over}
+use Rattle.csdf_core.specs.Shows.{View, Shows, Follows, PassesThrough, Plays, PlayedSome, raised, raised_over}
 
 state_after-push : (plan : Plan) (s : State) (ms : List Move) (m : Move) → state_after plan s (ms ++ m ∷ []) ≡ after plan (state_after plan s ms) m
 state_after-push plan s [] m = refl
@@ -20,9 +20,15 @@ raised_over-push : (plan : Plan) (s : State) (peaks : List ℕ) (ms : List Move)
 raised_over-push plan s peaks [] m = refl
 raised_over-push plan s peaks (n ∷ ms) m = raised_over-push plan (after plan s n) (raised peaks (present (after plan s n)).tokens) ms m
 
+passes_more : (old mid new : View) (ms : List Move) (rs : List Reply) (m : Move) (r : Reply) → PassesThrough old mid ms rs → Follows mid new m r → PassesThrough old new (ms ++ m ∷ []) (rs ++ r ∷ [])
+passes_more old mid new [] [] m r same f = (new, subst (λ (v : View). Follows v new m r) same f, f.partition, refl)
+passes_more old mid new [] (q ∷ rs) m r p f = absurd p
+passes_more old mid new (n ∷ ms) [] m r p f = absurd p
+passes_more old mid new (n ∷ ms) (q ∷ rs) m r p f = (p.0, p.1, p.2, passes_more p.0 mid new ms rs m r p.3 f)
+
 -- nothing was played
 pub plays_none : (v : View) → Plays v v [] []
-plays_none v = record { plan = refl; replies_are = λ s shown. refl; shows = λ s shown. shown; peaks = λ s shown. refl }
+plays_none v = record { plan = refl; replies_are = λ s shown. refl; shows = λ s shown. shown; peaks = λ s shown. refl; through = refl }
 
 pub plays_more : (old mid new : View) (ms : List Move) (i : ℕ) (m : Move) (rs : List Reply) (r : Reply) → i < length ms → m ≡ get_or ms i m → Plays old mid (take i ms) rs → Follows mid new m r → Plays old new (take (i + 1) ms) (rs ++ r ∷ [])
 plays_more old mid new ms i m rs r lt is p f =
@@ -42,10 +48,11 @@ plays_more old mid new ms i m rs r lt is p f =
           f.peaks ∙ ap (λ (q : List ℕ). raised q new.now.tokens) (p.peaks s shown)
           ∙ ap (λ (q : Present). raised (raised_over old.plan s old.peaks (take i ms)) q.tokens) (shown_next s shown).same
           ∙ sym (raised_over-push old.plan s old.peaks (take i ms) m);
+      through = passes_more old mid new (take i ms) rs m r p.through f;
     })
 
 pub played_some : (old new : View) (ms : List Move) (i : ℕ) (rs : List Reply) → Plays old new (take i ms) rs → PlayedSome old new ms
-played_some old new ms i rs p = (i, p.shows)
+played_some old new ms i rs p = (i, rs, p)
 
 -- a fact on either outcome
 pub on_err : {T E : Type 0} (r : Result T E) (P : Type 0) → P → OnErr r P

@@ -1,5 +1,5 @@
 -- What a core keeps of its setup can be played.
-use Rattle.std.proofs.Common.{◌≡◌, ℕ, zero, suc, ◌+◌, ◌*◌, ◌<◌, ◌≤◌, List, [], ◌∷◌, ◌++◌, length, get_or, map, refl, ap, subst, ◌∙◌, sym, arith, Option, Some, None}
+use Rattle.std.proofs.Common.{◌≡◌, ℕ, zero, suc, ◌+◌, ◌*◌, ◌<◌, ◌≤◌, List, [], ◌∷◌, ◌++◌, length, map, refl, ap, subst, ◌∙◌, sym, arith, Option, Some, None}
 use Rattle.std.specs.Prelude.{All, IsSome, sum, sum_by, unwrap_or, IfSome}
 use Rattle.std.specs.List.{zip, range_with_len, AllByRecursion}
 use Rattle.std.proofs.lemmas.List.{length-map, map-append}
@@ -11,7 +11,7 @@ use Rattle.csdf_graph.specs.Graph.{Graph, channel_view, inputs_of, outputs_of}
 use Rattle.csdf_graph.specs.declared.graph.Channel.{Channel as ChannelCode}
 use Rattle.csdf_core.specs.declared.ports.Ports.{Ports}
 use Rattle.csdf_graph.specs.WellFormed.{IsWellFormed, IsChannel, IsCapacity, IsCells, initial_total}
-use Rattle.csdf_core.specs.Plan.{Channel, Plan}
+use Rattle.csdf_core.specs.Plan.{Channel}
 use Rattle.csdf_core.specs.Playable.{IsPlayable}
 use Rattle.csdf_core.specs.Layout.{HasCapacities, given_capacity, cells_for, with_capacity, is_source_kernel, plan_of, plan_for, IsLaidOut}
 use Rattle.csdf_core.proofs.LayoutLemmas.{length-capacities}

@@ -1,5 +1,5 @@
 -- What a core plays: a graph whose channels have their capacities, the limits on firings, and the number of cells.
-use Rattle.std.specs.Prelude.{ℕ, Bool, ◌==◌, if◌then◌else◌, ℤ, List, Option}
+use Rattle.std.specs.Prelude.{ℕ, ◌≤◌, Bool, ◌==◌, if◌then◌else◌, ℤ, List, Option, sum_by}
 use Rattle.csdf_graph.specs.Rates.{rate}
 
 -- a channel with its capacity
@@ -26,3 +26,7 @@ takes_of a k channel = if channel.to == a then rate channel.consume k else 0
 
 abbrev pub gives_of : ℕ → ℕ → Channel → ℕ
 gives_of a k channel = if channel.from == a then rate channel.produce k else 0
+
+-- there are as many cells as the capacities add up to
+abbrev pub HasAmpleCells : Plan → Type 0
+HasAmpleCells plan = sum_by (λ (channel : Channel). channel.capacity) plan.channels ≤ plan.cells

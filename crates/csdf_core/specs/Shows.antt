@@ -1,11 +1,12 @@
 -- What a core shows of a plain state, and how its calls follow the step.
 use Rattle.std.specs.Prelude.{ℕ, ◌≡◌, ◌≤◌, max, List, [], ◌∷◌, ℤ, Result, Ok, Err, length, map, take}
 use Rattle.std.specs.List.{zip, AllByRecursion}
+use Rattle.std.specs.Global.{Vec}
 use Rattle.csdf_pool.specs.Pool.{Shared, held_tokens, IsPartition}
 use Rattle.csdf_core.specs.Moves.{Move}
 use Rattle.csdf_core.specs.declared.setup.Refusal.{Refusal}
 use Rattle.csdf_core.specs.Plan.{Plan}
-use Rattle.csdf_core.specs.State.{State, Present, present, IsLawful}
+use Rattle.csdf_core.specs.State.{State, Present, present, opening, IsLawful}
 use Rattle.csdf_core.specs.Step.{Reply, reply_to, after, replies_of, state_after}
 
 -- what contracts see of a core: what it plays, what is present, the greatest length of each channel so far, and its pool
@@ -35,12 +36,20 @@ abbrev pub told : {T : Type 0} → (T → List ℤ) → Result T Refusal → Rep
 told f (Ok x) = Ok (f x)
 told f (Err refusal) = Err refusal
 
--- from old to new, for each state that the old core shows, the move was answered as the step says, and the new core shows the step's next state
+-- from old to new, for each state that the old core shows, the move was answered as the step says, and the new core shows the step's next state; its cells are shared out
 pub record Follows (old new : View) (m : Move) (answered : Reply) : Type 0 where
   pub plan : new.plan ≡ old.plan
   pub reply_is : (s : State) → Shows old s → answered ≡ reply_to old.plan s m
   pub shows : (s : State) → Shows old s → Shows new (after old.plan s m)
   pub peaks : new.peaks ≡ raised old.peaks new.now.tokens
+  pub partition : IsPartition new.pool
+
+-- the run goes from old to new by one core after each move, which follows the one before it and has its cells shared out
+abbrev pub PassesThrough : View → View → List Move → List Reply → Type 0
+PassesThrough old new [] [] = new ≡ old
+PassesThrough old new [] (r ∷ replies) = ⊥
+PassesThrough old new (m ∷ moves) [] = ⊥
+PassesThrough old new (m ∷ moves) (r ∷ replies) = (next : View) × Follows old next m r × IsPartition next.pool × PassesThrough next new moves replies
 
 -- the peaks after a list of moves from a state
 abbrev pub raised_over : Plan → State → List ℕ → List Move → List ℕ
@@ -53,7 +62,19 @@ pub record Plays (old new : View) (moves : List Move) (replies : List Reply) : T
   pub replies_are : (s : State) → Shows old s → replies ≡ replies_of old.plan s moves
   pub shows : (s : State) → Shows old s → Shows new (state_after old.plan s moves)
   pub peaks : (s : State) → Shows old s → new.peaks ≡ raised_over old.plan s old.peaks moves
+  pub through : PassesThrough old new moves replies
+
+-- a core that began in the opening state has come to this one by the moves, each core on the way with its cells shared out
+abbrev pub IsRun : View → List Move → List Reply → Type 0
+IsRun core moves replies = (first : View) × Shows first (opening core.plan) × IsPartition first.pool × PassesThrough first core moves replies
+
+-- the replies of a call, as the step answers them
+abbrev pub ReplyCode : Type 0
+ReplyCode = Result (Vec ℤ) Refusal
+
+abbrev pub replies_in : List ReplyCode → List Reply
+replies_in replies = map (told (λ (tokens : Vec ℤ). tokens.items)) replies
 
 -- the core has played some of the moves, from the first on
 abbrev pub PlayedSome : View → View → List Move → Type 0
-PlayedSome old new moves = (n : ℕ) × ((s : State) → Shows old s → Shows new (state_after old.plan s (take n moves)))
+PlayedSome old new moves = (n : ℕ) × (replies : List Reply) × Plays old new (take n moves) replies

@@ -1,5 +1,5 @@
 -- One move on a plain state: the reply, and the next state.
-use Rattle.std.specs.Prelude.{ℕ, suc, ◌+◌, ◌-◌, ◌==◌, ◌&&◌, ◌||◌, Bool, true, false, not, nat_lt, nat_le, if◌then◌else◌, List, [], ◌∷◌, ◌++◌, ℤ, Option, Some, None, Result, Ok, Err, length, map, sum, sum_by, count_by, slice_index, slice_index_or, slice_set, option_map}
+use Rattle.std.specs.Prelude.{ℕ, suc, ◌≡◌, ◌≢◌, ◌<◌, ◌+◌, ◌-◌, ◌==◌, ◌&&◌, ◌||◌, Bool, true, false, not, nat_lt, nat_le, if◌then◌else◌, List, [], ◌∷◌, ◌++◌, ℤ, Option, Some, None, Result, Ok, Err, length, map, sum, sum_by, count_by, slice_index, slice_index_or, slice_set, option_map}
 use Rattle.std.specs.List.{zip, range_with_len}
 use Rattle.csdf_graph.specs.Rates.{total}
 use Rattle.csdf_core.specs.declared.setup.Stage.{Stage}
@@ -36,6 +36,10 @@ is_source plan a = slice_index_or plan.sources a false
 -- how many tokens the first n firings of the actor write
 unfoldable pub given : Plan → ℕ → ℕ → ℕ
 given plan a n = sum_by (λ (channel : Channel). if channel.from == a then total channel.produce n else 0) plan.channels
+
+-- the actor has made as many firings as it may
+abbrev pub is_spent : Plan → Present → ℕ → Bool
+is_spent plan p a = nat_le (slice_index plan.limits a) (count p a)
 
 -- a source's file has too few tokens for the next firing
 abbrev pub is_dry : Plan → Present → ℕ → Bool
@@ -104,14 +108,16 @@ space_table plan p a =
     ∷ when (lacks_cells plan p a) NoCells
     ∷ []
 
-abbrev pub begin_table : Plan → Present → ℕ → List (Option Refusal)
-begin_table plan p a =
-    when (not (exists plan a)) Unknown
-    ∷ when (not (is_stage (stage p a) Idle)) Busy
-    ∷ when (nat_le (slice_index plan.limits a) (count p a)) Spent
+abbrev pub firing_table : Plan → Present → ℕ → List (Option Refusal)
+firing_table plan p a =
+    when (not (is_stage (stage p a) Idle)) Busy
+    ∷ when (is_spent plan p a) Spent
     ∷ option_map Closed (first (is_closed a) plan.channels p.opens)
     ∷ when (is_dry plan p a) Dry
     ∷ space_table plan p a
+
+abbrev pub begin_table : Plan → Present → ℕ → List (Option Refusal)
+begin_table plan p a = when (not (exists plan a)) Unknown ∷ firing_table plan p a
 
 abbrev pub read_table : Plan → Present → ℕ → List (Option Refusal)
 read_table plan p a =
@@ -145,6 +151,14 @@ refusal plan p (Read a) = first_of (read_table plan p a)
 refusal plan p (Write a v) = first_of (write_table plan p a v)
 refusal plan p (Finish a) = first_of (finish_table plan p a)
 refusal plan p (Close c) = first_of (close_table plan p c)
+
+-- the actor is idle, and can't begin a firing
+abbrev pub Rests : Plan → Present → ℕ → Type 0
+Rests plan p a = (stage p a ≡ Idle) × (refusal plan p (Begin a) ≢ None)
+
+-- every actor is idle, and none can begin a firing
+abbrev pub IsQuiet : Plan → Present → Type 0
+IsQuiet plan p = (a : ℕ) → a < length plan.sources → Rests plan p a
 
 -- the tokens that an accepted move answers
 abbrev pub answer : Plan → Present → Move → List ℤ

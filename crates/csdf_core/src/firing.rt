@@ -1,6 +1,6 @@
 //! The firing core.
 
-ghost use Rattle.std.specs.Prelude.{◌≡◌, ◌||◌, ◌+◌, ◌-◌, ◌*◌, ◌<◌, ◌≤◌, ◌++◌, [], suc, length, take, drop, map, sum, sum_by, IfOk, OnErr, All, slice_index, slice_index_or};
+ghost use Rattle.std.specs.Prelude.{◌≡◌, ◌≢◌, ◌↔◌, ◌||◌, IsTrue, Some, ◌+◌, ◌-◌, ◌*◌, ◌<◌, ◌≤◌, ◌++◌, [], suc, length, take, drop, map, sum, sum_by, IfOk, OnErr, All, slice_index, slice_index_or};
 ghost use Rattle.csdf_pool.specs.Pool.{chain_of, held_cells};
 ghost use Rattle.csdf_core.specs.Step.{is_stage, exceeds};
 
@@ -71,13 +71,14 @@ fn exceeds(cells: u64, used: u64, need: u64, gift: u64) -> bool
 }
 
 impl Core {
-    ghost use Rattle.csdf_core.specs.State.{opening};
+    ghost use Rattle.csdf_core.specs.State.{State, opening};
     ghost use Rattle.csdf_core.specs.Shows.{Shows, Follows, told};
     ghost use Rattle.csdf_core.specs.Moves.{Begin, Read, Write, Finish, Close};
-    ghost use Rattle.csdf_core.specs.Step.{refusal, refused, first_of, space_table, write_table, is_source, is_dry, is_stopped, lacks_cells, is_stage, is_open, given, held, reserved, count, stage};
+    ghost use Rattle.csdf_core.specs.Step.{refusal, refused, first_of, firing_table, space_table, write_table, is_source, is_dry, is_stopped, lacks_cells, is_stage, is_open, given, held, reserved, count, stage, IsQuiet, Rests};
     ghost use Rattle.csdf_core.specs.Rows.{need, gift};
     ghost use Rattle.csdf_core.specs.Ports.{tokens_at};
-    ghost use Rattle.csdf_core.specs.Plan.{Channel as ChannelModel};
+    ghost use Rattle.csdf_core.specs.Plan.{Channel as ChannelModel, HasAmpleCells};
+    ghost use Rattle.csdf_core.specs.declared.setup.Refusal.TheVariants.{NoCells};
     ghost use Rattle.csdf_core.specs.Layout.{HasCapacities, plan_for};
 
     /// A core of the setup in the state in which nothing has fired: the initial tokens are in the
@@ -168,6 +169,27 @@ impl Core {
         self.pool.free_cells()
     }
 
+    /// Whether the actor is idle and can't begin a firing.
+    fn is_resting(&self, actor: u32) -> bool
+        requires { actor < length self.now.plan.sources }
+        ensures { IsTrue result ↔ Rests self.now.plan self.now.now actor }
+    {
+        is_at(self.stage(actor), Stage::Idle) && self.begin_refusal(actor).is_some()
+    }
+
+    /// Whether every actor is idle and none can begin a firing.
+    pub fn is_quiet(&self) -> bool
+        ensures quiet { IsTrue result ↔ IsQuiet self.now.plan self.now.now }
+        ensures shown { (s : State) × Shows self.now s }
+    {
+        for actor in 0..self.counts.len() as u32 {
+            if !self.is_resting(actor) {
+                return false;
+            }
+        }
+        true
+    }
+
     /// How many tokens firing number `fired(actor)` reads; 0 where there is no such actor.
     pub fn need(&self, actor: u32) -> usize
         ensures { result ≡ need actor (count self.now.now actor) self.now.plan.channels }
@@ -243,12 +265,21 @@ impl Core {
 
     /// The first refusal of the actor's next firing.
     fn begin_refusal(&self, actor: u32) -> Option<Refusal>
-        ensures { result ≡ refusal self.now.plan self.now.now (Begin actor) }
+        ensures answer { result ≡ refusal self.now.plan self.now.now (Begin actor) }
+        ensures ample { HasAmpleCells self.now.plan → result ≢ Some NoCells }
     {
-        let a = actor as usize;
-        if a >= self.counts.len() {
+        if actor as usize >= self.counts.len() {
             return Some(Refusal::Unknown);
         }
+        self.firing_refusal(actor)
+    }
+
+    /// The first refusal of the next firing of an actor that is there.
+    fn firing_refusal(&self, actor: u32) -> Option<Refusal>
+        requires { actor < length self.now.plan.sources }
+        ensures { result ≡ first_of (firing_table self.now.plan self.now.now actor) }
+    {
+        let a = actor as usize;
         if !is_at(self.stages[a], Stage::Idle) {
             return Some(Refusal::Busy);
         }
@@ -288,7 +319,8 @@ impl Core {
 
     /// What `begin` would answer.
     pub fn can_begin(&self, actor: u32) -> Result<(), Refusal>
-        ensures { refused result ≡ refusal self.now.plan self.now.now (Begin actor) }
+        ensures answer { refused result ≡ refusal self.now.plan self.now.now (Begin actor) }
+        ensures ample { HasAmpleCells self.now.plan → refused result ≢ Some NoCells }
     {
         match self.begin_refusal(actor) {
             Some(refusal) => Err(refusal),
@@ -354,7 +386,8 @@ impl Core {
     /// Begins the actor's next firing, or answers the first refusal of `Unknown`, `Busy`, `Spent`,
     /// `Closed`, `Dry`, `Short`, `Full`, `Stopped` and `NoCells`.
     pub fn begin(&mut self, actor: u32) -> Result<(), Refusal>
-        ensures { Follows self.old self.new (Begin actor) (told (λ _. []) result) }
+        ensures step { Follows self.old self.new (Begin actor) (told (λ _. []) result) }
+        ensures ample { HasAmpleCells self.old.plan → refused result ≢ Some NoCells }
     {
         if let Some(refusal) = self.begin_refusal(actor) {
             return Err(refusal);

@@ -49,7 +49,10 @@ fn is_source(kernel: Kernel) -> bool
 fn given_capacities(alloc: Global, channels: &[Channel]) -> Result<Vec<u32>, AllocError>
     ensures { IfOk result (λ v. v.items ≡ map (λ channel. unwrap_or channel.capacity 0) channels.now) }
 {
-    channels.iter().map(|channel| channel.capacity.unwrap_or(0)).collect(alloc)
+    channels
+        .iter()
+        .map(|channel| channel.capacity.unwrap_or(0))
+        .collect(alloc)
 }
 
 /// The sum of the capacities.

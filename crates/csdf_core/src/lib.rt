@@ -6,10 +6,10 @@ mod firing;
 mod lanes;
 mod layout;
 mod moves;
-mod play;
+mod playing;
 mod ports;
 mod setup;
 
 pub use firing::Core;
-pub use play::{Reply, play_on};
+pub use playing::{Played, Reply, play, play_on};
 pub use setup::{Move, Refusal, Setup, Stage};

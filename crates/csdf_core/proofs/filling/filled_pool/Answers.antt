@@ -1,12 +1,11 @@
-use Rattle.std.proofs.Common.{◌≡◌, ◌<◌, ◌≤◌, ℕ, ◌∙◌, ap, sym, subst, arith, List, length, map, replicate}
-use Rattle.std.specs.Prelude.{ℤ, sum_by}
+use Rattle.std.proofs.Common.{◌≡◌, ◌<◌, ℕ, ◌∙◌, ap, arith, List, length, map}
+use Rattle.std.specs.Prelude.{ℤ}
 use Rattle.std.proofs.lemmas.List.{length-map, length-replicate}
 use Rattle.std.proofs.lemmas.List.FromFn.{length-range_with_len}
 use Rattle.csdf_pool.specs.Pool.{held_tokens}
 use Rattle.csdf_core.specs.Plan.{Channel}
 use Rattle.csdf_core.specs.Ports.{tokens_in}
-use Rattle.csdf_core.proofs.Opening.{held-initial}
-use Rattle.csdf_core.proofs.Fillings.{filled_more, filled_all, filled_none, free_more, has_room}
+use Rattle.csdf_core.proofs.Fillings.{filled_more, filled_none, free_more}
 use Rattle.csdf_core.proofs.filling.filled_pool.Goals as goal
 
 pub loop-channel-init : goal.loop-channel-init
@@ -39,4 +38,3 @@ loop-channel-preserved c =
       same = put.same ∙ old.same;
       partition = put.partition;
     }
-

@@ -1,4 +1,4 @@
-use Rattle.std.proofs.Common.{◌≡◌, ◌+◌, ◌∙◌, ◌++◌, ap, arith, drop, map, length}
+use Rattle.std.proofs.Common.{◌+◌, ◌∙◌, ◌++◌, ap, arith, drop, map, length}
 use Rattle.csdf_core.specs.Ports.{tokens_in}
 use Rattle.csdf_core.proofs.Fillings.{lengths_more}
 use Rattle.csdf_core.proofs.filling.lengths_of.Goals as goal

@@ -1,4 +1,4 @@
-use Rattle.std.proofs.Common.{◌≡◌, ℕ, ◌∙◌, ap, List, map}
+use Rattle.std.proofs.Common.{ℕ, ◌∙◌, ap, List, map}
 use Rattle.csdf_graph.specs.Graph.{channel_view, inputs_of, outputs_of}
 use Rattle.csdf_core.specs.declared.ports.Ports.{Ports}
 use Rattle.csdf_core.proofs.Setups.{gathered_more}

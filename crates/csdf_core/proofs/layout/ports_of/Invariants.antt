@@ -1,4 +1,4 @@
-use Rattle.std.proofs.Common.{◌≡◌, ℕ, List, map}
+use Rattle.std.proofs.Common.{◌≡◌, map}
 use Rattle.std.specs.List.{range_with_len}
 use Rattle.csdf_graph.specs.Graph.{channel_view, inputs_of, outputs_of}
 use Rattle.csdf_core.specs.declared.ports.Ports.{Ports}

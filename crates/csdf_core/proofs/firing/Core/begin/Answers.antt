@@ -9,9 +9,9 @@ use Rattle.csdf_core.proofs.SoundLemmas.{sound_begun, few_started}
 use Rattle.csdf_core.proofs.Peaceful.{peaks_stay}
 use Rattle.csdf_core.proofs.firing.Core.begin.Goals as goal
 
-pub returns-in-Some : goal.returns-in-Some
-returns-in-Some c =
-    rw (← c.self.view_is) (follows_refused _ (Begin c.args.actor) c.in-Some.refusal (rw (← c.self.view_is) at (sym c.begin_refusal.ensures ∙ c.in-Some.is)) (peaks_stay _ _ _ _ _ _ _ c.self.invariant))
+pub returns-in-Some-clause-step : goal.returns-in-Some-clause-step
+returns-in-Some-clause-step c =
+    rw (← c.self.view_is) (follows_refused _ (Begin c.args.actor) c.in-Some.refusal (rw (← c.self.view_is) at (sym c.begin_refusal.ensures.answer ∙ c.in-Some.is)) (peaks_stay _ _ _ _ _ _ _ c.self.invariant) c.self.invariant.partition)
 
 pub overflow_add-self : goal.overflow_add-self
 overflow_add-self c = omega (arith, few_started _ _ _ _ _ _ _ c.self.invariant)
@@ -19,13 +19,13 @@ overflow_add-self c = omega (arith, few_started _ _ _ _ _ _ _ c.self.invariant)
 pub invariant_of-self : goal.invariant_of-self
 invariant_of-self c =
     let p : Present = record { counts = c.self.inside.counts.items; stages = c.self.inside.stages.items; opens = c.self.inside.opens.items; tokens = tokens_in c.self.inside.pool } in
-    let none : refusal c.self.inside.layout p (Begin c.args.actor) ≡ None = rw (← c.self.view_is) at (sym c.begin_refusal.ensures ∙ c.in_default.is) in
+    let none : refusal c.self.inside.layout p (Begin c.args.actor) ≡ None = rw (← c.self.view_is) at (sym c.begin_refusal.ensures.answer ∙ c.in_default.is) in
     let more : c.saturating_sub.result ≡ gift c.args.actor (get_or c.self.inside.counts.items c.args.actor 0) c.self.inside.layout.channels - need c.args.actor (get_or c.self.inside.counts.items c.args.actor 0) c.self.inside.layout.channels =
     (let g = rw (← c.self.view_is) at c.gives-gift.ensures.sum in let n = rw (← c.self.view_is) at c.need-need.ensures in rw (c.saturating_sub.ensures, g, n) refl) in
     sound_begun c.self.inside.layout p c.self.inside.peaks.items c.self.inside.sums.items c.self.inside.started c.self.inside.reserved c.self.inside.pool c.args.actor _ _ c.self.invariant none refl (ap (λ x. c.self.inside.reserved + x) more)
 
-pub returns : goal.returns
-returns c =
+pub returns-clause-step : goal.returns-clause-step
+returns-clause-step c =
     let p : Present = record { counts = c.self.inside.counts.items; stages = c.self.inside.stages.items; opens = c.self.inside.opens.items; tokens = tokens_in c.self.inside.pool } in
-    let none : refusal c.self.inside.layout p (Begin c.args.actor) ≡ None = rw (← c.self.view_is) at (sym c.begin_refusal.ensures ∙ c.in_default.is) in
+    let none : refusal c.self.inside.layout p (Begin c.args.actor) ≡ None = rw (← c.self.view_is) at (sym c.begin_refusal.ensures.answer ∙ c.in_default.is) in
     rw (← c.self.view_is) (follows_accepted _ _ (Begin c.args.actor) _ refl none refl refl c.self.invariant.fit refl c.self.invariant.partition (sym (peaks_stay _ _ _ _ _ _ _ c.self.invariant)))

@@ -17,7 +17,7 @@ use Rattle.csdf_core.proofs.firing.Core.finish.Goals as goal
 
 pub returns-in-Some : goal.returns-in-Some
 returns-in-Some c =
-    rw (← c.self.view_is) (follows_refused _ (Finish c.args.actor) c.in-Some.refusal (rw (← c.self.view_is) at (sym c.finish_refusal.ensures ∙ c.in-Some.is)) (peaks_stay _ _ _ _ _ _ _ c.self.invariant))
+    rw (← c.self.view_is) (follows_refused _ (Finish c.args.actor) c.in-Some.refusal (rw (← c.self.view_is) at (sym c.finish_refusal.ensures ∙ c.in-Some.is)) (peaks_stay _ _ _ _ _ _ _ c.self.invariant) c.self.invariant.partition)
 
 pub invariant_of-self : goal.invariant_of-self
 invariant_of-self c =

@@ -1,5 +1,4 @@
-use Rattle.std.proofs.Common.{rules, ◌≡◌, ℕ, List, [], length, map, replicate, ap, subst, ◌∙◌, sym, true}
-use Rattle.std.specs.Prelude.{ℤ}
+use Rattle.std.proofs.Common.{rules, ◌≡◌, List, length, replicate, ap, subst, ◌∙◌, sym, true}
 use Rattle.std.proofs.lemmas.List.{length-map}
 use Rattle.csdf_pool.specs.Pool.{held_tokens}
 use Rattle.csdf_core.specs.declared.setup.Stage.TheVariants.{Idle}

@@ -16,7 +16,7 @@ use Rattle.csdf_core.proofs.firing.Core.read.Goals as goal
 
 pub returns-in-Some-clause-step : goal.returns-in-Some-clause-step
 returns-in-Some-clause-step c =
-    rw (← c.self.view_is) (follows_refused _ (Read c.args.actor) c.in-Some.refusal (rw (← c.self.view_is) at (sym c.read_refusal.ensures ∙ c.in-Some.is)) (peaks_stay _ _ _ _ _ _ _ c.self.invariant))
+    rw (← c.self.view_is) (follows_refused _ (Read c.args.actor) c.in-Some.refusal (rw (← c.self.view_is) at (sym c.read_refusal.ensures ∙ c.in-Some.is)) (peaks_stay _ _ _ _ _ _ _ c.self.invariant) c.self.invariant.partition)
 
 pub take_inputs-n-requires-clause-enough : goal.take_inputs-n-requires-clause-enough
 take_inputs-n-requires-clause-enough c =

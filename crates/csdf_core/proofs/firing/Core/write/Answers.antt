@@ -20,7 +20,7 @@ use Rattle.csdf_core.proofs.firing.Core.write.Goals as goal
 
 pub returns-in-Some : goal.returns-in-Some
 returns-in-Some c =
-    rw (← c.self.view_is) (follows_refused _ (Write c.args.actor c.args.tokens.now) c.in-Some.refusal (rw (← c.self.view_is) at (sym c.write_refusal.ensures ∙ c.in-Some.is)) (peaks_stay _ _ _ _ _ _ _ c.self.invariant))
+    rw (← c.self.view_is) (follows_refused _ (Write c.args.actor c.args.tokens.now) c.in-Some.refusal (rw (← c.self.view_is) at (sym c.write_refusal.ensures ∙ c.in-Some.is)) (peaks_stay _ _ _ _ _ _ _ c.self.invariant) c.self.invariant.partition)
 
 pub put_outputs-requires-clause-all : goal.put_outputs-requires-clause-all
 put_outputs-requires-clause-all c =

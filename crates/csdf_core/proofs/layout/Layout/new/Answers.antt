@@ -1,9 +1,8 @@
-use Rattle.std.proofs.Common.{◌≡◌, ◌≤◌, ℕ, ◌∙◌, ap, sym, subst, List, length, map}
+use Rattle.std.proofs.Common.{◌≤◌, ℕ, ◌∙◌, ap, sym, subst, List, length, map}
 use Rattle.std.specs.Prelude.{All, Option}
 use Rattle.std.specs.List.{range_with_len}
 use Rattle.std.proofs.lemmas.List.{length-map}
-use Rattle.csdf_graph.specs.Graph as graph
-use Rattle.csdf_graph.specs.Graph.{Graph, channel_view, actor_view, inputs_of, outputs_of}
+use Rattle.csdf_graph.specs.Graph.{Graph, actor_view, inputs_of, outputs_of}
 use Rattle.csdf_core.specs.Layout.{HasCapacities, given_capacity, cells_for, plan_of, plan_for}
 use Rattle.csdf_graph.specs.WellFormed.{IsWellFormed}
 use Rattle.csdf_core.specs.Plan.{Plan}

@@ -1,7 +1,7 @@
 use Rattle.std.proofs.Common.{take, map}
 use Rattle.csdf_core.specs.Shows.{Plays, told}
 use Rattle.csdf_core.specs.Moves.{move_of}
-use Rattle.csdf_core.proofs.play.play_on.Given as goal
+use Rattle.csdf_core.proofs.playing.play_on.Given as goal
 
 -- the moves so far were played
 abbrev pub invariant-loop-next : goal.invariant-loop-next

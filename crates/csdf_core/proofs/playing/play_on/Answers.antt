@@ -4,7 +4,7 @@ use Rattle.std.proofs.Math.ListN.{get_or-map}
 use Rattle.csdf_core.specs.Moves.{move_of}
 use Rattle.csdf_core.specs.Shows.{View, PlayedSome, told}
 use Rattle.csdf_core.proofs.Runs.{plays_more, played_some, on_err}
-use Rattle.csdf_core.proofs.play.play_on.Goals as goal
+use Rattle.csdf_core.proofs.playing.play_on.Goals as goal
 
 pub returns-in_err-reply-clause-some : goal.returns-in_err-reply-clause-some
 returns-in_err-reply-clause-some c =

@@ -1,0 +1,103 @@
+//! Whole lists of moves.
+
+ghost use Rattle.std.specs.Prelude.{◌≡◌, ◌<◌, ◌≤◌, ℕ, [], ◌++◌, All, map, length, slice_index, IfOk, OnErr, take};
+ghost use Rattle.csdf_core.specs.Shows.{Shows, Follows, IsRun, Plays, PlayedSome, replies_in, told};
+ghost use Rattle.csdf_core.specs.Moves.{Read, move_of};
+ghost use Rattle.csdf_core.specs.Layout.{HasCapacities, plan_for};
+ghost use Rattle.csdf_core.specs.State.{opening};
+ghost use Rattle.csdf_core.specs.Step.{replies_of, state_after};
+ghost use Rattle.csdf_core.specs.Streams.{IsPrefix, IsClosedIn, AreWithin, initial, tokens_taken, written_to, peak_of};
+
+use crate::firing::Core;
+use crate::setup::{Move, Refusal, Setup};
+use std::alloc::{AllocError, Global};
+
+/// The answer to a move: the tokens that a read handed out, none for any other move.
+pub type Reply = Result<Vec<i32>, Refusal>;
+
+/// The reply to a move that hands out no tokens.
+fn reply_to(alloc: Global, answer: Result<(), Refusal>) -> Reply
+    ensures { told (λ tokens. tokens.items) result ≡ told (λ _. []) answer }
+{
+    match answer {
+        Ok(()) => Ok(Vec::new(alloc)),
+        Err(refusal) => Err(refusal),
+    }
+}
+
+/// Reads into a list of its own.
+fn read_all(core: &mut Core, alloc: Global, actor: u32) -> Result<Reply, AllocError>
+    ensures step { IfOk result (λ reply. Follows core.old core.new (Read actor) (told (λ tokens. tokens.items) reply)) }
+    ensures same { OnErr result (core.new ≡ core.old) }
+{
+    let mut tokens = vec![in alloc; 0; core.need(actor)]?;
+    match core.read(actor, &mut tokens) {
+        Ok(n) => {
+            tokens.truncate(n);
+            Ok(Ok(tokens))
+        }
+        Err(refusal) => Ok(Err(refusal)),
+    }
+}
+
+/// Makes one move.
+fn play_one(core: &mut Core, alloc: Global, next: &Move) -> Result<Reply, AllocError>
+    ensures step { IfOk result (λ reply. Follows core.old core.new (move_of next.now) (told (λ tokens. tokens.items) reply)) }
+    ensures same { OnErr result (core.new ≡ core.old) }
+{
+    match next {
+        Move::Begin(actor) => Ok(reply_to(alloc, core.begin(*actor))),
+        Move::Read(actor) => read_all(core, alloc, *actor),
+        Move::Write(actor, tokens) => Ok(reply_to(alloc, core.write(*actor, tokens.as_slice()))),
+        Move::Finish(actor) => Ok(reply_to(alloc, core.finish(*actor))),
+        Move::Close(channel) => Ok(reply_to(alloc, core.close(*channel))),
+    }
+}
+
+/// Makes the moves in order, and answers their replies.
+///
+/// An error says that memory ran out; then some of the moves were made, from the first on.
+pub fn play_on(core: &mut Core, alloc: Global, moves: &[Move]) -> Result<Vec<Reply>, AllocError>
+    ensures played { IfOk result (λ replies. Plays core.old core.new (map move_of moves.now) (replies_in replies.items)) }
+    ensures some { OnErr result (PlayedSome core.old core.new (map move_of moves.now)) }
+{
+    let mut replies = Vec::new(alloc);
+    for next in moves {
+        let reply = play_one(core, alloc, next)?;
+        replies.push(reply)?;
+    }
+    Ok(replies)
+}
+
+/// A core, and the replies that it gave.
+#[derive(Drop)]
+pub struct Played {
+    pub core: Core,
+    pub replies: Vec<Reply>,
+}
+
+/// Makes the moves in order, from the state in which nothing has fired, and answers their replies
+/// beside the core that is reached.
+///
+/// The tokens taken from a channel are a prefix of its initial tokens followed by those written to
+/// it, in order. No channel holds more than its capacity, and none takes a token after an accepted
+/// close. Between any two moves each cell is in exactly one of the chains and the free list. An
+/// error says that memory ran out.
+pub fn play(alloc: Global, setup: Setup<'_>, moves: &[Move]) -> Result<Played, AllocError>
+    requires given { HasCapacities setup.graph.now }
+    requires limits { length setup.limits.items ≡ length setup.graph.now.actors }
+    requires supply { length setup.supply.items ≡ length setup.graph.now.actors }
+    requires few { All (λ n. n ≤ 16_384_000) setup.limits.items }
+    ensures plan { IfOk result (λ p. p.core.plan ≡ plan_for setup.entry.graph.now setup.entry.limits.items setup.entry.supply.items setup.entry.firings) }
+    ensures replies { IfOk result (λ p. replies_in p.replies.items ≡ replies_of p.core.plan (opening p.core.plan) (map move_of moves.now)) }
+    ensures shows { IfOk result (λ p. Shows p.core (state_after p.core.plan (opening p.core.plan) (map move_of moves.now))) }
+    ensures peaks { IfOk result (λ p. (c : ℕ) → slice_index p.core.peaks c ≡ peak_of p.core.plan (opening p.core.plan) c (map move_of moves.now)) }
+    ensures prefix { IfOk result (λ p. (c : ℕ) → IsPrefix (tokens_taken p.core.plan c (map move_of moves.now) (replies_in p.replies.items)) (initial p.core.plan c ++ written_to p.core.plan c (map move_of moves.now) (replies_in p.replies.items))) }
+    ensures capacity { IfOk result (λ p. (n : ℕ) → AreWithin p.core.plan (state_after p.core.plan (opening p.core.plan) (take n (map move_of moves.now)))) }
+    ensures closed { IfOk result (λ p. (c : ℕ) → (n : ℕ) → IsClosedIn c (take n (map move_of moves.now)) (take n (replies_in p.replies.items)) → written_to p.core.plan c (map move_of moves.now) (replies_in p.replies.items) ≡ written_to p.core.plan c (take n (map move_of moves.now)) (take n (replies_in p.replies.items))) }
+    ensures partition { IfOk result (λ p. IsRun p.core (map move_of moves.now) (replies_in p.replies.items)) }
+{
+    let mut core = Core::new(alloc, setup)?;
+    let replies = play_on(&mut core, alloc, moves)?;
+    Ok(Played { core, replies })
+}
