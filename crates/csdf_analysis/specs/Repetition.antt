@@ -90,8 +90,10 @@ pub record IsFirstTooLarge (actors : List Actor) (channels : List Channel) (c : 
   pub firings : AreFirings actors r q
   pub over : IsFirstOver q channels c
 
--- when a graph is refused; want of memory says nothing of it
+-- when a graph has no such vector; want of memory says nothing of it
 abbrev pub IsRefused : List Actor → List Channel → AcceptFault → Type 0
 IsRefused actors channels (fault.Unbalanced c) = IsFirstUnbalanced actors channels c
 IsRefused actors channels (fault.TooLarge c) = IsFirstTooLarge actors channels c
+IsRefused actors channels fault.Deadlock = ⊥
+IsRefused actors channels fault.TooTight = ⊥
 IsRefused actors channels fault.Memory = Unit {0}

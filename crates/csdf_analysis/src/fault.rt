@@ -18,6 +18,13 @@ pub enum AcceptFault {
     /// The first channel whose full capacity is above 65,535.
     #[error("too large at channel {0}")]
     TooLarge(u32),
+    /// The full capacities, of each channel its initial tokens and all that its producer puts in
+    /// within a period, complete no period.
+    #[error("deadlock")]
+    Deadlock,
+    /// The full capacities complete a period, and none that agree with the given ones do.
+    #[error("too tight")]
+    TooTight,
     /// Memory ran out, which says nothing of the graph.
     #[error("out of memory")]
     Memory,

@@ -4,11 +4,13 @@
 mod balance;
 mod fault;
 mod gcd;
+mod laws;
 mod least;
 mod members;
 mod vector;
 
 pub use fault::AcceptFault;
+pub use laws::{every_schedule_goes_on, full_capacity_suffices, greater_capacities_complete};
 pub use least::repetition;
 pub use vector::Vector;
 
