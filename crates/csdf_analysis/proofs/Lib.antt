@@ -6,3 +6,4 @@ pub mod BoundLemmas
 pub mod CountLemmas
 pub mod PeriodLemmas
 pub mod RoomLemmas
+pub mod FitLemmas

@@ -7,6 +7,9 @@ mod gcd;
 mod laws;
 mod least;
 mod members;
+mod net;
+mod ports;
+mod run;
 mod vector;
 
 pub use fault::AcceptFault;

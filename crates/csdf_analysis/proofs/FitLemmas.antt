@@ -1,0 +1,99 @@
+-- What the limits of a graph say of a run, and the channels of each actor.
+use Rattle.std.proofs.Common.{◌≡◌, ◌≢◌, ℕ, zero, suc, ◌+◌, ◌*◌, ◌<◌, ◌≤◌, ◌==◌, inl, inr, Bool, true, false, cond, List, [], ◌∷◌, ◌++◌, length, get_or, set, map, sum, refl, sym, ap, subst, ◌∙◌, arith}
+use Rattle.std.specs.Prelude.{All, slice_get, slice_index, slice_index_or, Some}
+use Rattle.std.proofs.Math.Seq.{get_or-append_seam}
+use Rattle.std.proofs.lemmas.List.{get_or_append_left, get_or_default, length_push}
+use Rattle.std.proofs.lemmas.Option.{slice_get_within, get_or_from_slice_get, slice_get_read}
+use Rattle.std.proofs.lemmas.Bool.{cases_Bool, eqb-true, eq-eqb}
+use Rattle.csdf_graph.specs.Graph.{Channel, numbers_from, inputs_of, outputs_of}
+use Rattle.csdf_graph.specs.Rates.{produced, consumed}
+use Rattle.csdf_analysis.specs.declared.ports.Ports.{Ports}
+use Rattle.csdf_analysis.specs.Repetition.{full_capacity}
+use Rattle.csdf_analysis.specs.Laws.{IsWithinAll}
+use Rattle.csdf_analysis.specs.Fitting.{IsBetween, IsFit, ArePorts, AreGathered}
+use Rattle.csdf_analysis.proofs.CountLemmas.{same_or_not, total_mono}
+
+-- ---- one channel
+
+pub at : {X : Type 0} (P : X → Type 0) (xs : List X) (i : ℕ) (x : X) → All P xs → slice_get xs i ≡ Some x → P x
+at P xs i x all is = subst P (get_or_from_slice_get xs i x x is) (all i x (slice_get_within xs i x is))
+
+pub between_at : (channels : List Channel) (q : List ℕ) (i : ℕ) (c : Channel) → IsFit channels q → slice_get channels i ≡ Some c → IsBetween (length q) c
+between_at channels q i c fit is = at (IsBetween (length q)) channels i c fit.between is
+
+pub put_small : (channels : List Channel) (q n : List ℕ) (i : ℕ) (c : Channel) → IsFit channels q → slice_get channels i ≡ Some c → IsWithinAll n q → length c.initial + produced c (get_or n c.from 0) ≤ 65535
+put_small channels q n i c fit is within =
+    let room : full_capacity q c ≤ 65535 = at (λ d. full_capacity q d ≤ 65535) channels i c fit.room is in
+    let more : produced c (get_or n c.from 0) ≤ produced c (get_or q c.from 0) = total_mono c.produce (get_or n c.from 0) (get_or q c.from 0) (within c.from) in
+    omega arith
+
+-- ---- gathering
+
+pub gathered_more : (channels : List Channel) (ports next : List Ports) (n : ℕ) (p : Ports) → next ≡ ports ++ p ∷ [] → ArePorts channels n p → AreGathered channels n ports → AreGathered channels (n + 1) next
+gathered_more channels ports next n p pushed is are =
+    let len : length next ≡ length ports + 1 = ap length pushed ∙ length_push ports p in
+    record {
+      count = (let before = are.count in omega arith);
+      each = λ a d lt. elim (same_or_not a n) [
+        | inl last ↦ subst (λ x. ArePorts channels a x) (sym (ap (λ xs. get_or xs a d) pushed ∙ ap (λ k. get_or (ports ++ p ∷ []) k d) (last ∙ sym are.count) ∙ get_or-append_seam ports p [] d)) (subst (λ k. ArePorts channels k p) (sym last) is)
+        | inr other ↦
+            let before : a < n = omega (arith, other) in
+            subst (λ x. ArePorts channels a x) (sym (ap (λ xs. get_or xs a d) pushed ∙ get_or_append_left ports (p ∷ []) d a (let count = are.count in omega arith))) (are.each a d before)
+      ];
+    }
+
+-- ---- the numbers of some of the channels
+
+-- the place of the channel, counted from i on
+abbrev IsFrom : ℕ → List Channel → (Channel → Bool) → ℕ → Type 0
+IsFrom i channels own number = (j : ℕ) × (c : Channel) × (number ≡ i + j) × (slice_get channels j ≡ Some c) × (own c ≡ true)
+
+own_from : (own : Channel → Bool) (i : ℕ) (channels : List Channel) (k : ℕ) → k < length (numbers_from i own channels) → IsFrom i channels own (get_or (numbers_from i own channels) k 0)
+own_from own i [] k lt = absurd (omega arith)
+own_from own i (c ∷ channels) k lt = by (λ m less. own_from own (suc i) channels m less) (own c) refl k lt
+  where
+    later : (number : ℕ) → IsFrom (suc i) channels own number → IsFrom i (c ∷ channels) own number
+    later number from =
+        let e : number ≡ i + suc (from.0) = (let before = from.2 in omega arith) in
+        (suc (from.0), from.1, e, from.3, from.4)
+    by : ((m : ℕ) → m < length (numbers_from (suc i) own channels) → IsFrom (suc i) channels own (get_or (numbers_from (suc i) own channels) m 0))
+        → (b : Bool) → own c ≡ b → (m : ℕ) → m < length (cond b (i ∷ numbers_from (suc i) own channels) (numbers_from (suc i) own channels))
+        → IsFrom i (c ∷ channels) own (get_or (cond b (i ∷ numbers_from (suc i) own channels) (numbers_from (suc i) own channels)) m 0)
+    by rest true mine zero less = (0, c, omega arith, refl, mine)
+    by rest true mine (suc m) less = later (get_or (numbers_from (suc i) own channels) m 0) (rest m (omega arith))
+    by rest false mine m less = later (get_or (numbers_from (suc i) own channels) m 0) (rest m less)
+
+-- its number stands in the list
+abbrev Stands : ℕ → List ℕ → Type 0
+Stands number numbers = (k : ℕ) × (k < length numbers) × (get_or numbers k 0 ≡ number)
+
+stands_from : (own : Channel → Bool) (i : ℕ) (channels : List Channel) (j : ℕ) (c : Channel) → slice_get channels j ≡ Some c → own c ≡ true → Stands (i + j) (numbers_from i own channels)
+stands_from own i [] j c is mine = absurd (let lt = slice_get_within [] j c is in omega arith)
+stands_from own i (d ∷ channels) zero c is mine =
+    let same : d ≡ c = cc in
+    subst (λ b. Stands (i + 0) (cond b (i ∷ numbers_from (suc i) own channels) (numbers_from (suc i) own channels))) (sym (ap own same ∙ mine)) (0, omega arith, omega arith)
+stands_from own i (d ∷ channels) (suc j) c is mine = later (own d) (stands_from own (suc i) channels j c is mine)
+  where
+    later : (b : Bool) → Stands (suc i + j) (numbers_from (suc i) own channels) → Stands (i + suc j) (cond b (i ∷ numbers_from (suc i) own channels) (numbers_from (suc i) own channels))
+    later true s = (let e = s.2 in (suc (s.0), omega (arith, s.1), omega arith))
+    later false s = (let e = s.2 in (s.0, s.1, omega arith))
+
+-- each number of the list is that of such a channel
+pub own_at : (own : Channel → Bool) (channels : List Channel) (k : ℕ) → k < length (numbers_from 0 own channels) → (c : Channel) × (slice_get channels (get_or (numbers_from 0 own channels) k 0) ≡ Some c) × (own c ≡ true)
+own_at own channels k lt =
+    let from = own_from own 0 channels k lt in
+    let e : get_or (numbers_from 0 own channels) k 0 ≡ from.0 = (let before = from.2 in omega arith) in
+    (from.1, ap (slice_get channels) e ∙ from.3, from.4)
+
+-- and each such channel has its number there
+pub stands_at : (own : Channel → Bool) (channels : List Channel) (j : ℕ) (c : Channel) → slice_get channels j ≡ Some c → own c ≡ true → (k : ℕ) × (k < length (numbers_from 0 own channels)) × (get_or (numbers_from 0 own channels) k 0 ≡ j)
+stands_at own channels j c is mine =
+    let s = stands_from own 0 channels j c is mine in
+    (s.0, s.1, (let e = s.2 in omega arith))
+
+pub numbers_within : (own : Channel → Bool) (channels : List Channel) → All (λ i. i < length channels) (numbers_from 0 own channels)
+numbers_within own channels = λ k d lt.
+    (let at = own_at own channels k lt in
+    let same : get_or (numbers_from 0 own channels) k d ≡ get_or (numbers_from 0 own channels) k 0 = get_or_default (numbers_from 0 own channels) k d 0 lt in
+    let within = slice_get_within channels (get_or (numbers_from 0 own channels) k 0) at.0 at.1 in
+    omega arith)
