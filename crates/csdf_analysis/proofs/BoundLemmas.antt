@@ -18,7 +18,7 @@ use Rattle.csdf_analysis.specs.Repetition.{IsWithin, HaveRoom, full_capacity, Is
 use Rattle.csdf_analysis.specs.Members.{IsLink}
 use Rattle.csdf_analysis.proofs.LeastLemmas.{channel_at}
 
-rate_within : (rates : List ℕ) (n : ℕ) → All (λ x. x ≤ 64) rates → rate rates n ≤ 64
+pub rate_within : (rates : List ℕ) (n : ℕ) → All (λ x. x ≤ 64) rates → rate rates n ≤ 64
 rate_within [] n small = omega arith
 rate_within (x ∷ xs) n small = All-get_or (λ y. y ≤ 64) (x ∷ xs) (n % length (x ∷ xs)) 0 (mod-lt n {m = length (x ∷ xs)} (omega arith)) small
 

@@ -1,12 +1,11 @@
 -- What the limits of a graph say of a run, and the channels of each actor.
-use Rattle.std.proofs.Common.{◌≡◌, ◌≢◌, ℕ, zero, suc, ◌+◌, ◌*◌, ◌<◌, ◌≤◌, ◌==◌, inl, inr, Bool, true, false, cond, List, [], ◌∷◌, ◌++◌, length, get_or, set, map, sum, refl, sym, ap, subst, ◌∙◌, arith}
-use Rattle.std.specs.Prelude.{All, slice_get, slice_index, slice_index_or, Some}
+use Rattle.std.proofs.Common.{◌≡◌, ℕ, zero, suc, ◌+◌, ◌<◌, ◌≤◌, inl, inr, Bool, true, false, cond, List, [], ◌∷◌, ◌++◌, length, get_or, refl, sym, ap, subst, ◌∙◌, arith}
+use Rattle.std.specs.Prelude.{All, slice_get, Some}
 use Rattle.std.proofs.Math.Seq.{get_or-append_seam}
 use Rattle.std.proofs.lemmas.List.{get_or_append_left, get_or_default, length_push}
-use Rattle.std.proofs.lemmas.Option.{slice_get_within, get_or_from_slice_get, slice_get_read}
-use Rattle.std.proofs.lemmas.Bool.{cases_Bool, eqb-true, eq-eqb}
-use Rattle.csdf_graph.specs.Graph.{Channel, numbers_from, inputs_of, outputs_of}
-use Rattle.csdf_graph.specs.Rates.{produced, consumed}
+use Rattle.std.proofs.lemmas.Option.{slice_get_within, get_or_from_slice_get}
+use Rattle.csdf_graph.specs.Graph.{Channel, numbers_from}
+use Rattle.csdf_graph.specs.Rates.{produced}
 use Rattle.csdf_analysis.specs.declared.ports.Ports.{Ports}
 use Rattle.csdf_analysis.specs.Repetition.{full_capacity}
 use Rattle.csdf_analysis.specs.Laws.{IsWithinAll}
@@ -56,6 +55,7 @@ own_from own i (c ∷ channels) k lt = by (λ m less. own_from own (suc i) chann
     later number from =
         let e : number ≡ i + suc (from.0) = (let before = from.2 in omega arith) in
         (suc (from.0), from.1, e, from.3, from.4)
+
     by : ((m : ℕ) → m < length (numbers_from (suc i) own channels) → IsFrom (suc i) channels own (get_or (numbers_from (suc i) own channels) m 0))
         → (b : Bool) → own c ≡ b → (m : ℕ) → m < length (cond b (i ∷ numbers_from (suc i) own channels) (numbers_from (suc i) own channels))
         → IsFrom i (c ∷ channels) own (get_or (cond b (i ∷ numbers_from (suc i) own channels) (numbers_from (suc i) own channels)) m 0)

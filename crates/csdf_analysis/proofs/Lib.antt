@@ -7,3 +7,6 @@ pub mod CountLemmas
 pub mod PeriodLemmas
 pub mod RoomLemmas
 pub mod FitLemmas
+pub mod RunLemmas
+pub mod SearchLemmas
+pub mod LowerLemmas

@@ -1,13 +1,12 @@
 -- Persistence: an actor that is able to fire stays so while others fire. So counts that a schedule reached go on wherever another one does.
-use Rattle.std.proofs.Common.{◌≡◌, ℕ, zero, suc, ◌+◌, ◌-◌, ◌<◌, ◌≤◌, ◌⊎◌, inl, inr, ◌==◌, cond, List, [], ◌∷◌, ◌++◌, length, replicate, get_or, sum, refl, sym, ap, subst, ◌∙◌, arith}
-use Rattle.std.specs.Prelude.{slice_get, slice_index, Some}
+use Rattle.std.proofs.Common.{◌≡◌, ℕ, zero, suc, ◌+◌, ◌-◌, ◌<◌, ◌≤◌, inl, inr, cond, List, [], ◌∷◌, ◌++◌, length, replicate, get_or, sum, refl, sym, ap, subst, ◌∙◌, arith}
+use Rattle.std.specs.Prelude.{slice_get, Some}
 use Rattle.std.proofs.Math.Nat.{eq-or-lt_of_le}
 use Rattle.std.proofs.lemmas.Bool.{eq-eqb, ne_eqb}
 use Rattle.std.proofs.lemmas.List.{length-replicate}
 use Rattle.csdf_graph.specs.Graph.{Channel}
-use Rattle.csdf_graph.specs.Rates.{rate, total, produced, consumed, production, consumption}
-use Rattle.csdf_analysis.specs.Repetition.{full_capacity}
-use Rattle.csdf_analysis.specs.Period.{held, own_consumption, held_after, CanFire, fired, IsSchedule, counts_after, no_firings, IsReached, HoldInitial, CompletesPeriod, CanGo}
+use Rattle.csdf_graph.specs.Rates.{rate, produced, consumed, consumption}
+use Rattle.csdf_analysis.specs.Period.{held, own_consumption, held_after, CanFire, fired, IsSchedule, counts_after, no_firings, IsReached, CompletesPeriod, CanGo}
 use Rattle.csdf_analysis.specs.Laws.{IsWithinAll}
 use Rattle.csdf_analysis.proofs.CountLemmas.{same_or_not, total_mono, fired_same, fired_other, fired_length, fired_more, fired_within, fired_both, fired_sum, none_at, some_less, all_same}
 
@@ -185,7 +184,7 @@ some_can_go channels q bounds more (x ∷ actors) m n len greater fed_m fed_n wi
 within_self : (xs : List ℕ) → IsWithinAll xs xs
 within_self xs i = omega arith
 
-from_none : (q n : List ℕ) → IsWithinAll (no_firings q) n
+pub from_none : (q n : List ℕ) → IsWithinAll (no_firings q) n
 from_none q n b = let none = none_at (length q) b in omega arith
 
 -- capacities that complete a period let some actor fire until its counts are reached

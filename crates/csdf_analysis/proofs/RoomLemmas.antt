@@ -1,14 +1,14 @@
 -- Capacities that complete a period, against others.
-use Rattle.std.proofs.Common.{◌≡◌, ℕ, zero, suc, ◌+◌, ◌-◌, ◌<◌, ◌≤◌, ◌⊎◌, inl, inr, min, List, [], ◌∷◌, length, replicate, get_or, sum, refl, sym, ap, subst, ◌∙◌, arith}
+use Rattle.std.proofs.Common.{◌≡◌, ℕ, suc, ◌-◌, ◌<◌, ◌≤◌, ◌⊎◌, inl, inr, min, List, [], ◌∷◌, length, get_or, sum, ap, subst, ◌∙◌, arith}
 use Rattle.std.specs.Prelude.{slice_get, Some}
 use Rattle.std.proofs.lemmas.List.{length-replicate}
 use Rattle.csdf_graph.specs.Graph.{Channel}
-use Rattle.csdf_graph.specs.Rates.{rate, total, produced, consumed, production, consumption}
+use Rattle.csdf_graph.specs.Rates.{produced}
 use Rattle.csdf_analysis.specs.Repetition.{full_capacity}
-use Rattle.csdf_analysis.specs.Period.{held, own_consumption, held_after, CanFire, fired, IsSchedule, counts_after, no_firings, IsReached, HoldInitial, CompletesPeriod, CanGo}
-use Rattle.csdf_analysis.specs.Laws.{IsWithinAll, AreCapped, GoesOn, GreaterCapacitiesComplete, FullCapacitySuffices, EveryScheduleGoesOn}
+use Rattle.csdf_analysis.specs.Period.{held_after, fired, IsSchedule, counts_after, no_firings, CompletesPeriod}
+use Rattle.csdf_analysis.specs.Laws.{GreaterCapacitiesComplete, FullCapacitySuffices, EveryScheduleGoesOn}
 use Rattle.csdf_analysis.proofs.CountLemmas.{less_or_not, total_mono, fired_same, sum_within}
-use Rattle.csdf_analysis.proofs.PeriodLemmas.{IsFed, after_more, after_length, fed_after, fed_first, rest_of}
+use Rattle.csdf_analysis.proofs.PeriodLemmas.{after_more, after_length, fed_after, fed_first, rest_of}
 
 -- each capacity is at least that of another list, or the full one
 pub record AreEnough (channels : List Channel) (q bounds more : List ℕ) : Type 0 where

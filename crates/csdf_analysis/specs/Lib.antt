@@ -1,7 +1,9 @@
+pub mod Acceptance
 pub mod Capacities
 pub mod Divisor
 pub mod Fitting
 pub mod Laws
+pub mod Lowering
 pub mod Members
 pub mod Period
 pub mod Repetition

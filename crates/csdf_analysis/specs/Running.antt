@@ -1,15 +1,15 @@
 -- Where a run of a period stands.
-use Rattle.std.specs.Prelude.{◌≡◌, ℕ, ◌+◌, ◌<◌, ◌≤◌, List, length, sum, slice_index, slice_set, slice_get, Some}
+use Rattle.std.specs.Prelude.{◌≡◌, ℕ, ◌≤◌, List, length, sum, slice_index, slice_set, slice_get, Some}
 use Rattle.csdf_graph.specs.Graph.{Channel}
 use Rattle.csdf_graph.specs.Rates.{consumption}
 use Rattle.csdf_analysis.specs.declared.run.Run.{Run}
-use Rattle.csdf_analysis.specs.Period.{held, held_after, IsReached, HoldInitial, CompletesPeriod, CanGo}
+use Rattle.csdf_analysis.specs.Period.{held as held_by, held_after, IsReached, CompletesPeriod, CanGo}
 use Rattle.csdf_analysis.specs.Laws.{IsWithinAll}
 use Rattle.csdf_analysis.specs.Fitting.{Period}
 
 -- each input holds what the actor's next firing takes
 abbrev pub HasTokens : List Channel → List ℕ → ℕ → Type 0
-HasTokens channels n a = (i : ℕ) (c : Channel) → slice_get channels i ≡ Some c → c.to ≡ a → consumption c (slice_index n a) ≤ held c n
+HasTokens channels n a = (i : ℕ) (c : Channel) → slice_get channels i ≡ Some c → c.to ≡ a → consumption c (slice_index n a) ≤ held_by c n
 
 -- each output has room for what it puts in
 abbrev pub HasRoom : List Channel → List ℕ → List ℕ → ℕ → Type 0
@@ -17,7 +17,7 @@ HasRoom channels bounds n a = (i : ℕ) (c : Channel) → slice_get channels i �
 
 -- a list has at this place what the channel of the number holds
 abbrev pub IsRight : List Channel → List ℕ → List ℕ → ℕ → Type 0
-IsRight channels n lengths i = (c : Channel) → slice_get channels i ≡ Some c → slice_index lengths i ≡ held c n
+IsRight channels n lengths i = (c : Channel) → slice_get channels i ≡ Some c → slice_index lengths i ≡ held_by c n
 
 -- it has so for each channel
 abbrev pub AreHeld : List Channel → List ℕ → List ℕ → Type 0
@@ -26,11 +26,13 @@ AreHeld channels n lengths = (i : ℕ) → IsRight channels n lengths i
 -- the counts were reached by a schedule under the bounds, none is above the firings of the period, and the lengths and the number of firings are those of these counts
 pub record IsAt (channels : List Channel) (q bounds counts lengths : List ℕ) (firings : ℕ) : Type 0 where
   pub each_bound : length bounds ≡ length channels
+  pub each_actor : length counts ≡ length q
   pub each_length : length lengths ≡ length channels
   pub reached : IsReached channels q bounds counts
   pub within : IsWithinAll counts q
-  pub lengths : AreHeld channels counts lengths
+  pub held : AreHeld channels counts lengths
   pub counted : firings ≡ sum counts
+  pub few : sum q ≤ 1048576
 
 abbrev pub IsRun : Period → Run → Type 0
 IsRun p r = IsAt p.channels p.firings r.bounds.items r.counts.items r.lengths.items r.firings

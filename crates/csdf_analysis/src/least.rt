@@ -50,7 +50,7 @@ fn firings(alloc: Global, actors: &[Actor], r: &[u32]) -> Result<Vec<u32>, Alloc
 }
 
 /// The initial tokens of the channel and all that its producer puts in within a period.
-fn full_capacity(channel: &Channel, q: &[u32]) -> u64
+pub(crate) fn full_capacity(channel: &Channel, q: &[u32]) -> u64
     requires { IsWithin (length q.now) (channel_view channel.now) }
     ensures { result ≡ full_capacity q.now (channel_view channel.now) }
 {

@@ -1,7 +1,9 @@
 //! Analysis of cyclo-static dataflow graphs: the least repetition vector.
 #![tactic(auto)]
 
+mod accepted;
 mod balance;
+mod bounds;
 mod fault;
 mod gcd;
 mod laws;
@@ -9,12 +11,18 @@ mod least;
 mod members;
 mod net;
 mod ports;
+mod printed;
 mod run;
+mod search;
 mod vector;
 
+pub use accepted::{Accepted, accept};
+pub use bounds::capacities;
 pub use fault::AcceptFault;
 pub use laws::{every_schedule_goes_on, full_capacity_suffices, greater_capacities_complete};
 pub use least::repetition;
+pub use printed::schedule;
+pub use search::raise;
 pub use vector::Vector;
 
 #[cfg(test)]

@@ -1,6 +1,6 @@
 //! What a run plays: the channels of a graph and the firings of a period.
 
-ghost use Rattle.std.specs.Prelude.{◌≡◌, ◌<◌, ◌≤◌, IfOk, Some, length, map, slice_get, slice_index, sum};
+ghost use Rattle.std.specs.Prelude.{◌≡◌, ◌<◌, ◌≤◌, All, IfOk, Some, length, map, slice_get, slice_index, sum};
 ghost use Rattle.csdf_graph.specs.Graph.{Channel as ChannelModel, channel_view, inputs_of, outputs_of};
 ghost use Rattle.csdf_analysis.specs.Period.{held};
 ghost use Rattle.csdf_analysis.specs.Laws.{IsWithinAll};
@@ -53,6 +53,7 @@ impl<'a> Net<'a> {
     pub(crate) fn actors(&self) -> usize
         ensures count { result ≡ length self.now.firings }
         ensures few { result ≤ 64 }
+        ensures fit { IsFit self.now.channels self.now.firings }
     {
         self.firings.len()
     }
@@ -78,7 +79,8 @@ impl<'a> Net<'a> {
     /// The numbers of the channels that end at the actor.
     pub(crate) fn inputs(&self, actor: u32) -> &[u32]
         requires { actor < length self.now.firings }
-        ensures { result.now ≡ inputs_of self.now.channels actor }
+        ensures value { result.now ≡ inputs_of self.now.channels actor }
+        ensures within { All (λ i. i < length self.now.channels) result.now }
     {
         let ports = &self.ports[actor as usize];
         &ports.inputs
@@ -87,7 +89,8 @@ impl<'a> Net<'a> {
     /// The numbers of the channels that begin at the actor.
     pub(crate) fn outputs(&self, actor: u32) -> &[u32]
         requires { actor < length self.now.firings }
-        ensures { result.now ≡ outputs_of self.now.channels actor }
+        ensures value { result.now ≡ outputs_of self.now.channels actor }
+        ensures within { All (λ i. i < length self.now.channels) result.now }
     {
         let ports = &self.ports[actor as usize];
         &ports.outputs

@@ -1,13 +1,14 @@
 //! A run of a period: actors fire as long as one can.
 
-ghost use Rattle.std.specs.Prelude.{◌≡◌, ◌+◌, ◌<◌, ◌≤◌, ◌↔◌, ℕ, All, EachIndex, IfOk, IsTrue, MatchOption, Some, length, replicate, slice_get, slice_index};
-ghost use Rattle.csdf_graph.specs.Graph.{Channel as ChannelModel};
+ghost use Rattle.std.specs.Prelude.{◌≡◌, ◌+◌, ◌<◌, ◌≤◌, ◌↔◌, ◌==◌, if◌then◌else◌, ℕ, All, EachIndex, IfOk, IsTrue, MatchOption, Some, length, replicate, slice_get, slice_index, slice_set, sum};
+ghost use Rattle.csdf_graph.specs.Graph.{Channel as ChannelModel, channel_view};
 ghost use Rattle.csdf_graph.specs.Rates.{consumption};
 ghost use Rattle.csdf_analysis.specs.Period.{CanGo, IsNext, fired, held, held_after, no_firings};
 ghost use Rattle.csdf_analysis.specs.Laws.{IsWithinAll};
-ghost use Rattle.csdf_analysis.specs.Running.{HasTokens, HasRoom, IsRight, IsRun, IsStalled, AreHeld};
+ghost use Rattle.csdf_analysis.specs.Running.{AreHeld, CanComplete, HasRoom, HasTokens, IsLow, IsRight, IsRun, IsStalled};
 
 use crate::net::Net;
+use csdf_graph::Channel;
 use std::alloc::{AllocError, Global};
 
 /// Where a run stands: the capacities that bound it, how often each actor has fired, how many
@@ -32,6 +33,18 @@ fn lengths_of(alloc: Global, net: &Net, counts: &[u32]) -> Result<Vec<u32>, Allo
         lengths.push(net.held(number, counts))?;
     }
     Ok(lengths)
+}
+
+/// How many tokens the producer's firing takes out of its channel: none where another actor is the
+/// consumer.
+fn own_consumption(channel: &Channel, firing: u32) -> u32
+    ensures { result ≡ (if (channel_view channel.now).to == (channel_view channel.now).from then consumption (channel_view channel.now) firing else 0) }
+{
+    if channel.to == channel.from {
+        channel.consumption(firing)
+    } else {
+        0
+    }
 }
 
 /// As many zeros.
@@ -76,11 +89,7 @@ impl Run {
     {
         let channel = net.channel(number);
         let firing = self.counts[channel.from as usize];
-        let own = if channel.to == channel.from {
-            channel.consumption(firing)
-        } else {
-            0
-        };
+        let own = own_consumption(channel, firing);
         self.lengths[number as usize].saturating_sub(own) + channel.production(firing)
     }
 
@@ -181,5 +190,25 @@ impl Run {
         while let Some(actor) = self.next(net) {
             self.fire(net, actor);
         }
+    }
+
+    /// At a stall, raises the channel's bound to the least that lets its producer fire, and fires
+    /// it.
+    pub(crate) fn raise(&mut self, net: &Net, number: u32)
+        requires exists { number < length net.now.channels }
+        requires run { IsRun net.now self.old }
+        requires stalled { IsStalled net.now.channels net.now.firings self.old.bounds.items self.old.counts.items }
+        requires left { self.old.firings < sum net.now.firings }
+        requires can { CanComplete net.now.channels net.now.firings self.old.bounds.items number }
+        requires low { IsLow net.now.channels net.now.firings self.old.bounds.items number }
+        ensures run { IsRun net.now self.new }
+        ensures bounds { self.new.bounds.items ≡ slice_set self.old.bounds.items number (slice_index self.new.bounds.items number) }
+        ensures raised { slice_index self.old.bounds.items number ≤ slice_index self.new.bounds.items number }
+        ensures low { IsLow net.now.channels net.now.firings self.new.bounds.items number }
+        ensures firings { self.new.firings ≡ self.old.firings + 1 }
+    {
+        let producer = net.channel(number).from;
+        self.bounds[number as usize] = self.filled(net, number);
+        self.fire(net, producer);
     }
 }

@@ -1,5 +1,4 @@
-use Rattle.std.proofs.Common.{◌≤◌, ◌+◌, arith}
-use Rattle.csdf_graph.specs.Graph.{channel_view}
+use Rattle.std.proofs.Common.{arith}
 use Rattle.csdf_analysis.proofs.FitLemmas.{between_at, put_small}
 use Rattle.csdf_analysis.proofs.net.Net.held.Goals as goal
 

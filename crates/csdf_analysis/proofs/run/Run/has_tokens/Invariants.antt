@@ -1,0 +1,9 @@
+use Rattle.std.proofs.Common.{◌≡◌, ◌<◌, ◌≤◌, ℕ, Some}
+use Rattle.std.specs.Prelude.{slice_get, slice_index}
+use Rattle.csdf_graph.specs.Graph.{Channel}
+use Rattle.csdf_graph.specs.Rates.{consumption}
+use Rattle.csdf_analysis.specs.Period.{held}
+use Rattle.csdf_analysis.proofs.run.Run.has_tokens.Given as goal
+
+abbrev pub invariant-loop-number : goal.invariant-loop-number
+invariant-loop-number l = (k : ℕ) → k < l.number-index → (c : Channel) → slice_get l.net.channels (slice_index l.number-items k) ≡ Some c → consumption c l.firing ≤ held c l.self.counts.items

@@ -1,0 +1,120 @@
+//! Graphs that can run for ever in bounded buffers.
+
+ghost use Rattle.std.specs.Prelude.{◌≡◌, ◌<◌, ◌^◌, IfErr, IfOk, sum};
+ghost use Rattle.csdf_analysis.specs.Acceptance.{IsAccepted, IsNotAccepted, cells_of};
+
+use crate::bounds::capacities;
+use crate::fault::AcceptFault;
+use crate::least::repetition;
+use crate::vector::Vector;
+use csdf_graph::Graph;
+use std::alloc::{AllocError, Global};
+use std::marker::Model;
+
+/// A graph with its least repetition vector and its least capacities.
+#[derive(Drop)]
+pub struct Accepted {
+    graph: Graph,
+    vector: Vector,
+    capacities: Vec<u32>,
+}
+
+impl Model for Accepted {
+    ghost use Rattle.csdf_analysis.specs.Acceptance.{Accepted as AcceptedModel, IsAccepted};
+
+    ghost Value = { AcceptedModel };
+
+    ghost view = { λ a. record { graph = a.graph; r = a.vector.r.items; q = a.vector.q.items; capacities = a.capacities.items } };
+
+    ghost invariant = { λ a. IsAccepted (record { graph = a.graph; r = a.vector.r.items; q = a.vector.q.items; capacities = a.capacities.items }) };
+}
+
+/// Accepts a graph that has a least repetition vector within the limits and capacities that
+/// complete a period.
+///
+/// The refusals are those of [`repetition`] and then those of [`capacities`]; each hands the graph
+/// back as it was.
+pub fn accept(alloc: Global, graph: Graph) -> Result<Accepted, (Graph, AcceptFault)>
+    ensures graph { IfOk result (λ accepted. accepted.graph ≡ graph) }
+    ensures accepted { IfOk result IsAccepted }
+    ensures unchanged { IfErr result (λ refused. refused.0 ≡ graph) }
+    ensures refusal { IfErr result (λ refused. IsNotAccepted graph refused.1) }
+{
+    let vector = match repetition(alloc, &graph) {
+        Ok(vector) => vector,
+        Err(fault) => return Err((graph, fault)),
+    };
+    let capacities = match capacities(alloc, &graph, &vector) {
+        Ok(capacities) => capacities,
+        Err(fault) => return Err((graph, fault)),
+    };
+    Ok(Accepted {
+        graph,
+        vector,
+        capacities,
+    })
+}
+
+/// The sum of the numbers.
+fn sum_of(numbers: &[u32]) -> u32
+    requires { sum numbers.now < 2 ^ 32 }
+    ensures { result ≡ sum numbers.now }
+{
+    numbers.iter().sum()
+}
+
+impl Accepted {
+    /// The graph that was accepted.
+    pub fn graph(&self) -> &Graph
+        ensures graph { result.now ≡ self.now.graph }
+        ensures accepted { IsAccepted self.now }
+    {
+        &self.graph
+    }
+
+    /// How often each actor fires in a period.
+    pub fn vector(&self) -> &Vector
+        ensures cycles { result.now.r.items ≡ self.now.r }
+        ensures firings { result.now.q.items ≡ self.now.q }
+        ensures accepted { IsAccepted self.now }
+    {
+        &self.vector
+    }
+
+    /// The capacity of each channel, in file order: the lexicographically least that complete a
+    /// period and agree with every given one.
+    pub fn capacities(&self) -> &[u32]
+        ensures value { result.now ≡ self.now.capacities }
+        ensures accepted { IsAccepted self.now }
+    {
+        &self.capacities
+    }
+
+    /// The number of cells that all channels share: the number that the file gives, or else the
+    /// sum of the capacities.
+    pub fn cells(&self) -> u32
+        ensures { result ≡ cells_of self.now }
+    {
+        match self.graph.cells() {
+            Some(cells) => cells,
+            None => sum_of(&self.capacities),
+        }
+    }
+
+    /// An equal value in memory of its own.
+    ///
+    /// An error says that memory ran out.
+    pub fn try_copy(&self) -> Result<Accepted, AllocError>
+        ensures { IfOk result (λ accepted. accepted ≡ self.now) }
+    {
+        let graph = self.graph.try_copy()?;
+        let r = self.vector.r.clone()?;
+        let q = self.vector.q.clone()?;
+        let capacities = self.capacities.clone()?;
+        Ok(Accepted {
+            graph,
+            vector: Vector { r, q },
+            capacities,
+        })
+    }
+}
