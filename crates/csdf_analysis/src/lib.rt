@@ -26,4 +26,6 @@ pub use search::raise;
 pub use vector::Vector;
 
 #[cfg(test)]
+mod accept_tests;
+#[cfg(test)]
 mod tests;

@@ -3,7 +3,7 @@ use csdf_graph::{Graph, read_graph};
 use std::test::Fail;
 
 /// A source that gives 2, a stage that takes 3 and gives 1, and a sink that takes 2.
-const CHAIN: &str = r#"actor = [
+pub(crate) const CHAIN: &str = r#"actor = [
   { name = "a", kernel = "source" },
   { name = "b", kernel = "copy" },
   { name = "c", kernel = "sink" },
@@ -14,21 +14,21 @@ channel = [
 ]
 "#;
 
-const TWO_PHASES: &str = r#"actor = [
+pub(crate) const TWO_PHASES: &str = r#"actor = [
   { name = "a", kernel = "source", phases = 2 },
   { name = "b", kernel = "sink", phases = 2 },
 ]
 channel = [{ name = "x", from = "a", to = "b", produce = [1, 1], consume = [1, 1] }]
 "#;
 
-const TWO_TOKENS: &str = r#"actor = [
+pub(crate) const TWO_TOKENS: &str = r#"actor = [
   { name = "a", kernel = "source" },
   { name = "b", kernel = "sink" },
 ]
 channel = [{ name = "x", from = "a", to = "b", produce = [2], consume = [2] }]
 "#;
 
-const UNEVEN_PHASES: &str = r#"actor = [
+pub(crate) const UNEVEN_PHASES: &str = r#"actor = [
   { name = "a", kernel = "source", phases = 3 },
   { name = "b", kernel = "sink", phases = 2 },
 ]
@@ -36,7 +36,7 @@ channel = [{ name = "x", from = "a", to = "b", produce = [1, 0, 2], consume = [0
 "#;
 
 /// From compact disc to digital tape: 147 samples in, 160 out.
-const CONVERTER: &str = r#"actor = [
+pub(crate) const CONVERTER: &str = r#"actor = [
   { name = "a", kernel = "source" },
   { name = "b", kernel = "copy" },
   { name = "c", kernel = "copy" },
@@ -54,7 +54,7 @@ channel = [
 "#;
 
 /// Two channels that ask for different vectors.
-const DISAGREEING: &str = r#"actor = [
+pub(crate) const DISAGREEING: &str = r#"actor = [
   { name = "a", kernel = "source" },
   { name = "b", kernel = "sink" },
 ]
@@ -65,7 +65,7 @@ channel = [
 "#;
 
 /// The first actor would fire 4,096 times.
-const STEEP: &str = r#"actor = [
+pub(crate) const STEEP: &str = r#"actor = [
   { name = "a", kernel = "source" },
   { name = "b", kernel = "copy" },
   { name = "c", kernel = "sink" },
@@ -77,14 +77,14 @@ channel = [
 "#;
 
 /// The vector is 67 1024, and the channel would hold 68,608 tokens.
-const WIDE: &str = r#"actor = [
+pub(crate) const WIDE: &str = r#"actor = [
   { name = "a", kernel = "source", phases = 16 },
   { name = "b", kernel = "sink", phases = 2 },
 ]
 channel = [{ name = "x", from = "a", to = "b", produce = [64, 64, 64, 64, 64, 64, 64, 64, 64, 64, 64, 64, 64, 64, 64, 64], consume = [64, 3] }]
 "#;
 
-fn graph(rt: &HostRuntime, text: &str) -> Result<Graph, Fail> {
+pub(crate) fn graph(rt: &HostRuntime, text: &str) -> Result<Graph, Fail> {
     Ok(read_graph(rt.alloc(), text.as_bytes())?)
 }
 

@@ -1,0 +1,172 @@
+ghost use Rattle.std.specs.Prelude.{◌<◌, length};
+
+use super::*;
+use crate::tests::{CHAIN, CONVERTER, DISAGREEING, TWO_PHASES, TWO_TOKENS, UNEVEN_PHASES, graph};
+use std::alloc::{AllocError, Global};
+use std::test::Fail;
+
+/// The chain where the first channel has too small a capacity, and where it has a large one.
+const TIGHT_CHAIN: &str = r#"cells = 7
+actor = [
+  { name = "a", kernel = "source" },
+  { name = "b", kernel = "copy" },
+  { name = "c", kernel = "sink" },
+]
+channel = [
+  { name = "x", from = "a", to = "b", produce = [2], consume = [3], capacity = 3 },
+  { name = "y", from = "b", to = "c", produce = [1], consume = [2] },
+]
+"#;
+
+const WIDE_CHAIN: &str = r#"cells = 7
+actor = [
+  { name = "a", kernel = "source" },
+  { name = "b", kernel = "copy" },
+  { name = "c", kernel = "sink" },
+]
+channel = [
+  { name = "x", from = "a", to = "b", produce = [2], consume = [3], capacity = 5 },
+  { name = "y", from = "b", to = "c", produce = [1], consume = [2] },
+]
+"#;
+
+/// A cycle with no token, and one with a token.
+const STUCK_CYCLE: &str =
+    r#"actor = [{ name = "a", kernel = "copy" }, { name = "b", kernel = "copy" }]
+channel = [
+  { name = "x", from = "a", to = "b", produce = [1], consume = [1] },
+  { name = "y", from = "b", to = "a", produce = [1], consume = [1] },
+]
+"#;
+
+const CYCLE: &str = r#"actor = [{ name = "a", kernel = "copy" }, { name = "b", kernel = "copy" }]
+channel = [
+  { name = "x", from = "a", to = "b", produce = [1], consume = [1] },
+  { name = "y", from = "b", to = "a", produce = [1], consume = [1], initial = [5] },
+]
+"#;
+
+/// The first actor takes two tokens of the cycle, which has one.
+const SHORT_CYCLE: &str =
+    r#"actor = [{ name = "a", kernel = "copy" }, { name = "b", kernel = "copy" }]
+channel = [
+  { name = "x", from = "a", to = "b", produce = [2], consume = [1] },
+  { name = "y", from = "b", to = "a", produce = [1], consume = [2], initial = [5] },
+]
+"#;
+
+const SELF_LOOP: &str = r#"actor = [{ name = "a", kernel = "copy" }]
+channel = [{ name = "s", from = "a", to = "a", produce = [1], consume = [1], initial = [0] }]
+"#;
+
+/// The sink first fires after sixteen firings of the source.
+const LATE_SINK: &str = r#"actor = [
+  { name = "a", kernel = "source", phases = 16 },
+  { name = "b", kernel = "sink", phases = 16 },
+]
+channel = [
+  { name = "x", from = "a", to = "b", produce = [64, 64, 64, 64, 64, 64, 64, 64, 64, 64, 64, 64, 64, 64, 64, 64], consume = [64, 64, 64, 64, 64, 64, 64, 64, 64, 64, 64, 64, 64, 64, 64, 64] },
+  { name = "y", from = "a", to = "b", produce = [0, 0, 0, 0, 0, 0, 0, 0, 0, 0, 0, 0, 0, 0, 0, 1], consume = [1, 0, 0, 0, 0, 0, 0, 0, 0, 0, 0, 0, 0, 0, 0, 0] },
+]
+"#;
+
+const LATE_SINK_GIVEN_SECOND: &str = r#"actor = [
+  { name = "a", kernel = "source", phases = 16 },
+  { name = "b", kernel = "sink", phases = 16 },
+]
+channel = [
+  { name = "x", from = "a", to = "b", produce = [64, 64, 64, 64, 64, 64, 64, 64, 64, 64, 64, 64, 64, 64, 64, 64], consume = [64, 64, 64, 64, 64, 64, 64, 64, 64, 64, 64, 64, 64, 64, 64, 64] },
+  { name = "y", from = "a", to = "b", produce = [0, 0, 0, 0, 0, 0, 0, 0, 0, 0, 0, 0, 0, 0, 0, 1], consume = [1, 0, 0, 0, 0, 0, 0, 0, 0, 0, 0, 0, 0, 0, 0, 0], capacity = 2 },
+]
+"#;
+
+const LATE_SINK_TOO_TIGHT: &str = r#"actor = [
+  { name = "a", kernel = "source", phases = 16 },
+  { name = "b", kernel = "sink", phases = 16 },
+]
+channel = [
+  { name = "x", from = "a", to = "b", produce = [64, 64, 64, 64, 64, 64, 64, 64, 64, 64, 64, 64, 64, 64, 64, 64], consume = [64, 64, 64, 64, 64, 64, 64, 64, 64, 64, 64, 64, 64, 64, 64, 64], capacity = 1023 },
+  { name = "y", from = "a", to = "b", produce = [0, 0, 0, 0, 0, 0, 0, 0, 0, 0, 0, 0, 0, 0, 0, 1], consume = [1, 0, 0, 0, 0, 0, 0, 0, 0, 0, 0, 0, 0, 0, 0, 0] },
+]
+"#;
+
+fn accepted(rt: &HostRuntime, text: &str) -> Result<Accepted, Fail> {
+    match accept(rt.alloc(), graph(rt, text)?) {
+        Ok(accepted) => Ok(accepted),
+        Err((_, fault)) => Err(Fail::from(fault)),
+    }
+}
+
+#[test]
+fn finds_the_least_capacities(rt: HostRuntime) -> Result<(), Fail> {
+    for (text, capacities, cells) in [
+        (CHAIN, [4, 2].as_slice(), 6),
+        (TWO_PHASES, [1].as_slice(), 1),
+        (TWO_TOKENS, [2].as_slice(), 2),
+        (UNEVEN_PHASES, [3].as_slice(), 3),
+        (CYCLE, [1, 1].as_slice(), 2),
+        (SELF_LOOP, [1].as_slice(), 1),
+        (WIDE_CHAIN, [5, 2].as_slice(), 7),
+        (LATE_SINK, [1024, 1].as_slice(), 1025),
+        (LATE_SINK_GIVEN_SECOND, [1024, 2].as_slice(), 1026),
+        (CONVERTER, [1, 4, 8, 14, 5].as_slice(), 32),
+    ] {
+        let accepted = accepted(&rt, text)?;
+        assert_eq!(rt; accepted.capacities(), capacities, "of {text}");
+        assert_eq!(rt; accepted.cells(), cells, "of {text}");
+    }
+    Ok(())
+}
+
+#[test]
+fn says_why_a_graph_is_refused(rt: HostRuntime) -> Result<(), Fail> {
+    for (text, want) in [
+        (DISAGREEING, AcceptFault::Unbalanced(1)),
+        (STUCK_CYCLE, AcceptFault::Deadlock),
+        (SHORT_CYCLE, AcceptFault::Deadlock),
+        (TIGHT_CHAIN, AcceptFault::TooTight),
+        (LATE_SINK_TOO_TIGHT, AcceptFault::TooTight),
+    ] {
+        match accept(rt.alloc(), graph(&rt, text)?) {
+            Ok(_) => assert!(rt; false, "accepted: {text}"),
+            Err((_, fault)) => assert_eq!(rt; fault, want, "of {text}"),
+        }
+    }
+    Ok(())
+}
+
+#[test]
+fn prints_the_schedule(rt: HostRuntime) -> Result<(), Fail> {
+    let chain = accepted(&rt, CHAIN)?;
+    assert_eq!(rt;
+        schedule(rt.alloc(), &chain)?.as_slice(),
+        [0, 0, 1, 0, 1, 2].as_slice()
+    );
+    let copy = chain.try_copy()?;
+    assert_eq!(rt; copy.capacities(), [4, 2].as_slice());
+    assert_eq!(rt; copy.vector().q.as_slice(), [3, 2, 1].as_slice());
+    assert_eq!(rt; copy.graph().channels().len(), 2);
+    Ok(())
+}
+
+/// The search of one channel, from the least capacities.
+fn raised(alloc: Global, accepted: &Accepted, c: u32) -> Result<(u32, u32), AllocError>
+    requires { c < length accepted.now.capacities }
+{
+    raise(
+        alloc,
+        accepted.graph(),
+        accepted.vector(),
+        accepted.capacities(),
+        c,
+    )
+}
+
+#[test]
+fn raises_one_capacity_in_one_run(rt: HostRuntime) -> Result<(), Fail> {
+    let late_sink = accepted(&rt, LATE_SINK)?;
+    if !late_sink.capacities().is_empty() {
+        assert_eq!(rt; raised(rt.alloc(), &late_sink, 0)?, (1024, 32));
+    }
+    Ok(())
+}
