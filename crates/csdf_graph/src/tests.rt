@@ -100,52 +100,53 @@ fn reads_the_pair(rt: HostRuntime) -> Result<(), Fail> {
 }
 
 #[test]
-fn refuses_edits(rt: HostRuntime) -> Result<(), Fail> {
-    let table = [
-        ("\"source\"", "\"mix\"", GraphFault::Shape(At::Actor(0))),
+fn refuses_edits_of_actors(rt: HostRuntime) -> Result<(), Fail> {
+    let actor = At::Actor(0);
+    let edits = [
+        ("\"source\"", "\"mix\"", GraphFault::Shape(actor)),
         (
-            "capacity",
-            "rate = 1\ncapacity",
-            GraphFault::Shape(At::Channel(0)),
+            "phases = 2",
+            "phases = 2\nshift = 0",
+            GraphFault::Shape(actor),
         ),
         (
             "\"snk\"\nkernel",
             "\"9x\"\nkernel",
             GraphFault::Name(At::Actor(1)),
         ),
-        (
-            "capacity = 3",
-            "capacity = 0",
-            GraphFault::Range(At::Channel(0)),
-        ),
-        ("to = \"snk\"", "to = \"zz\"", GraphFault::UnknownActor(0)),
-        ("[2, 1]", "[2]", GraphFault::PhaseLength(0)),
-        ("[2, 1]", "[0, 0]", GraphFault::ZeroRate(0)),
+        ("phases = 2", "phases = 0", GraphFault::Range(actor)),
+        ("phases = 2", "phases = 17", GraphFault::Range(actor)),
         ("\"source\"", "\"copy\"", GraphFault::KernelPorts(0)),
-        ("phases = 2", "phases = 0", GraphFault::Range(At::Actor(0))),
-        ("phases = 2", "phases = 17", GraphFault::Range(At::Actor(0))),
-        (
-            "phases = 2",
-            "phases = 2\nshift = 0",
-            GraphFault::Shape(At::Actor(0)),
-        ),
-        ("[2, 1]", "[2, 65]", GraphFault::Range(At::Channel(0))),
-        ("[2, 1]", "[2.0, 1.0]", GraphFault::Shape(At::Channel(0))),
-        ("[2, 1]", "[0]", GraphFault::PhaseLength(0)),
-        (
-            "capacity",
-            "initial = [1, 2, 3, 4]\ncapacity",
-            GraphFault::Range(At::Channel(0)),
-        ),
-        (
-            "capacity = 3",
-            "capacity = 65536",
-            GraphFault::Range(At::Channel(0)),
-        ),
         (CHANNEL, "", GraphFault::KernelPorts(0)),
         ("finish snk\",\n]", "finish snk\",\n", GraphFault::NotToml),
     ];
-    for (old, new, fault) in table {
+    for (old, new, fault) in edits {
+        assert_eq!(rt; edited(&rt, old, new)?, Some(fault));
+    }
+    Ok(())
+}
+
+#[test]
+fn refuses_edits_of_the_channel(rt: HostRuntime) -> Result<(), Fail> {
+    let channel = At::Channel(0);
+    let many = "initial = [1, 2, 3, 4]\ncapacity";
+    let edits = [
+        ("capacity", "rate = 1\ncapacity", GraphFault::Shape(channel)),
+        ("[2, 1]", "[2.0, 1.0]", GraphFault::Shape(channel)),
+        ("capacity = 3", "capacity = 0", GraphFault::Range(channel)),
+        (
+            "capacity = 3",
+            "capacity = 65536",
+            GraphFault::Range(channel),
+        ),
+        ("[2, 1]", "[2, 65]", GraphFault::Range(channel)),
+        ("capacity", many, GraphFault::Range(channel)),
+        ("to = \"snk\"", "to = \"zz\"", GraphFault::UnknownActor(0)),
+        ("[2, 1]", "[2]", GraphFault::PhaseLength(0)),
+        ("[2, 1]", "[0]", GraphFault::PhaseLength(0)),
+        ("[2, 1]", "[0, 0]", GraphFault::ZeroRate(0)),
+    ];
+    for (old, new, fault) in edits {
         assert_eq!(rt; edited(&rt, old, new)?, Some(fault));
     }
     Ok(())
