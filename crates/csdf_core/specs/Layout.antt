@@ -1,11 +1,12 @@
 -- What a core keeps of its setup, and what it plays by it.
-use Rattle.std.specs.Prelude.{◌≡◌, ℕ, Bool, true, false, List, Option, IsSome, All, length, map, sum, unwrap_or}
+use Rattle.std.specs.Prelude.{◌≡◌, ℕ, Bool, true, false, List, Option, length, map}
 use Rattle.std.specs.List.{zip, range_with_len}
 use Rattle.csdf_graph.specs.declared.graph.Kernel.{Kernel}
 use Rattle.csdf_graph.specs.declared.graph.Kernel.TheVariants as kernel
 use Rattle.csdf_graph.specs.Graph as graph
 use Rattle.csdf_graph.specs.Graph.{Graph, inputs_of, outputs_of}
 use Rattle.csdf_graph.specs.WellFormed.{IsWellFormed}
+use Rattle.csdf_analysis.specs.Acceptance.{Accepted, cells_of}
 use Rattle.csdf_core.specs.declared.ports.Ports.{Ports}
 use Rattle.csdf_core.specs.Plan.{Channel, Plan}
 use Rattle.csdf_core.specs.Playable.{IsPlayable}
@@ -38,20 +39,9 @@ plan_of g capacities limits supplies firings cells = record {
   cells = cells;
 }
 
--- each channel has a given capacity
-abbrev pub HasCapacities : Graph → Type 0
-HasCapacities g = All (λ (c : graph.Channel). IsSome c.capacity) g.channels
-
-abbrev pub given_capacity : graph.Channel → ℕ
-given_capacity c = unwrap_or c.capacity 0
-
--- the given number of cells, else the sum of the capacities
-abbrev pub cells_for : Option ℕ → List ℕ → ℕ
-cells_for given capacities = unwrap_or given (sum capacities)
-
--- what a core plays: each channel has the capacity that it is given
-abbrev pub plan_for : Graph → List ℕ → List ℕ → Option ℕ → Plan
-plan_for g limits supplies firings = plan_of g (map given_capacity g.channels) limits supplies firings (cells_for g.cells (map given_capacity g.channels))
+-- what a core plays: the accepted graph with the capacities chosen for it
+abbrev pub plan_for : Accepted → List ℕ → List ℕ → Option ℕ → Plan
+plan_for a limits supplies firings = plan_of a.graph a.capacities limits supplies firings (cells_of a)
 
 -- the facts that a layout keeps
 pub record IsLaidOut (g : Graph) (capacities limits supplies : List ℕ) (firings : Option ℕ) (cells : ℕ) (ports : List Ports) : Type 0 where

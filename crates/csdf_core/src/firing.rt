@@ -79,18 +79,17 @@ impl Core {
     ghost use Rattle.csdf_core.specs.Ports.{tokens_at};
     ghost use Rattle.csdf_core.specs.Plan.{Channel as ChannelModel, HasAmpleCells};
     ghost use Rattle.csdf_core.specs.declared.setup.Refusal.TheVariants.{NoCells};
-    ghost use Rattle.csdf_core.specs.Layout.{HasCapacities, plan_for};
+    ghost use Rattle.csdf_core.specs.Layout.{plan_for};
 
     /// A core of the setup in the state in which nothing has fired: the initial tokens are in the
-    /// channels, in order. It keeps a copy of the graph.
+    /// channels, in order. It keeps a copy of the accepted graph.
     ///
     /// An error says that memory ran out.
     pub fn new(alloc: Global, setup: Setup<'_>) -> Result<Core, AllocError>
-        requires given { HasCapacities setup.graph.now }
-        requires limits { length setup.limits.items ≡ length setup.graph.now.actors }
-        requires supply { length setup.supply.items ≡ length setup.graph.now.actors }
+        requires limits { length setup.limits.items ≡ length setup.accepted.now.graph.actors }
+        requires supply { length setup.supply.items ≡ length setup.accepted.now.graph.actors }
         requires few { All (λ n. n ≤ 16_384_000) setup.limits.items }
-        ensures plan { IfOk result (λ core. core.plan ≡ plan_for setup.entry.graph.now setup.entry.limits.items setup.entry.supply.items setup.entry.firings) }
+        ensures plan { IfOk result (λ core. core.plan ≡ plan_for setup.entry.accepted.now setup.entry.limits.items setup.entry.supply.items setup.entry.firings) }
         ensures opening { IfOk result (λ core. Shows core (opening core.plan)) }
         ensures peaks { IfOk result (λ core. core.peaks ≡ map length (map (λ (c : ChannelModel). c.initial) core.plan.channels)) }
     {

@@ -1,10 +1,10 @@
 //! What a core plays: its graph, with the channels of each actor gathered once.
 
-ghost use Rattle.std.specs.Prelude.{◌≡◌, ◌<◌, ◌≤◌, length, map, slice_index, slice_index_or, sum, unwrap_or, false, All, IfOk};
+ghost use Rattle.std.specs.Prelude.{◌≡◌, ◌<◌, ◌≤◌, length, map, slice_index, slice_index_or, false, All, IfOk};
 ghost use Rattle.std.specs.List.{range_with_len};
 ghost use Rattle.csdf_graph.specs.Graph.{channel_view, inputs_of, outputs_of};
 ghost use Rattle.csdf_core.specs.Plan.{Channel as ChannelModel};
-ghost use Rattle.csdf_core.specs.Layout.{is_source_kernel, plan_for, given_capacity, cells_for, HasCapacities};
+ghost use Rattle.csdf_core.specs.Layout.{is_source_kernel, plan_for};
 ghost use Rattle.csdf_core.specs.Playable.{IsPlayable};
 ghost use Rattle.csdf_core.specs.Streams.{part};
 ghost use Rattle.csdf_core.specs.Ports.{inputs_at, outputs_at, take_at, give_at};
@@ -45,39 +45,11 @@ fn is_source(kernel: Kernel) -> bool
     matches!(kernel, Kernel::Source)
 }
 
-/// The capacity that each channel is given.
-fn given_capacities(alloc: Global, channels: &[Channel]) -> Result<Vec<u32>, AllocError>
-    ensures { IfOk result (λ v. v.items ≡ map (λ channel. unwrap_or channel.capacity 0) channels.now) }
+/// The same numbers in a list of their own.
+fn copy_of(alloc: Global, numbers: &[u32]) -> Result<Vec<u32>, AllocError>
+    ensures { IfOk result (λ v. v.items ≡ numbers.now) }
 {
-    channels
-        .iter()
-        .map(|channel| channel.capacity.unwrap_or(0))
-        .collect(alloc)
-}
-
-/// The sum of the capacities.
-fn sum_of(capacities: &[u32]) -> u32
-    requires few { length capacities.now ≤ 128 }
-    requires small { All (λ n. n ≤ 65_535) capacities.now }
-    ensures { result ≡ sum capacities.now }
-{
-    let mut cells = 0;
-    for capacity in capacities {
-        cells += *capacity;
-    }
-    cells
-}
-
-/// The number of cells that the graph gives, or else the sum of the capacities.
-fn cells_for(given: Option<u32>, capacities: &[u32]) -> u32
-    requires few { length capacities.now ≤ 128 }
-    requires small { All (λ n. n ≤ 65_535) capacities.now }
-    ensures { result ≡ cells_for given capacities.now }
-{
-    match given {
-        Some(cells) => cells,
-        None => sum_of(capacities),
-    }
+    numbers.iter().copied().collect(alloc)
 }
 
 /// The channels of each actor.
@@ -96,20 +68,19 @@ fn ports_of(alloc: Global, channels: &[Channel], actors: usize) -> Result<Vec<Po
 }
 
 impl Layout {
-    /// The layout of the setup, whose graph it copies; each channel has the capacity that it is given.
+    /// The layout of the setup, whose graph it copies.
     ///
     /// An error says that memory ran out.
     pub(crate) fn new(alloc: Global, setup: Setup<'_>) -> Result<Layout, AllocError>
-        requires given { HasCapacities setup.graph.now }
-        requires limits { length setup.limits.items ≡ length setup.graph.now.actors }
-        requires supply { length setup.supply.items ≡ length setup.graph.now.actors }
+        requires limits { length setup.limits.items ≡ length setup.accepted.now.graph.actors }
+        requires supply { length setup.supply.items ≡ length setup.accepted.now.graph.actors }
         requires few { All (λ n. n ≤ 16_384_000) setup.limits.items }
-        ensures plan { IfOk result (λ layout. layout ≡ plan_for setup.entry.graph.now setup.entry.limits.items setup.entry.supply.items setup.entry.firings) }
+        ensures plan { IfOk result (λ layout. layout ≡ plan_for setup.entry.accepted.now setup.entry.limits.items setup.entry.supply.items setup.entry.firings) }
         ensures playable { IfOk result IsPlayable }
     {
-        let graph = setup.graph.try_copy()?;
-        let capacities = given_capacities(alloc, graph.channels())?;
-        let cells = cells_for(graph.cells(), &capacities);
+        let accepted = setup.accepted;
+        let graph = accepted.graph().try_copy()?;
+        let capacities = copy_of(alloc, accepted.capacities())?;
         let ports = ports_of(alloc, graph.channels(), graph.actors().len())?;
         Ok(Layout {
             graph,
@@ -117,7 +88,7 @@ impl Layout {
             limits: setup.limits,
             supply: setup.supply,
             firings: setup.firings,
-            cells,
+            cells: accepted.cells(),
             ports,
         })
     }

@@ -3,7 +3,7 @@
 ghost use Rattle.std.specs.Prelude.{◌≡◌, ◌<◌, ◌≤◌, ℕ, [], ◌++◌, All, map, length, slice_index, IfOk, OnErr, take};
 ghost use Rattle.csdf_core.specs.Shows.{Shows, Follows, IsRun, Plays, PlayedSome, replies_in, told};
 ghost use Rattle.csdf_core.specs.Moves.{Read, move_of};
-ghost use Rattle.csdf_core.specs.Layout.{HasCapacities, plan_for};
+ghost use Rattle.csdf_core.specs.Layout.{plan_for};
 ghost use Rattle.csdf_core.specs.State.{opening};
 ghost use Rattle.csdf_core.specs.Step.{replies_of, state_after};
 ghost use Rattle.csdf_core.specs.Streams.{IsPrefix, IsClosedIn, AreWithin, initial, tokens_taken, written_to, peak_of};
@@ -84,11 +84,10 @@ pub struct Played {
 /// close. Between any two moves each cell is in exactly one of the chains and the free list. An
 /// error says that memory ran out.
 pub fn play(alloc: Global, setup: Setup<'_>, moves: &[Move]) -> Result<Played, AllocError>
-    requires given { HasCapacities setup.graph.now }
-    requires limits { length setup.limits.items ≡ length setup.graph.now.actors }
-    requires supply { length setup.supply.items ≡ length setup.graph.now.actors }
+    requires limits { length setup.limits.items ≡ length setup.accepted.now.graph.actors }
+    requires supply { length setup.supply.items ≡ length setup.accepted.now.graph.actors }
     requires few { All (λ n. n ≤ 16_384_000) setup.limits.items }
-    ensures plan { IfOk result (λ p. p.core.plan ≡ plan_for setup.entry.graph.now setup.entry.limits.items setup.entry.supply.items setup.entry.firings) }
+    ensures plan { IfOk result (λ p. p.core.plan ≡ plan_for setup.entry.accepted.now setup.entry.limits.items setup.entry.supply.items setup.entry.firings) }
     ensures replies { IfOk result (λ p. replies_in p.replies.items ≡ replies_of p.core.plan (opening p.core.plan) (map move_of moves.now)) }
     ensures shows { IfOk result (λ p. Shows p.core (state_after p.core.plan (opening p.core.plan) (map move_of moves.now))) }
     ensures peaks { IfOk result (λ p. (c : ℕ) → slice_index p.core.peaks c ≡ peak_of p.core.plan (opening p.core.plan) c (map move_of moves.now)) }

@@ -2,13 +2,13 @@
 
 ghost use Rattle.std.specs.Prelude.{◌≡◌};
 
-use csdf_graph::Graph;
+use csdf_analysis::Accepted;
 
-/// What a core plays: a graph, and for each actor its greatest number of firings and the number of
-/// tokens in its file, 0 for an actor that is no source.
+/// What a core plays: an accepted graph, and for each actor its greatest number of firings and the
+/// number of tokens in its file, 0 for an actor that is no source.
 #[derive(Drop)]
 pub struct Setup<'a> {
-    pub graph: &'a Graph,
+    pub accepted: &'a Accepted,
     /// The greatest number of firings of each actor.
     pub limits: Vec<u32>,
     /// The number of tokens in the file of each source.
