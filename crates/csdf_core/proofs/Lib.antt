@@ -25,3 +25,4 @@ pub mod Fillings
 pub mod Beginnings
 pub mod Headline
 pub mod Ample
+pub mod Examples

@@ -13,3 +13,6 @@ mod setup;
 pub use firing::Core;
 pub use playing::{Played, Reply, play, play_on};
 pub use setup::{Move, Refusal, Setup, Stage};
+
+#[cfg(test)]
+mod tests;
