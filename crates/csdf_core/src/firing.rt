@@ -386,6 +386,7 @@ impl Core {
     /// `Closed`, `Dry`, `Short`, `Full`, `Stopped` and `NoCells`.
     pub fn begin(&mut self, actor: u32) -> Result<(), Refusal>
         ensures step { Follows self.old self.new (Begin actor) (told (λ _. []) result) }
+        ensures unchanged { OnErr result (self.new ≡ self.old) }
         ensures ample { HasAmpleCells self.old.plan → refused result ≢ Some NoCells }
     {
         if let Some(refusal) = self.begin_refusal(actor) {
@@ -404,7 +405,9 @@ impl Core {
     pub fn read(&mut self, actor: u32, into: &mut [i32]) -> Result<usize, Refusal>
         requires { need actor (count self.old.now actor) self.old.plan.channels ≤ length into.old }
         ensures step { Follows self.old self.new (Read actor) (told (λ n. take n into.new) result) }
+        ensures count { IfOk result (λ n. n ≡ need actor (count self.old.now actor) self.old.plan.channels) }
         ensures rest { IfOk result (λ n. drop n into.new ≡ drop n into.old) }
+        ensures unchanged { OnErr result (self.new ≡ self.old) }
         ensures unread { OnErr result (into.new ≡ into.old) }
     {
         if let Some(refusal) = self.read_refusal(actor) {
@@ -423,7 +426,8 @@ impl Core {
     /// Puts the firing's tokens in, the outputs in file order, or answers the first refusal of
     /// `Unknown`, `NotRead` and `WrongCount`.
     pub fn write(&mut self, actor: u32, tokens: &[i32]) -> Result<(), Refusal>
-        ensures { Follows self.old self.new (Write actor tokens.now) (told (λ _. []) result) }
+        ensures step { Follows self.old self.new (Write actor tokens.now) (told (λ _. []) result) }
+        ensures unchanged { OnErr result (self.new ≡ self.old) }
     {
         if let Some(refusal) = self.write_refusal(actor, tokens) {
             return Err(refusal);
@@ -440,7 +444,8 @@ impl Core {
 
     /// Ends the actor's firing, or answers the first refusal of `Unknown` and `NotWritten`.
     pub fn finish(&mut self, actor: u32) -> Result<(), Refusal>
-        ensures { Follows self.old self.new (Finish actor) (told (λ _. []) result) }
+        ensures step { Follows self.old self.new (Finish actor) (told (λ _. []) result) }
+        ensures unchanged { OnErr result (self.new ≡ self.old) }
     {
         if let Some(refusal) = self.finish_refusal(actor) {
             return Err(refusal);
@@ -457,7 +462,8 @@ impl Core {
     /// Closes the channel, or answers the first refusal of `Unknown`, `Closed` and `Busy`. Its
     /// consumer may go on taking what it holds.
     pub fn close(&mut self, channel: u32) -> Result<(), Refusal>
-        ensures { Follows self.old self.new (Close channel) (told (λ _. []) result) }
+        ensures step { Follows self.old self.new (Close channel) (told (λ _. []) result) }
+        ensures unchanged { OnErr result (self.new ≡ self.old) }
     {
         if let Some(refusal) = self.close_refusal(channel) {
             return Err(refusal);

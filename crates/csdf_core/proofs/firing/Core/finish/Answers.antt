@@ -15,8 +15,8 @@ use Rattle.std.proofs.lemmas.List.{get_or_default}
 use Rattle.csdf_core.proofs.Kept.{finishes}
 use Rattle.csdf_core.proofs.firing.Core.finish.Goals as goal
 
-pub returns-in-Some : goal.returns-in-Some
-returns-in-Some c =
+pub returns-in-Some-clause-step : goal.returns-in-Some-clause-step
+returns-in-Some-clause-step c =
     rw (← c.self.view_is) (follows_refused _ (Finish c.args.actor) c.in-Some.refusal (rw (← c.self.view_is) at (sym c.finish_refusal.ensures ∙ c.in-Some.is)) (peaks_stay _ _ _ _ _ _ _ c.self.invariant) c.self.invariant.partition)
 
 pub invariant_of-self : goal.invariant_of-self
@@ -31,8 +31,8 @@ invariant_of-self c =
     subst (λ n. IsSound c.self.inside.layout (record { counts = set c.self.inside.counts.items c.args.actor n; stages = set c.self.inside.stages.items c.args.actor Idle; opens = c.self.inside.opens.items; tokens = tokens_in c.self.inside.pool }) c.self.inside.peaks.items (set c.self.inside.sums.items c.args.actor (c.index_mut.result.now + c.gives-gives.result)) c.self.inside.started c.self.inside.reserved c.self.inside.pool) one
     (sound_finished c.self.inside.layout p c.self.inside.peaks.items c.self.inside.sums.items c.self.inside.started c.self.inside.reserved c.self.inside.pool c.args.actor (c.index_mut.result.now + c.gives-gives.result) c.self.invariant none total few)
 
-pub returns : goal.returns
-returns c =
+pub returns-clause-step : goal.returns-clause-step
+returns-clause-step c =
     let p : Present = record { counts = c.self.inside.counts.items; stages = c.self.inside.stages.items; opens = c.self.inside.opens.items; tokens = tokens_in c.self.inside.pool } in
     let none : refusal c.self.inside.layout p (Finish c.args.actor) ≡ None = rw (← c.self.view_is) at (sym c.finish_refusal.ensures ∙ c.in_default.is) in
     let one : suc (count p c.args.actor) ≡ c.fired-firing.result + 1 = (let k = rw (← c.self.view_is) at c.fired-firing.ensures in omega (arith, k)) in

@@ -18,8 +18,8 @@ use Rattle.csdf_core.proofs.SoundLemmas.{sound_written}
 use Rattle.csdf_core.proofs.Peaceful.{peaks_stay}
 use Rattle.csdf_core.proofs.firing.Core.write.Goals as goal
 
-pub returns-in-Some : goal.returns-in-Some
-returns-in-Some c =
+pub returns-in-Some-clause-step : goal.returns-in-Some-clause-step
+returns-in-Some-clause-step c =
     rw (← c.self.view_is) (follows_refused _ (Write c.args.actor c.args.tokens.now) c.in-Some.refusal (rw (← c.self.view_is) at (sym c.write_refusal.ensures ∙ c.in-Some.is)) (peaks_stay _ _ _ _ _ _ _ c.self.invariant) c.self.invariant.partition)
 
 pub put_outputs-requires-clause-all : goal.put_outputs-requires-clause-all
@@ -64,8 +64,8 @@ invariant_of-self c =
     subst (λ qs. IsSound c.self.inside.layout (record { counts = c.self.inside.counts.items; stages = set c.self.inside.stages.items c.args.actor Written; opens = c.self.inside.opens.items; tokens = tokens_in c.put_outputs.new.pool }) qs c.self.inside.sums.items c.self.inside.started (c.self.inside.reserved - length c.args.tokens.now) c.put_outputs.new.pool) (sym items)
     (subst (λ ts. IsSound c.self.inside.layout (record { counts = c.self.inside.counts.items; stages = set c.self.inside.stages.items c.args.actor Written; opens = c.self.inside.opens.items; tokens = ts }) c.raise_peaks.new.peaks c.self.inside.sums.items c.self.inside.started (c.self.inside.reserved - length c.args.tokens.now) c.put_outputs.new.pool) (sym put) sound)
 
-pub returns : goal.returns
-returns c =
+pub returns-clause-step : goal.returns-clause-step
+returns-clause-step c =
     let p : Present = record { counts = c.self.inside.counts.items; stages = c.self.inside.stages.items; opens = c.self.inside.opens.items; tokens = tokens_in c.self.inside.pool } in
     let none : first_of (write_table c.self.inside.layout p c.args.actor c.args.tokens.now) ≡ None = rw (← c.self.view_is) at (sym c.write_refusal.ensures ∙ c.in_default.is) in
     let k : c.fired-firing.result ≡ count p c.args.actor = rw (← c.self.view_is) at c.fired-firing.ensures in
