@@ -10,3 +10,4 @@ pub mod FitLemmas
 pub mod RunLemmas
 pub mod SearchLemmas
 pub mod LowerLemmas
+pub mod WakeLemmas

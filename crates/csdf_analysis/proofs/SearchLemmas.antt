@@ -223,3 +223,11 @@ printed_all channels q bounds own counts lengths schedule firings at stalled com
     let all = stalled_all channels q own counts lengths firings at stalled (subst (CompletesPeriod channels q) (sym same) completes) in
     subst (λ b. IsScheduleOf channels q b schedule) same
     (subst (IsScheduleOf channels q own) (append-nil schedule) (so_far [] (all_counts channels q own counts lengths firings at all)))
+
+-- where a run is stalled, a greater bound of one channel lets its producer alone fire
+pub only_producer : (channels : List Channel) (q bounds n : List ℕ) (c f b : ℕ) (channel : Channel) → IsStalled channels q bounds n → slice_get channels c ≡ Some channel → c < length bounds → CanGo channels q (set bounds c f) n b → b ≡ channel.from
+only_producer channels q bounds n c f b channel stalled is lt go = elim (same_or_not channel.from b) [
+  | inl this ↦ sym this
+  | inr other ↦
+      absurd (stalled b (subst (λ ks. CanGo channels q ks n b) (set-get_or bounds c 0) (room_at channels q bounds n c (get_or bounds c 0) f b channel is lt go (λ e. absurd (other e)))))
+]

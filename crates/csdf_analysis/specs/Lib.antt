@@ -8,3 +8,4 @@ pub mod Members
 pub mod Period
 pub mod Repetition
 pub mod Running
+pub mod Waking

@@ -15,6 +15,7 @@ mod printed;
 mod run;
 mod search;
 mod vector;
+mod waiting;
 
 pub use accepted::{Accepted, accept};
 pub use bounds::capacities;

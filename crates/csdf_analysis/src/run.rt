@@ -1,13 +1,16 @@
 //! A run of a period: actors fire as long as one can.
 
-ghost use Rattle.std.specs.Prelude.{◌≡◌, ◌+◌, ◌<◌, ◌≤◌, ◌↔◌, ◌==◌, if◌then◌else◌, ℕ, All, EachIndex, IfOk, IsTrue, MatchOption, Some, length, replicate, slice_get, slice_index, slice_set, sum};
+ghost use Rattle.std.specs.Prelude.{◌≡◌, ◌+◌, ◌<◌, ◌≤◌, ◌↔◌, ◌==◌, if◌then◌else◌, ◌⊎◌, ℕ, List, All, EachIndex, IfOk, IfSome, IsTrue, MatchOption, Some, length, replicate, slice_get, slice_index, slice_set, sum};
 ghost use Rattle.csdf_graph.specs.Graph.{Channel as ChannelModel, channel_view};
 ghost use Rattle.csdf_graph.specs.Rates.{consumption};
 ghost use Rattle.csdf_analysis.specs.Period.{CanGo, IsNext, fired, held, held_after, no_firings};
 ghost use Rattle.csdf_analysis.specs.Laws.{IsWithinAll};
+ghost use Rattle.csdf_analysis.specs.Waking.{AreWoken, IsListed};
+ghost use Rattle.std.specs.List.{Contains};
 ghost use Rattle.csdf_analysis.specs.Running.{AreHeld, CanComplete, HasRoom, HasTokens, IsLow, IsRight, IsRun, IsStalled};
 
 use crate::net::Net;
+use crate::waiting::Waiting;
 use csdf_graph::Channel;
 use std::alloc::{AllocError, Global};
 
@@ -172,6 +175,7 @@ impl Run {
         ensures bounds { self.new.bounds.items ≡ self.old.bounds.items }
         ensures counts { self.new.counts.items ≡ fired self.old.counts.items actor }
         ensures firings { self.new.firings ≡ self.old.firings + 1 }
+        ensures exists { actor < length net.now.firings }
     {
         self.counts[actor as usize] += 1;
         self.firings += 1;
@@ -179,22 +183,44 @@ impl Run {
         self.recount(net, net.outputs(actor));
     }
 
-    /// Fires actors until none can.
-    pub(crate) fn go_on(&mut self, net: &Net)
-        requires { IsRun net.now self.old }
-        ensures run { IsRun net.now self.new }
-        ensures bounds { self.new.bounds.items ≡ self.old.bounds.items }
-        ensures stalled { IsStalled net.now.channels net.now.firings self.new.bounds.items self.new.counts.items }
-        ensures firings { self.old.firings ≤ self.new.firings }
+    /// Takes actors off the list up to one that can fire and has fired less often than in a period.
+    fn next_of(&self, net: &Net, waiting: &mut Waiting) -> Option<u32>
+        requires run { IsRun net.now self.now }
+        requires actors { waiting.old.actors ≡ length net.now.firings }
+        requires listed { IsListed net.now.channels net.now.firings self.now.bounds.items self.now.counts.items waiting.old.list }
+        ensures actors { waiting.new.actors ≡ waiting.old.actors }
+        ensures found { MatchOption result (IsStalled net.now.channels net.now.firings self.now.bounds.items self.now.counts.items) (CanGo net.now.channels net.now.firings self.now.bounds.items self.now.counts.items) }
+        ensures others { IfSome result (λ a. (b : ℕ) → CanGo net.now.channels net.now.firings self.now.bounds.items self.now.counts.items b → (b ≡ a) ⊎ Contains waiting.new.list b) }
     {
-        while let Some(actor) = self.next(net) {
-            self.fire(net, actor);
+        while let Some(actor) = waiting.take() {
+            if self.can_go(net, actor) {
+                return Some(actor);
+            }
         }
+        None
+    }
+
+    /// Fires actors of the list, and those that this makes able, until none can.
+    pub(crate) fn go_on(&mut self, net: &Net, waiting: &mut Waiting) -> Result<(), AllocError>
+        requires run { IsRun net.now self.old }
+        requires actors { waiting.old.actors ≡ length net.now.firings }
+        requires listed { IsListed net.now.channels net.now.firings self.old.bounds.items self.old.counts.items waiting.old.list }
+        ensures actors { waiting.new.actors ≡ waiting.old.actors }
+        ensures run { IfOk result (λ _. IsRun net.now self.new) }
+        ensures bounds { IfOk result (λ _. self.new.bounds.items ≡ self.old.bounds.items) }
+        ensures stalled { IfOk result (λ _. IsStalled net.now.channels net.now.firings self.new.bounds.items self.new.counts.items) }
+        ensures firings { IfOk result (λ _. self.old.firings ≤ self.new.firings) }
+    {
+        while let Some(actor) = self.next_of(net, waiting) {
+            self.fire(net, actor);
+            waiting.wake(net, actor)?;
+        }
+        Ok(())
     }
 
     /// At a stall, raises the channel's bound to the least that lets its producer fire, and fires
-    /// it.
-    pub(crate) fn raise(&mut self, net: &Net, number: u32)
+    /// it. Answers the producer.
+    pub(crate) fn raise(&mut self, net: &Net, number: u32) -> u32
         requires exists { number < length net.now.channels }
         requires run { IsRun net.now self.old }
         requires stalled { IsStalled net.now.channels net.now.firings self.old.bounds.items self.old.counts.items }
@@ -206,9 +232,12 @@ impl Run {
         ensures raised { slice_index self.old.bounds.items number ≤ slice_index self.new.bounds.items number }
         ensures low { IsLow net.now.channels net.now.firings self.new.bounds.items number }
         ensures firings { self.new.firings ≡ self.old.firings + 1 }
+        ensures exists { result < length net.now.firings }
+        ensures wakes { (list : List ℕ) → AreWoken net.now.channels result list → IsListed net.now.channels net.now.firings self.new.bounds.items self.new.counts.items list }
     {
         let producer = net.channel(number).from;
         self.bounds[number as usize] = self.filled(net, number);
         self.fire(net, producer);
+        producer
     }
 }

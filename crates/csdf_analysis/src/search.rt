@@ -11,6 +11,7 @@ ghost use Rattle.csdf_analysis.specs.Running.{CanComplete, IsLow, IsRun, IsStall
 use crate::net::Net;
 use crate::run::Run;
 use crate::vector::Vector;
+use crate::waiting::Waiting;
 use csdf_graph::Graph;
 use std::alloc::{AllocError, Global};
 
@@ -29,7 +30,8 @@ fn makes_all(alloc: Global, net: &Net, bounds: &[u32]) -> Result<bool, AllocErro
 {
     let bounds = copy_of(alloc, bounds)?;
     let mut run = Run::new(alloc, net, bounds)?;
-    run.go_on(net);
+    let mut waiting = Waiting::all(alloc, net.actors())?;
+    run.go_on(net, &mut waiting)?;
     Ok(run.firings == net.total())
 }
 
@@ -64,10 +66,12 @@ fn least_bound(
     let mut start = copy_of(alloc, bounds)?;
     start[number as usize] = net.channel(number).initial.len() as u32;
     let mut run = Run::new(alloc, net, start)?;
-    run.go_on(net);
+    let mut waiting = Waiting::all(alloc, net.actors())?;
+    run.go_on(net, &mut waiting)?;
     while run.firings < net.total() {
-        run.raise(net, number);
-        run.go_on(net);
+        let producer = run.raise(net, number);
+        waiting.wake(net, producer)?;
+        run.go_on(net, &mut waiting)?;
     }
     Ok((run.bounds[number as usize], run.firings))
 }

@@ -6,21 +6,23 @@ use Rattle.csdf_analysis.proofs.search.least_bound.Goals as goal
 
 pub loop-run-init : goal.loop-run-init
 loop-run-init c = record {
-  run = c.go_on.ensures.run;
-  stalled = c.go_on.ensures.stalled;
-  search = search_first _ _ c.args.bounds.now _ c.args.number c.len.result _ c.requires.completes c.channel.ensures.value (omega (arith, c.len.ensures, c.channel.result.now.initial.ok.0)) (c.go_on.ensures.bounds ∙ c.in_ok-run.ensures.bounds ∙ ap (λ ks. set ks c.args.number c.len.result) c.in_ok-start.ensures);
+  run = c.in_ok-go_on.ensures.run;
+  stalled = c.in_ok-go_on.ensures.stalled;
+  search = search_first _ _ c.args.bounds.now _ c.args.number c.len.result _ c.requires.completes c.channel.ensures.value (omega (arith, c.len.ensures, c.channel.result.now.initial.ok.0)) (c.in_ok-go_on.ensures.bounds ∙ c.in_ok-run.ensures.bounds ∙ ap (λ ks. set ks c.args.number c.len.result) c.in_ok-start.ensures);
+  actors = c.go_on.ensures.actors ∙ c.in_ok-waiting.ensures.actors ∙ c.actors.ensures.count;
 }
 
-pub raise-requires-clause-can : goal.raise-requires-clause-can
-raise-requires-clause-can c = search_can _ _ c.args.bounds.now _ _ c.requires.completes c.loop-run.invariant.search
+pub raise-producer-requires-clause-can : goal.raise-producer-requires-clause-can
+raise-producer-requires-clause-can c = search_can _ _ c.args.bounds.now _ _ c.requires.completes c.loop-run.invariant.search
 
 pub loop-run-preserved : goal.loop-run-preserved
 loop-run-preserved c =
     let lt : c.args.number < length c.loop-run.run.bounds.items = omega (arith, c.requires.exists, c.loop-run.invariant.run.each_bound) in
     record {
-      run = c.go_on-in-loop-run.ensures.run;
-      stalled = c.go_on-in-loop-run.ensures.stalled;
-      search = search_next _ _ c.args.bounds.now _ _ _ c.args.number _ lt c.channel.ensures.value c.loop-run.invariant.search c.raise.ensures.bounds c.raise.ensures.raised c.raise.ensures.low c.go_on-in-loop-run.ensures.bounds;
+      run = c.in_ok-go_on-2.ensures.run;
+      stalled = c.in_ok-go_on-2.ensures.stalled;
+      search = search_next _ _ c.args.bounds.now _ _ _ c.args.number _ lt c.channel.ensures.value c.loop-run.invariant.search c.raise-producer.ensures.bounds c.raise-producer.ensures.raised c.raise-producer.ensures.low c.in_ok-go_on-2.ensures.bounds;
+      actors = c.go_on-in-loop-run.ensures.actors ∙ c.wake.ensures.actors ∙ c.loop-run.invariant.actors;
     }
 
 pub returns-clause-firings : goal.returns-clause-firings

@@ -1,4 +1,4 @@
-use Rattle.std.proofs.Common.{◌-◌, sum}
+use Rattle.std.proofs.Common.{◌≡◌, ◌-◌, length, sum}
 use Rattle.csdf_analysis.specs.Running.{IsRun, IsStalled}
 use Rattle.csdf_analysis.proofs.SearchLemmas.{IsSearch}
 use Rattle.csdf_analysis.proofs.search.least_bound.Given as goal
@@ -8,6 +8,7 @@ invariant-loop-run l = record {
   run : IsRun l.net l.run;
   stalled : IsStalled l.net.channels l.net.firings l.run.bounds.items l.run.counts.items;
   search : IsSearch l.net.channels l.net.firings l.bounds l.run.bounds.items l.number;
+  actors : l.waiting.actors ≡ length l.net.firings;
 }
 
 abbrev pub decreases-loop-run : goal.decreases-loop-run
