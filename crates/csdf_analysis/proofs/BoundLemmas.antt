@@ -41,7 +41,7 @@ phases_within (x ∷ xs) (suc a) all = phases_within xs a (All-tail IsActor x xs
 cycle_within : (phases : ℕ) (rates : List ℕ) → phases ≤ 16 → AreRates phases rates → total rates phases ≤ 1024
 cycle_within phases rates few are = let bound : total rates phases ≤ phases * 64 = total_within rates phases are.small in omega arith
 
-cycle_some : (phases : ℕ) (rates : List ℕ) → AreRates phases rates → 1 ≤ total rates phases
+pub cycle_some : (phases : ℕ) (rates : List ℕ) → AreRates phases rates → 1 ≤ total rates phases
 cycle_some phases rates are = subst (λ n. 1 ≤ n) (sym (cycle_is_sum rates phases are.each_phase)) are.some
 
 pub link_of : (actors : List Actor) (c : Channel) → All IsActor actors → IsChannel actors c → IsLink actors c

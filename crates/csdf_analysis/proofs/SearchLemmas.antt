@@ -1,21 +1,24 @@
 -- Raising the bound of one channel at a stall.
-use Rattle.std.proofs.Common.{◌≡◌, ℕ, ◌*◌, ◌<◌, ◌≤◌, ◌==◌, inl, inr, List, [], ◌∷◌, ◌++◌, append-nil, length, get_or, set, sum, refl, sym, ap, subst, ◌∙◌, arith}
-use Rattle.std.specs.Prelude.{All, IsTrue, slice_get, Some}
+use Rattle.std.proofs.Common.{◌≡◌, ℕ, ◌*◌, ◌<◌, ◌≤◌, ◌==◌, inl, inr, List, [], ◌∷◌, ◌++◌, append-nil, length, get_or, max, set, sum, refl, sym, ap, subst, ◌∙◌, arith, suc}
+use Rattle.std.specs.Prelude.{All, IsTrue, slice_get, slice_index_or, Some}
 use Rattle.std.proofs.lemmas.List.{get_or-set_same, get_or-set_other, length-set, set-set, set-get_or}
 use Rattle.std.proofs.lemmas.List.Sums.{sum_by-le}
 use Rattle.std.proofs.lemmas.List.Elements.{All-from_get_or, All-get_or}
 use Rattle.std.proofs.lemmas.Option.{slice_get_within}
 use Rattle.std.proofs.lemmas.Bool.{eqb-true, eq-eqb}
-use Rattle.csdf_graph.specs.Graph.{Channel, Graph}
+use Rattle.csdf_graph.specs.Graph.{Channel, Graph, phases_of}
+use Rattle.csdf_graph.specs.Rates.{produced}
+use Rattle.std.proofs.Math.Nat.{mul-le-mul_left}
+use Rattle.csdf_analysis.proofs.FitLemmas.{at as at_channel}
 use Rattle.csdf_graph.specs.WellFormed.{IsWellFormed}
 use Rattle.csdf_analysis.specs.Repetition.{IsRepetition}
-use Rattle.csdf_analysis.specs.Period.{held_after, CanFire, fired, IsSchedule, no_firings, IsReached, HoldInitial, CompletesPeriod, CanGo, IsScheduleFrom, IsScheduleOf}
+use Rattle.csdf_analysis.specs.Period.{held_after, CanFire, fired, IsSchedule, counts_after, no_firings, IsReached, HoldInitial, CompletesPeriod, CanGo, IsScheduleFrom, IsScheduleOf}
 use Rattle.csdf_analysis.specs.Capacities.{IsLeastCapacity}
 use Rattle.csdf_analysis.specs.Laws.{IsWithinAll}
 use Rattle.csdf_analysis.specs.Fitting.{IsFit}
 use Rattle.csdf_analysis.specs.Running.{IsAt, IsStalled, CanComplete, IsLow}
-use Rattle.csdf_analysis.proofs.BoundLemmas.{phases_within, firing_fits}
-use Rattle.csdf_analysis.proofs.CountLemmas.{same_or_not, less_or_not}
+use Rattle.csdf_analysis.proofs.BoundLemmas.{phases_within, firing_fits, cycle_some}
+use Rattle.csdf_analysis.proofs.CountLemmas.{same_or_not, less_or_not, total_mono, fired_same, fired_other, none_at}
 use Rattle.csdf_analysis.proofs.PeriodLemmas.{reached_fed, goes_on}
 use Rattle.csdf_analysis.proofs.RunLemmas.{stalled_all, all_counts, completes_at}
 
@@ -145,6 +148,33 @@ decided channels q bounds own counts lengths firings total at stalled same initi
     let stalled2 = subst (λ b. IsStalled channels q b counts) same stalled in
     (λ yes. completes_at channels q bounds counts lengths firings at2 initial (eqb-true firings total yes ∙ all), λ completes. eq-eqb firings total (stalled_all channels q bounds counts lengths firings at2 stalled2 completes ∙ sym all))
 
+-- ---- no capacity of 0 completes a period
+
+-- a channel with no room gets no token
+none_put : (channels : List Channel) (bounds n actors : List ℕ) (c : ℕ) (channel : Channel) → slice_get channels c ≡ Some channel → get_or bounds c 0 ≡ 0 → IsSchedule channels bounds n actors → produced channel (get_or (counts_after n actors) channel.from 0) ≡ produced channel (get_or n channel.from 0)
+none_put channels bounds n [] c channel is none able = refl
+none_put channels bounds n (a ∷ actors) c channel is none able =
+    none_put channels bounds (fired n a) actors c channel is none able.1 ∙ elim (same_or_not channel.from a) [
+      | inl this ↦
+          let room = able.0.room c channel is this in
+          let one : produced channel (get_or (fired n a) channel.from 0) ≡ produced channel (suc (get_or n a 0)) = ap (λ k. produced channel (get_or (fired n a) k 0)) this ∙ ap (produced channel) (fired_same n a able.0.exists) in
+          let before : produced channel (get_or n channel.from 0) ≡ produced channel (get_or n a 0) = ap (λ k. produced channel (get_or n k 0)) this in
+          omega arith
+      | inr other ↦ ap (produced channel) (fired_other n a channel.from other)
+    ]
+
+-- a channel into which some token is put in a period has room for one
+pub some_room : (channels : List Channel) (q bounds : List ℕ) (c : ℕ) (channel : Channel) → slice_get channels c ≡ Some channel → 1 ≤ produced channel (get_or q channel.from 0) → CompletesPeriod channels q bounds → 1 ≤ get_or bounds c 0
+some_room channels q bounds c channel is some completes = elim (less_or_not 0 (get_or bounds c 0)) [
+  | inl less ↦ less
+  | inr none ↦
+      let r = completes.reached in
+      let same = none_put channels bounds (no_firings q) r.schedule c channel is (omega arith) r.able in
+      let all : produced channel (get_or (counts_after (no_firings q) r.schedule) channel.from 0) ≡ produced channel (get_or q channel.from 0) = ap (λ ks. produced channel (get_or ks channel.from 0)) r.leads in
+      let first : produced channel (get_or (no_firings q) channel.from 0) ≡ 0 = ap (produced channel) (none_at (length q) channel.from) in
+      absurd (omega arith)
+]
+
 -- ---- the search of one channel
 
 -- the bounds of a search: those handed in, but for the channel's, and none that completes a period is below it
@@ -162,8 +192,12 @@ initial_set channels bounds c b channel lt is fits initial i d at = elim (same_o
   | inr other ↦ subst (λ k. length d.initial ≤ k) (sym (get_or-set_other bounds c i b 0 other)) (initial i d at)
 ]
 
-pub search_first : (channels : List Channel) (q bounds own : List ℕ) (c b : ℕ) (channel : Channel) → CompletesPeriod channels q bounds → slice_get channels c ≡ Some channel → b ≡ length channel.initial → own ≡ set bounds c b → IsSearch channels q bounds own c
-search_first channels q bounds own c b channel completes is first same =
+-- the greater of two numbers is within what both are
+most : (a b w m : ℕ) → m ≡ max a b → a ≤ w → b ≤ w → m ≤ w
+most a b w m is one two = omega arith
+
+pub search_first : (channels : List Channel) (q bounds own : List ℕ) (c b : ℕ) (channel : Channel) → IsFit channels q → CompletesPeriod channels q bounds → slice_get channels c ≡ Some channel → b ≡ max (length channel.initial) 1 → own ≡ set bounds c b → IsSearch channels q bounds own c
+search_first channels q bounds own c b channel fit completes is first same =
     let lt : c < length bounds = (let e = completes.each_channel in let h = slice_get_within channels c channel is in omega arith) in
     let here : get_or own c 0 ≡ b = ap (λ ks. get_or ks c 0) same ∙ get_or-set_same bounds c b 0 lt in
     record {
@@ -173,7 +207,8 @@ search_first channels q bounds own c b channel completes is first same =
           (let whole : set own c w ≡ set bounds c w = ap (λ ks. set ks c w) same ∙ set-set bounds c b w in
           let fits : length channel.initial ≤ get_or (set bounds c w) c 0 = (subst (CompletesPeriod channels q) whole done).initial c channel is in
           let bound = get_or-set_same bounds c w 0 lt in
-          omega (arith, here, first, bound, fits));
+          let some : 1 ≤ get_or (set bounds c w) c 0 = some_room channels q (set bounds c w) c channel is (at_channel (λ d. 1 ≤ produced d (get_or q d.from 0)) channels c channel fit.some_put is) (subst (CompletesPeriod channels q) whole done) in
+          most (length channel.initial) 1 w (get_or own c 0) (here ∙ first) (omega (arith, bound, fits)) (omega (arith, bound, some)));
     }
 
 pub search_can : (channels : List Channel) (q bounds own : List ℕ) (c : ℕ) → CompletesPeriod channels q bounds → IsSearch channels q bounds own c → CanComplete channels q own c
@@ -211,6 +246,18 @@ fit_of g r q whole is =
       few = whole.fitting.few_channels;
       few_actors = (let h = few in omega arith);
       room = is.room;
+      some_put = λ i d lt.
+          (let c = whole.fitting.channels i d lt in
+          let a = (slice_index_or g.channels i d).from in
+          let rl = is.least.vector.each_actor in
+          let from = c.from in
+          let cycles : 1 ≤ get_or r a 0 = All-get_or (λ n. 1 ≤ n) r a 0 (omega arith) is.least.vector.positive in
+          let phases = phases_of g.actors a in
+          let more : phases * 1 ≤ phases * get_or r a 0 = mul-le-mul_left phases cycles in
+          let count = is.firings.firings a (omega arith) in
+          let cycle : 1 ≤ produced (slice_index_or g.channels i d) phases = cycle_some phases (slice_index_or g.channels i d).produce c.produce in
+          let grown : produced (slice_index_or g.channels i d) phases ≤ produced (slice_index_or g.channels i d) (get_or q a 0) = total_mono (slice_index_or g.channels i d).produce phases (get_or q a 0) (omega (arith, more, count)) in
+          omega (arith, cycle, grown));
       total = omega arith;
     }
 

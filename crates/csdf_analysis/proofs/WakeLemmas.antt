@@ -1,14 +1,13 @@
 -- A firing makes none able but its actor and those at the other ends of its channels.
-use Rattle.std.proofs.Common.{◌≡◌, ◌≢◌, ℕ, zero, suc, ◌+◌, ◌-◌, ◌<◌, ◌≤◌, ◌==◌, ◌⊎◌, inl, inr, cond, Bool, true, false, List, [], ◌∷◌, ◌++◌, length, replicate, get_or, set, refl, sym, ap, subst, ◌∙◌, arith}
-use Rattle.std.specs.Prelude.{All, slice_get, slice_index, slice_index_or, Some}
-use Rattle.std.specs.List.{Contains, range_with_len}
+use Rattle.std.proofs.Common.{◌≡◌, ℕ, zero, suc, ◌+◌, ◌-◌, ◌<◌, ◌≤◌, ◌==◌, ◌⊎◌, inl, inr, cond, Bool, true, false, List, [], ◌∷◌, ◌++◌, length, replicate, get_or, set, refl, sym, ap, subst, ◌∙◌, arith}
+use Rattle.std.specs.Prelude.{slice_get, Some}
+use Rattle.std.specs.List.{Contains}
 use Rattle.std.proofs.Math.Seq.{get_or-append_seam}
 use Rattle.std.proofs.lemmas.List.{get_or-set_same, get_or-set_other, get_or_append_left, get_or_default, length_push, length-set}
-use Rattle.std.proofs.lemmas.Bool.{cases_Bool, false≢true, eqb-true, eq-eqb}
+use Rattle.std.proofs.lemmas.Bool.{false≢true, eq-eqb}
 use Rattle.csdf_graph.specs.Graph.{Channel, inputs_of, outputs_of}
 use Rattle.csdf_graph.specs.Rates.{produced, consumed, production, consumption}
-use Rattle.csdf_analysis.specs.Period.{held, own_consumption, held_after, CanFire, fired, CanGo}
-use Rattle.csdf_analysis.specs.Running.{IsStalled}
+use Rattle.csdf_analysis.specs.Period.{held, held_after, fired, CanGo}
 use Rattle.csdf_analysis.specs.Waking.{IsMarked, ProducersWoken, ConsumersWoken, AreWoken, IsListed}
 use Rattle.csdf_analysis.proofs.CountLemmas.{same_or_not, fired_other, fired_length}
 use Rattle.csdf_analysis.proofs.FitLemmas.{stands_at}

@@ -1,6 +1,7 @@
 -- What a run plays: channels and the firings of a period, within the limits of a graph.
-use Rattle.std.specs.Prelude.{◌≡◌, ℕ, ◌<◌, ◌≤◌, List, length, All, sum, slice_index_or}
+use Rattle.std.specs.Prelude.{◌≡◌, ℕ, ◌<◌, ◌≤◌, List, length, All, sum, slice_index, slice_index_or}
 use Rattle.csdf_graph.specs.Graph.{Channel, inputs_of, outputs_of}
+use Rattle.csdf_graph.specs.Rates.{produced}
 use Rattle.csdf_analysis.specs.declared.ports.Ports.{Ports}
 use Rattle.csdf_analysis.specs.Repetition.{HaveRoom}
 
@@ -15,12 +16,13 @@ pub record IsBetween (n : ℕ) (c : Channel) : Type 0 where
   pub to : c.to < n
   pub small : All (λ x. x ≤ 64) c.produce
 
--- at most 128 channels between the actors, with full capacities up to 65,535, and so many firings that their number fits 32 bits
+-- at most 128 channels between the actors, with full capacities up to 65,535, some token put into each in a period, and so many firings that their number fits 32 bits
 pub record IsFit (channels : List Channel) (q : List ℕ) : Type 0 where
   pub between : All (IsBetween (length q)) channels
   pub few : length channels ≤ 128
   pub few_actors : length q ≤ 64
   pub room : HaveRoom q channels
+  pub some_put : All (λ c. 1 ≤ produced c (slice_index q c.from)) channels
   pub total : sum q ≤ 1048576
 
 -- the numbers of an actor's channels

@@ -1,4 +1,5 @@
-//! Analysis of cyclo-static dataflow graphs: the least repetition vector.
+//! Analysis of cyclo-static dataflow graphs: the least repetition vector, schedules of a period, and
+//! the least capacities under which it completes.
 #![tactic(auto)]
 
 mod accepted;

@@ -64,7 +64,7 @@ fn least_bound(
     ensures firings { IfOk result (λ found. found.1 ≡ sum net.now.firings) }
 {
     let mut start = copy_of(alloc, bounds)?;
-    start[number as usize] = net.channel(number).initial.len() as u32;
+    start[number as usize] = (net.channel(number).initial.len() as u32).max(1);
     let mut run = Run::new(alloc, net, start)?;
     let mut waiting = Waiting::all(alloc, net.actors())?;
     run.go_on(net, &mut waiting)?;
@@ -79,7 +79,7 @@ fn least_bound(
 /// The least capacity of the channel that completes a period with the other entries of `bounds`,
 /// and how many firings the search made, which is the sum of all `q`.
 ///
-/// The run starts at the channel's initial tokens. At a stall it raises the capacity to the least
+/// The run starts at the channel's initial tokens, or at 1 where it has none. At a stall it raises the capacity to the least
 /// that lets the channel's producer fire there, and goes on from the counts that it reached: under
 /// every capacity that completes a period the producer can fire there. An error says that memory
 /// ran out.

@@ -1,4 +1,4 @@
-use Rattle.std.proofs.Common.{◌<◌, length, set, ap, ◌∙◌, arith}
+use Rattle.std.proofs.Common.{◌<◌, length, max, set, ap, ◌∙◌, arith}
 use Rattle.std.proofs.lemmas.List.{get_or_default}
 use Rattle.csdf_analysis.proofs.RunLemmas.{firings_within}
 use Rattle.csdf_analysis.proofs.SearchLemmas.{search_first, search_can, search_next, search_least}
@@ -8,7 +8,7 @@ pub loop-run-init : goal.loop-run-init
 loop-run-init c = record {
   run = c.in_ok-go_on.ensures.run;
   stalled = c.in_ok-go_on.ensures.stalled;
-  search = search_first _ _ c.args.bounds.now _ c.args.number c.len.result _ c.requires.completes c.channel.ensures.value (omega (arith, c.len.ensures, c.channel.result.now.initial.ok.0)) (c.in_ok-go_on.ensures.bounds ∙ c.in_ok-run.ensures.bounds ∙ ap (λ ks. set ks c.args.number c.len.result) c.in_ok-start.ensures);
+  search = search_first _ _ c.args.bounds.now _ c.args.number c.max.result _ c.channel.ensures.fit c.requires.completes c.channel.ensures.value (c.max.ensures ∙ ap (λ n. max n 1) (omega (arith, c.len.ensures, c.channel.result.now.initial.ok.0))) (c.in_ok-go_on.ensures.bounds ∙ c.in_ok-run.ensures.bounds ∙ ap (λ ks. set ks c.args.number c.max.result) c.in_ok-start.ensures);
   actors = c.go_on.ensures.actors ∙ c.in_ok-waiting.ensures.actors ∙ c.actors.ensures.count;
 }
 

@@ -1,4 +1,4 @@
-use Rattle.std.proofs.Common.{◌<◌, ℕ, below_more, subst, sym, ◌∙◌}
+use Rattle.std.proofs.Common.{below_more, ◌∙◌}
 use Rattle.std.specs.List.{Contains}
 use Rattle.csdf_analysis.proofs.waiting.Waiting.all.Goals as goal
 
