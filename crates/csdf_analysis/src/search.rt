@@ -1,12 +1,9 @@
 //! The least capacity of one channel, by one run that raises it at stalls.
 
-ghost use Rattle.std.specs.Prelude.{◌≡◌, ◌+◌, ◌<◌, ◌≤◌, ◌↔◌, ℕ, All, IfOk, IsTrue, length, slice_index, slice_set, sum};
-ghost use Rattle.csdf_graph.specs.Graph.{channel_view};
+ghost use Rattle.std.specs.Prelude.{◌≡◌, ◌<◌, ◌≤◌, ◌↔◌, All, IfOk, IsTrue, length, sum};
 ghost use Rattle.csdf_analysis.specs.Repetition.{IsRepetition};
 ghost use Rattle.csdf_analysis.specs.Period.{CompletesPeriod, HoldInitial};
 ghost use Rattle.csdf_analysis.specs.Capacities.{IsLeastCapacity};
-ghost use Rattle.csdf_analysis.specs.Fitting.{IsFit};
-ghost use Rattle.csdf_analysis.specs.Running.{CanComplete, IsLow, IsRun, IsStalled};
 
 use crate::net::Net;
 use crate::run::Run;
