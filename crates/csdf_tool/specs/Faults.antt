@@ -1,0 +1,47 @@
+-- Faults of the program, and passes that end at the first.
+use Rattle.std.specs.Prelude.{◌≡◌, ◌≢◌, ℕ, Result, Ok, Err}
+use Rattle.csdf_graph.specs.declared.fault.GraphFault.{GraphFault}
+use Rattle.csdf_graph.specs.declared.fault.GraphFault.TheVariants as graph
+use Rattle.csdf_tool.specs.declared.fault.ToolFault.{ToolFault}
+use Rattle.csdf_tool.specs.declared.fault.ToolFault.TheVariants.{Graph, Line, TooLong, Device, Memory}
+
+infixl 10 ◌>>=◌
+abbrev pub ◌>>=◌ : {A B : Type 0} → Result A ToolFault → (A → Result B ToolFault) → Result B ToolFault
+(Ok x) >>= f = f x
+(Err e) >>= f = Err e
+
+-- a fault of a graph file as the program tells it; want of memory is no fault of the file
+abbrev pub fault_of : GraphFault → ToolFault
+fault_of graph.NotToml = Graph graph.NotToml
+fault_of (graph.Shape at) = Graph (graph.Shape at)
+fault_of (graph.Name at) = Graph (graph.Name at)
+fault_of (graph.Range at) = Graph (graph.Range at)
+fault_of (graph.UnknownActor c) = Graph (graph.UnknownActor c)
+fault_of (graph.PhaseLength c) = Graph (graph.PhaseLength c)
+fault_of (graph.ZeroRate c) = Graph (graph.ZeroRate c)
+fault_of (graph.KernelPorts a) = Graph (graph.KernelPorts a)
+fault_of graph.NotConnected = Graph graph.NotConnected
+fault_of graph.Memory = Memory
+
+-- what reading a graph file gives, with its fault as the program tells it
+abbrev pub of_graph : {A : Type 0} → Result A GraphFault → Result A ToolFault
+of_graph (Ok x) = Ok x
+of_graph (Err fault) = Err (fault_of fault)
+
+-- what a function answered, seen by view, is what is wanted, unless memory ran out
+abbrev pub Gives : {X Y : Type 0} → (X → Y) → Result X ToolFault → Result Y ToolFault → Type 0
+Gives view (Ok x) wanted = wanted ≡ Ok (view x)
+Gives view (Err fault) wanted = fault ≢ Memory → wanted ≡ Err fault
+
+-- what a function answered, seen by view, is an answer that is allowed, unless memory ran out
+abbrev pub Tells : {X Y : Type 0} → (X → Y) → Result X ToolFault → (Result Y ToolFault → Type 0) → Type 0
+Tells view (Ok x) Allows = Allows (Ok (view x))
+Tells view (Err fault) Allows = fault ≢ Memory → Allows (Err fault)
+
+-- the exit status: 1 where an input was refused, 3 where a device or memory failed
+abbrev pub status_of : ToolFault → ℕ
+status_of (Graph fault) = 1
+status_of (Line n) = 1
+status_of TooLong = 1
+status_of (Device d) = 3
+status_of Memory = 3

@@ -1,0 +1,5 @@
+pub mod Faults
+pub mod Lines
+pub mod Printed
+pub mod Session
+pub mod Turns
