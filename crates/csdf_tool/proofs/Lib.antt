@@ -1,2 +1,4 @@
 pub mod NameLemmas
 pub mod TurnLemmas
+pub mod SessionLemmas
+pub mod AnswerLemmas

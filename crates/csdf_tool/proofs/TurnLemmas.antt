@@ -28,10 +28,11 @@ goes_on-more names old now next lines left line text more h turn = record {
   on = λ s shown.
       let at = h.on s shown in
       let printed = turn.prints at.0 at.1 in
-      let first = subst (λ plan. PrintsLine names plan at.0 line printed.0) h.plan printed.1 in
-      (next_state old.plan at.0 line,
-      subst (λ plan. Shows next (next_state plan at.0 line)) h.plan (turn.shows at.0 at.1),
-      λ rest others. subst (PrintsLines names old.plan s lines) (sym (append_assoc text printed.0 rest) ∙ ap (λ t. t ++ rest) (sym printed.2)) (at.2 (printed.0 ++ rest) (printed.0, rest, first, others, refl)));
+      let first = subst (λ plan. PrintsLine names plan at.0 line printed.0) h.plan printed.1 in (
+        next_state old.plan at.0 line,
+        subst (λ plan. Shows next (next_state plan at.0 line)) h.plan (turn.shows at.0 at.1),
+        λ rest others. subst (PrintsLines names old.plan s lines) (sym (append_assoc text printed.0 rest) ∙ ap (λ t. t ++ rest) (sym printed.2)) (at.2 (printed.0 ++ rest) (printed.0, rest, first, others, refl)),
+      );
 }
 
 pub goes_on-end : (names : List (List ℕ)) (old now : View) (lines : List Line) (text : List ℕ) → GoesOn names old now lines [] text → TurnsAll names old lines text

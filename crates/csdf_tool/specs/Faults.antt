@@ -2,6 +2,9 @@
 use Rattle.std.specs.Prelude.{◌≡◌, ◌≢◌, ℕ, Result, Ok, Err}
 use Rattle.csdf_graph.specs.declared.fault.GraphFault.{GraphFault}
 use Rattle.csdf_graph.specs.declared.fault.GraphFault.TheVariants as graph
+use Rattle.csdf_graph.specs.declared.intake.InputFault.{InputFault}
+use Rattle.csdf_graph.specs.declared.intake.InputFault.TheVariants as input
+use Rattle.csdf_tool.specs.declared.fault.Stream.TheVariants.{Input}
 use Rattle.csdf_tool.specs.declared.fault.ToolFault.{ToolFault}
 use Rattle.csdf_tool.specs.declared.fault.ToolFault.TheVariants.{Graph, Line, TooLong, Device, Memory}
 
@@ -27,6 +30,12 @@ fault_of graph.Memory = Memory
 abbrev pub of_graph : {A : Type 0} → Result A GraphFault → Result A ToolFault
 of_graph (Ok x) = Ok x
 of_graph (Err fault) = Err (fault_of fault)
+
+-- why standard input was not read, as the program tells it
+abbrev pub of_input : InputFault → ToolFault
+of_input input.Read = Device Input
+of_input input.TooLong = TooLong
+of_input input.Memory = Memory
 
 -- what a function answered, seen by view, is what is wanted, unless memory ran out
 abbrev pub Gives : {X Y : Type 0} → (X → Y) → Result X ToolFault → Result Y ToolFault → Type 0

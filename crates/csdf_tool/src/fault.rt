@@ -4,7 +4,7 @@ ghost use Rattle.std.specs.Prelude.{◌≡◌};
 ghost use Rattle.csdf_tool.specs.Faults.{status_of};
 ghost use Rattle.csdf_tool.specs.declared.fault.ToolFault.TheVariants.{Memory};
 
-use csdf_graph::GraphFault;
+use csdf_graph::{GraphFault, InputFault};
 use std::alloc::{AllocError, AllocFailed};
 use std::fmt;
 use thiserror::Error;
@@ -83,6 +83,21 @@ impl From<GraphFault> for ToolFault {
         match fault {
             GraphFault::Memory => ToolFault::Memory,
             _ => ToolFault::Graph(fault),
+        }
+    }
+}
+
+impl From<InputFault> for ToolFault {
+    ghost use Rattle.std.specs.Prelude.{◌≡◌};
+    ghost use Rattle.csdf_tool.specs.Faults.{of_input};
+
+    ghost from_gives = { λ fault e. e ≡ of_input fault };
+
+    fn from(fault: InputFault) -> ToolFault {
+        match fault {
+            InputFault::Read => ToolFault::Device(Stream::Input),
+            InputFault::TooLong => ToolFault::TooLong,
+            InputFault::Memory => ToolFault::Memory,
         }
     }
 }

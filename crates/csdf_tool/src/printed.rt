@@ -43,11 +43,7 @@ fn push_channel(
 }
 
 /// Appends a refusal.
-fn push_refusal(
-    text: &mut String,
-    channels: &[Channel],
-    refusal: Refusal,
-) -> Result<(), AllocError>
+fn push_refusal(text: &mut String, channels: &[Channel], refusal: Refusal) -> Result<(), AllocError>
     ensures { OnOk result (string_bytes text.new ≡ string_bytes text.old ++ refusal_text (names_of (map channel_view channels.now)) refusal) }
 {
     match refusal {

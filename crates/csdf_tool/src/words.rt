@@ -12,7 +12,9 @@ use std::alloc::{AllocError, Global};
 pub(crate) fn words_of<'a>(alloc: Global, line: &'a str) -> Result<Vec<&'a str>, AllocError>
     ensures { IfOk result (λ words. map (λ word. word.now) words.items ≡ words_of line.now) }
 {
-    line.split(' ').filter(|word| !word.is_empty()).collect(alloc)
+    line.split(' ')
+        .filter(|word| !word.is_empty())
+        .collect(alloc)
 }
 
 fn is_word_byte(byte: u8) -> bool

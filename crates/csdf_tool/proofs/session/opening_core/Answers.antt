@@ -1,0 +1,19 @@
+use Rattle.std.proofs.Common.{◌≡◌, length, refl, ap, sym, ◌∙◌}
+use Rattle.csdf_graph.specs.ScriptText.{script_view}
+use Rattle.csdf_core.specs.Plan.{Plan}
+use Rattle.csdf_tool.proofs.SessionLemmas.{plan_in-made, length-channels}
+use Rattle.csdf_tool.proofs.session.opening_core.Goals as goal
+
+pub returns-clause-plan : goal.returns-clause-plan
+returns-clause-plan c =
+    c.in_ok-core.ensures.plan
+    ∙ plan_in-made c.args.graph.now (script_view c.args.script.now) c.actors.result.now c.actors-2.result.now c.in_ok-limits.limits.items c.in_ok-supply.supply.items
+    c.actors.ensures.value (c.in_ok-limits.ensures.items_if_clones_equal (λ y e. e)) c.actors-2.ensures.value c.in_ok-supply.ensures
+
+pub returns-clause-channels : goal.returns-clause-channels
+returns-clause-channels c =
+    let plan =
+    c.in_ok-core.ensures.plan
+    ∙ plan_in-made c.args.graph.now (script_view c.args.script.now) c.actors.result.now c.actors-2.result.now c.in_ok-limits.limits.items c.in_ok-supply.supply.items
+    c.actors.ensures.value (c.in_ok-limits.ensures.items_if_clones_equal (λ y e. e)) c.actors-2.ensures.value c.in_ok-supply.ensures in
+    ap (λ (p : Plan). length p.channels) plan ∙ length-channels c.args.graph.now (script_view c.args.script.now)

@@ -1,0 +1,58 @@
+//! A script from its bytes to its replies.
+
+ghost use Rattle.std.specs.Prelude.{◌≡◌, ◌≢◌, ◌≤◌, ℕ, List, true, Ok, Err, string_bytes, IfErr, IfOk, OnErr, OnOk};
+ghost use Rattle.std.specs.Io.KnownBytes.{Appends};
+ghost use Rattle.csdf_graph.specs.ScriptText.{script_view};
+ghost use Rattle.csdf_tool.specs.Faults.{Tells};
+ghost use Rattle.csdf_tool.specs.Session.{session_in, IsReplayOf, IsAnswer};
+
+use crate::fault::{Stream, ToolFault};
+use crate::session::{check_capacities, lines_of, opening_core};
+use crate::turns::turn_all;
+use csdf_graph::{Graph, Outlet, Script, read_graph, read_script, write_bytes};
+use std::alloc::Global;
+
+/// The text of a script that is played on a graph, or its first fault.
+#[tactic(auto, unfolding(crate::specs::Session::session_in))]
+fn replay(alloc: Global, graph: &Graph, script: &Script) -> Result<String, ToolFault>
+    requires { script.now.limit ≤ 1_000_000 }
+    ensures { Tells string_bytes result (IsReplayOf (session_in graph.now (script_view script.now))) }
+{
+    let lines = lines_of(alloc, graph, &script.lines)?;
+    check_capacities(graph)?;
+    let mut core = opening_core(alloc, graph, script)?;
+    let text = turn_all(alloc, graph.channels(), &mut core, &lines)?;
+    Ok(text)
+}
+
+/// The text that is printed for a graph file, or its first fault.
+fn text_of(alloc: Global, bytes: &[u8]) -> Result<String, ToolFault>
+    ensures { Tells string_bytes result (IsAnswer bytes.now) }
+{
+    let graph = read_graph(alloc, bytes)?;
+    let script = read_script(alloc, bytes)?;
+    replay(alloc, &graph, &script)
+}
+
+/// Plays the script of a graph file on its graph, and writes the reply to each move.
+///
+/// Nothing is written before the last move is played. The error is the first fault of
+/// [`read_graph`], of [`read_script`] and of the script's lines; then that of the first channel
+/// without a given capacity; then [`ToolFault::Device`] where the writer failed.
+/// [`ToolFault::Memory`] may come in place of another answer, and says nothing of the file.
+pub fn play_script<O: Outlet>(alloc: Global, bytes: &[u8], writer: &mut O) -> Result<(), ToolFault>
+    ensures written { OnOk result ((text : List ℕ) × IsAnswer bytes.now (Ok text)
+        × Appends (O.written writer.old) (O.written writer.new) text) }
+    ensures unmarked { OnOk result (O.failed writer.new ≡ O.failed writer.old) }
+    ensures refused { IfErr result (λ fault. fault ≢ ToolFault.Memory → fault ≢ ToolFault.Device Stream.Output
+        → IsAnswer bytes.now (Err fault)) }
+    ensures unwritten { IfErr result (λ fault. fault ≢ ToolFault.Device Stream.Output → writer.new ≡ writer.old) }
+    ensures failed { result ≡ Err (ToolFault.Device Stream.Output)
+        → ((text : List ℕ) × IsAnswer bytes.now (Ok text)) × (O.failed writer.new ≡ true) }
+{
+    let text = text_of(alloc, bytes)?;
+    match write_bytes(writer, text.as_bytes()) {
+        Ok(()) => Ok(()),
+        Err(_) => Err(ToolFault::Device(Stream::Output)),
+    }
+}
