@@ -1,6 +1,6 @@
 -- What a script plays.
-use Rattle.std.proofs.Common.{◌≡◌, ℕ, suc, ◌<◌, ◌≤◌, Bool, true, false, cond, not, List, [], ◌∷◌, ◌++◌, length, get_or, map, Option, Some, None, Result, Ok, Err, refl, sym, ap, subst, ◌∙◌, arith}
-use Rattle.std.specs.Prelude.{is_some, is_none, position, nat_lt, nat_le, option_and_then, replicate, IsSome, All}
+use Rattle.std.proofs.Common.{◌≡◌, ℕ, ◌≤◌, Bool, true, false, cond, List, ◌++◌, length, get_or, map, Option, Some, None, Result, Ok, refl, sym, ap, subst, ◌∙◌, arith}
+use Rattle.std.specs.Prelude.{is_none, position, nat_le, option_and_then, replicate, IsSome}
 use Rattle.std.specs.List.{position_or_len}
 use Rattle.std.proofs.lemmas.Bool.{ltb-false}
 use Rattle.std.proofs.lemmas.List.Sums.{fails_before_first}
@@ -23,7 +23,7 @@ use Rattle.csdf_core.specs.Layout.{HasCapacities, given_capacity, plan_for}
 use Rattle.csdf_core.proofs.LayoutLemmas.{length-capacities}
 use Rattle.csdf_tool.specs.declared.fault.ToolFault.{ToolFault}
 use Rattle.csdf_tool.specs.Faults.{◌>>=◌}
-use Rattle.csdf_tool.specs.Session.{all_given, capacities_in, supply_of, plan_in}
+use Rattle.csdf_tool.specs.Session.{supply_of, plan_in}
 
 -- what was made before, and what is still made
 abbrev pub with_front : {B : Type 0} → List B → Result (List B) ToolFault → Result (List B) ToolFault

@@ -1,25 +1,18 @@
 -- Playing lines one after another.
-use Rattle.std.proofs.Common.{◌≡◌, ℕ, List, [], ◌∷◌, ◌++◌, map, drop, refl, sym, ap, subst, ◌∙◌, append_assoc, append-nil}
-use Rattle.csdf_core.specs.State.{State, present}
+use Rattle.std.proofs.Common.{◌≡◌, ℕ, List, [], ◌∷◌, ◌++◌, refl, sym, ap, subst, ◌∙◌, append_assoc, append-nil}
+use Rattle.csdf_core.specs.State.{State}
 use Rattle.csdf_core.specs.Moves.{Move}
-use Rattle.csdf_core.specs.Step.{Reply, reply_to, after}
+use Rattle.csdf_core.specs.Step.{Reply, reply_to}
 use Rattle.csdf_core.specs.Shows.{View, Shows, Plays}
-use Rattle.csdf_core.specs.Plan.{Plan}
 use Rattle.csdf_tool.specs.Lines.{Line, Play, Cells}
 use Rattle.csdf_tool.specs.Printed.{reply_line, cells_text}
-use Rattle.csdf_tool.specs.Session.{Holds, PrintsLine, PrintsLines, next_state}
+use Rattle.csdf_tool.specs.Session.{PrintsLine, PrintsLines, next_state}
 use Rattle.csdf_tool.specs.Turns.{Turns, TurnsAll}
 
 -- where some lines have been played: what is printed for those that are left goes at the end
 pub record GoesOn (names : List (List ℕ)) (old now : View) (lines left : List Line) (text : List ℕ) : Type 0 where
   pub plan : now.plan ≡ old.plan
   pub on : (s : State) → Shows old s → (t : State) × Shows now t × ((rest : List ℕ) → PrintsLines names old.plan t left rest → PrintsLines names old.plan s lines (text ++ rest))
-
-pub goes_on-start : (names : List (List ℕ)) (core : View) (lines : List Line) → GoesOn names core core lines lines []
-goes_on-start names core lines = record {
-  plan = refl;
-  on = λ s shown. (s, shown, λ rest h. h);
-}
 
 pub goes_on-more : (names : List (List ℕ)) (old now next : View) (lines left : List Line) (line : Line) (text more : List ℕ)
     → GoesOn names old now lines (line ∷ left) text → Turns names now next line text more → GoesOn names old next lines left more
@@ -37,22 +30,6 @@ goes_on-more names old now next lines left line text more h turn = record {
 
 pub goes_on-end : (names : List (List ℕ)) (old now : View) (lines : List Line) (text : List ℕ) → GoesOn names old now lines [] text → TurnsAll names old lines text
 goes_on-end names old now lines text h = λ s shown. let at = h.on s shown in subst (PrintsLines names old.plan s lines) (append-nil text) (at.2 [] refl)
-
--- one move on a core
-pub turns-move : (names : List (List ℕ)) (old new : View) (verb name : List ℕ) (m : Move) (reply : Reply) (before more : List ℕ)
-    → Plays old new (m ∷ []) (reply ∷ []) → more ≡ before ++ reply_line names verb name reply → Turns names old new (Play verb name m) before more
-turns-move names old new verb name m reply before more played is = record {
-  plan = played.plan;
-  prints = λ s shown. (reply_line names verb name reply, ap (reply_line names verb name) (let e : reply ∷ [] ≡ reply_to old.plan s m ∷ [] = played.replies_are s shown in cc), is);
-  shows = λ s shown. played.shows s shown;
-}
-
-pub turns-cells : (names : List (List ℕ)) (core : View) (before more : List ℕ) → more ≡ before ++ cells_text names core.pool → Turns names core core Cells before more
-turns-cells names core before more is = record {
-  plan = refl;
-  prints = λ s shown. (cells_text names core.pool, (core.pool, record { partition = shown.partition; tokens = shown.chains ∙ ap (λ p. p.tokens) shown.same }, refl), is);
-  shows = λ s shown. shown;
-}
 
 -- a move has a reply
 pub turns-none : (names : List (List ℕ)) (old new : View) (verb name : List ℕ) (m : Move) (before : List ℕ) → Plays old new (m ∷ []) [] → Turns names old new (Play verb name m) before before

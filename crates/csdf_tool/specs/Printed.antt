@@ -1,5 +1,5 @@
 -- Printed text: the replies to the moves of a script, and the cells.
-use Rattle.std.specs.Prelude.{ℕ, ℤ, List, [], ◌∷◌, ◌++◌, Result, Ok, Err, codes, map, slice_index_or}
+use Rattle.std.specs.Prelude.{ℕ, ℤ, List, [], ◌∷◌, ◌++◌, Ok, Err, codes, map, slice_index_or}
 use Rattle.std.specs.List.{enumerate_from, flat_map}
 use Rattle.std.specs.Fmt.{decimal, signed_decimal}
 use Rattle.csdf_graph.specs.Graph.{Channel}

@@ -1,7 +1,7 @@
 //! What a line of a script asks for.
 
 ghost use Rattle.std.specs.Prelude.{◌≡◌, map, IfOk, option_map};
-ghost use Rattle.csdf_core.specs.Moves.{Move as MoveModel, move_of};
+ghost use Rattle.csdf_core.specs.Moves.{move_of};
 ghost use Rattle.csdf_tool.specs.Lines.{alone, move_in, asked_by, line_in, line_view};
 
 use crate::words::{actor_in, channel_in, is_name, tokens_of, words_of};

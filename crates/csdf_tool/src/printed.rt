@@ -1,11 +1,11 @@
 //! Printed text: the replies to the moves of a script, and the cells.
 
-ghost use Rattle.std.specs.Prelude.{◌≡◌, ◌<◌, ◌≤◌, ◌++◌, ◌∷◌, [], codes, length, map, string_bytes, OnOk, IfOk};
+ghost use Rattle.std.specs.Prelude.{◌≡◌, ◌<◌, ◌≤◌, ◌++◌, length, map, string_bytes, OnOk};
 ghost use Rattle.std.specs.List.{enumerate_from};
 ghost use Rattle.csdf_graph.specs.Graph.{channel_view};
-ghost use Rattle.csdf_pool.specs.Pool.{chain_of, held_cells};
+ghost use Rattle.csdf_pool.specs.Pool.{chain_of};
 ghost use Rattle.csdf_core.specs.Shows.{told};
-ghost use Rattle.csdf_tool.specs.Printed.{newline, names_of, name_at, spaced, spaced_tokens, refusal_text, reply_text, reply_line, chain_line, chain_lines, cells_text};
+ghost use Rattle.csdf_tool.specs.Printed.{names_of, name_at, spaced, spaced_tokens, refusal_text, reply_text, reply_line, chain_line, chain_lines, cells_text};
 
 use csdf_core::{Core, Refusal, Reply};
 use csdf_graph::Channel;

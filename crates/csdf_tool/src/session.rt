@@ -1,10 +1,10 @@
 //! What a script plays on a graph.
 
-ghost use Rattle.std.specs.Prelude.{◌≡◌, ◌≤◌, ◌<◌, true, All, length, map, is_none, position, string_bytes, IfOk, OnOk};
-ghost use Rattle.csdf_graph.specs.Graph.{actor_view, channel_view};
+ghost use Rattle.std.specs.Prelude.{◌≡◌, ◌≤◌, length, map, is_none, position, string_bytes, IfOk, OnOk};
+ghost use Rattle.csdf_graph.specs.Graph.{actor_view};
 ghost use Rattle.csdf_graph.specs.Passes.{itself};
 ghost use Rattle.csdf_graph.specs.ScriptText.{script_view};
-ghost use Rattle.csdf_core.specs.Layout.{HasCapacities, is_source_kernel};
+ghost use Rattle.csdf_core.specs.Layout.{HasCapacities};
 ghost use Rattle.csdf_core.specs.Shows.{Shows};
 ghost use Rattle.csdf_core.specs.State.{opening};
 ghost use Rattle.csdf_tool.specs.Faults.{Gives};

@@ -1,4 +1,4 @@
-use Rattle.std.proofs.Common.{◌≡◌, Err, ap, sym, subst, ◌∙◌}
+use Rattle.std.proofs.Common.{◌≡◌, Err, sym, subst, ◌∙◌}
 use Rattle.csdf_tool.specs.declared.fault.ToolFault.TheVariants as fault
 use Rattle.csdf_tool.specs.declared.fault.Stream.TheVariants.{Output}
 use Rattle.csdf_tool.specs.Session.{IsAnswer}

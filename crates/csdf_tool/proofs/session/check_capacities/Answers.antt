@@ -1,4 +1,4 @@
-use Rattle.std.proofs.Common.{◌≡◌, ap, sym, ◌∙◌}
+use Rattle.std.proofs.Common.{ap, sym, ◌∙◌}
 use Rattle.csdf_tool.specs.Session.{all_given}
 use Rattle.csdf_tool.proofs.SessionLemmas.{without_capacity-view, capacities-given}
 use Rattle.csdf_tool.proofs.session.check_capacities.Goals as goal

@@ -1,9 +1,9 @@
-use Rattle.std.proofs.Common.{◌≡◌, ◌+◌, [], ◌∷◌, map, drop, ap, sym, subst, ◌∙◌, string_bytes}
+use Rattle.std.proofs.Common.{◌+◌, ◌∷◌, map, drop, ap, sym, subst, ◌∙◌, string_bytes}
 use Rattle.std.proofs.lemmas.List.{drop_more, drop_all}
 use Rattle.csdf_graph.specs.Graph.{channel_view}
 use Rattle.csdf_tool.specs.Lines.{line_view}
 use Rattle.csdf_tool.specs.Printed.{names_of}
-use Rattle.csdf_tool.proofs.TurnLemmas.{GoesOn, goes_on-start, goes_on-more, goes_on-end}
+use Rattle.csdf_tool.proofs.TurnLemmas.{GoesOn, goes_on-more, goes_on-end}
 use Rattle.csdf_tool.proofs.turns.turn_all.Goals as goal
 
 pub loop-line-preserved : goal.loop-line-preserved

@@ -1,8 +1,5 @@
-use Rattle.std.proofs.Common.{◌≡◌, [], ◌∷◌, List, map, length, ap, sym, arith, ◌∙◌, subst}
+use Rattle.std.proofs.Common.{◌≡◌, [], length, ap, arith}
 use Rattle.std.proofs.lemmas.List.{nil_from_length}
-use Rattle.csdf_core.specs.Moves.{Move, move_of}
-use Rattle.csdf_core.specs.Step.{Reply}
-use Rattle.csdf_core.specs.Shows.{Plays, told}
 use Rattle.csdf_tool.proofs.TurnLemmas.{turns-none}
 use Rattle.csdf_tool.proofs.turns.turn_move.Goals as goal
 
