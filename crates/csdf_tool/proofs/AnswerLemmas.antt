@@ -1,72 +1,83 @@
--- What is printed for a graph file is never that a stream failed.
-use Rattle.std.proofs.Common.{◌≡◌, ℕ, suc, List, [], ◌∷◌, Option, Some, None, Result, Ok, Err, ap}
-use Rattle.std.specs.Prelude.{position, is_none}
+-- What is told in place of a text is a fault of the file.
+use Rattle.std.proofs.Common.{◌≡◌, ℕ, suc, List, [], ◌∷◌, Option, Some, None, Result, Ok, Err, sym, subst}
+use Rattle.std.specs.Prelude.{MatchResult}
 use Rattle.csdf_graph.specs.declared.fault.GraphFault.{GraphFault}
 use Rattle.csdf_graph.specs.declared.fault.GraphFault.TheVariants as graph
-use Rattle.csdf_graph.specs.Graph.{Graph, Channel}
+use Rattle.csdf_graph.specs.Graph.{Graph}
 use Rattle.csdf_graph.specs.ScriptText.{Script, script_of}
-use Rattle.csdf_tool.specs.declared.fault.Stream.{Stream}
+use Rattle.csdf_analysis.specs.declared.fault.AcceptFault.{AcceptFault}
+use Rattle.csdf_analysis.specs.declared.fault.AcceptFault.TheVariants as accept
 use Rattle.csdf_tool.specs.declared.fault.ToolFault.{ToolFault}
 use Rattle.csdf_tool.specs.declared.fault.ToolFault.TheVariants as fault
-use Rattle.csdf_tool.specs.Faults.{◌>>=◌, fault_of, of_graph}
+use Rattle.csdf_tool.specs.Faults.{◌>>=◌, fault_of, accept_fault}
 use Rattle.csdf_tool.specs.Lines.{Line, line_in}
-use Rattle.csdf_tool.specs.Session.{Session, or_line, lines_from, all_given, capacities_in, session_in, IsReplayOf, IsAnswerFor, IsAnswer}
+use Rattle.csdf_tool.specs.Printed.{names_of}
+use Rattle.csdf_tool.specs.Session.{or_line, lines_from, IsReplay, IsReplayOf, IsAnswerFor, IsAnswer}
 
--- no stream failed
-abbrev pub NoDevice : {A : Type 0} → Result A ToolFault → Type 0
-NoDevice r = (d : Stream) → r ≡ Err (fault.Device d) → ⊥
+-- no stream failed, and the input is not too long
+abbrev pub IsOfFile : ToolFault → Type 0
+IsOfFile (fault.Graph f) = Unit {0}
+IsOfFile (fault.Line n) = Unit {0}
+IsOfFile (fault.Unbalanced name) = Unit {0}
+IsOfFile (fault.TooLarge name) = Unit {0}
+IsOfFile fault.Deadlock = Unit {0}
+IsOfFile fault.TooTight = Unit {0}
+IsOfFile fault.TooLong = ⊥
+IsOfFile (fault.Device d) = ⊥
+IsOfFile fault.Memory = Unit {0}
 
-ok_no_device : {A : Type 0} (x : A) → NoDevice (Ok x)
-ok_no_device x d e = cc
+abbrev FailsByFile : {A : Type 0} → Result A ToolFault → Type 0
+FailsByFile (Ok x) = Unit {0}
+FailsByFile (Err f) = IsOfFile f
 
-bind_no_device : {A B : Type 0} (r : Result A ToolFault) (f : A → Result B ToolFault) → NoDevice r → ((x : A) → NoDevice (f x)) → NoDevice (r >>= f)
-bind_no_device (Ok x) f first next d e = next x d e
-bind_no_device {A} {B} (Err g) f first next d e = first d (let same : g ≡ fault.Device d = cc in ap Err same)
+bind_by_file : {A B : Type 0} (r : Result A ToolFault) (f : A → Result B ToolFault) → FailsByFile r → ((x : A) → FailsByFile (f x)) → FailsByFile (r >>= f)
+bind_by_file (Ok x) f first next = next x
+bind_by_file (Err g) f first next = first
 
-fault_no_device : (f : GraphFault) (d : Stream) → fault_of f ≡ fault.Device d → ⊥
-fault_no_device graph.NotToml d e = cc
-fault_no_device (graph.Shape at) d e = cc
-fault_no_device (graph.Name at) d e = cc
-fault_no_device (graph.Range at) d e = cc
-fault_no_device (graph.UnknownActor c) d e = cc
-fault_no_device (graph.PhaseLength c) d e = cc
-fault_no_device (graph.ZeroRate c) d e = cc
-fault_no_device (graph.KernelPorts a) d e = cc
-fault_no_device graph.NotConnected d e = cc
-fault_no_device graph.Memory d e = cc
+-- an answer, with its type
+abbrev answer_of : Result (List ℕ) ToolFault → Result (List ℕ) ToolFault
+answer_of r = r
 
-of_graph_no_device : {A : Type 0} (r : Result A GraphFault) → NoDevice (of_graph r)
-of_graph_no_device (Ok x) d e = cc
-of_graph_no_device (Err f) d e = fault_no_device f d (let same : fault_of f ≡ fault.Device d = cc in same)
+fault_by_file : (f : GraphFault) → IsOfFile (fault_of f)
+fault_by_file graph.NotToml = tt
+fault_by_file (graph.Shape at) = tt
+fault_by_file (graph.Name at) = tt
+fault_by_file (graph.Range at) = tt
+fault_by_file (graph.UnknownActor c) = tt
+fault_by_file (graph.PhaseLength c) = tt
+fault_by_file (graph.ZeroRate c) = tt
+fault_by_file (graph.KernelPorts a) = tt
+fault_by_file graph.NotConnected = tt
+fault_by_file graph.Memory = tt
 
-line_no_device : (n : ℕ) (o : Option Line) → NoDevice (or_line n o)
-line_no_device n None d e = cc
-line_no_device n (Some line) d e = cc
+line_by_file : (n : ℕ) (o : Option Line) → FailsByFile (or_line n o)
+line_by_file n None = tt
+line_by_file n (Some line) = tt
 
-lines_no_device : (g : Graph) (n : ℕ) (texts : List (List ℕ)) → NoDevice (lines_from g n texts)
-lines_no_device g n [] = ok_no_device []
-lines_no_device g n (text ∷ texts) =
-    bind_no_device (or_line n (line_in g text)) _ (line_no_device n (line_in g text)) (λ line.
-    bind_no_device (lines_from g (suc n) texts) _ (lines_no_device g (suc n) texts) (λ lines. ok_no_device (line ∷ lines)))
+lines_by_file : (g : Graph) (n : ℕ) (texts : List (List ℕ)) → FailsByFile (lines_from g n texts)
+lines_by_file g n [] = tt
+lines_by_file g n (text ∷ texts) =
+    bind_by_file (or_line n (line_in g text)) _ (line_by_file n (line_in g text)) (λ line.
+    bind_by_file (lines_from g (suc n) texts) _ (lines_by_file g (suc n) texts) (λ lines. tt))
 
-given_no_device : (o : Option ℕ) → NoDevice (all_given o)
-given_no_device None d e = cc
-given_no_device (Some c) d e = cc
+accept_by_file : (names : List (List ℕ)) (f : AcceptFault) → IsOfFile (accept_fault names f)
+accept_by_file names (accept.Unbalanced c) = tt
+accept_by_file names (accept.TooLarge c) = tt
+accept_by_file names accept.Deadlock = tt
+accept_by_file names accept.TooTight = tt
+accept_by_file names accept.Memory = tt
 
-session_no_device : (g : Graph) (script : Script) → NoDevice (session_in g script)
-unfolding session_in
-session_no_device g script =
-    bind_no_device (lines_from g 0 script.lines) _ (lines_no_device g 0 script.lines) (λ lines.
-    bind_no_device (capacities_in g) _ (given_no_device (position (λ (c : Channel). is_none c.capacity) g.channels)) (λ _. ok_no_device _))
+replay_by_file : (g : Graph) (script : Script) (r : Result (List Line) ToolFault) (f : ToolFault) → FailsByFile r → MatchResult r (λ lines. IsReplay g script lines (Err f)) (λ fault. answer_of (Err f) ≡ Err fault) → IsOfFile f
+replay_by_file g script (Ok lines) f h e = subst IsOfFile (sym e.3) (accept_by_file (names_of g.channels) e.0)
+replay_by_file g script (Err h') f h e = let same : h' ≡ f = cc in subst IsOfFile same h
 
-replay_no_device : (r : Result Session ToolFault) (d : Stream) → NoDevice r → IsReplayOf r (Err (fault.Device d)) → ⊥
-replay_no_device (Ok session) d h e = e
-replay_no_device (Err f) d h e = h d (let same : f ≡ fault.Device d = cc in ap Err same)
+script_by_file : (g : Graph) (r : Result Script GraphFault) (f : ToolFault) → MatchResult r (λ script. IsReplayOf g script (Err f)) (λ fault. answer_of (Err f) ≡ Err (fault_of fault)) → IsOfFile f
+script_by_file g (Ok script) f e = replay_by_file g script (lines_from g 0 script.lines) f (lines_by_file g 0 script.lines) e
+script_by_file g (Err h) f e = let same : fault_of h ≡ f = cc in subst IsOfFile same (fault_by_file h)
 
-for_no_device : (r : Result Graph GraphFault) (bytes : List ℕ) (d : Stream) → IsAnswerFor r bytes (Err (fault.Device d)) → ⊥
-for_no_device (Ok g) bytes d e =
-    replay_no_device (of_graph (script_of bytes) >>= session_in g) d (bind_no_device (of_graph (script_of bytes)) (session_in g) (of_graph_no_device (script_of bytes)) (session_no_device g)) e
-for_no_device (Err f) bytes d e = fault_no_device f d (let same : fault_of f ≡ fault.Device d = cc in same)
+answer_by_file : (r : Result Graph GraphFault) (bytes : List ℕ) (f : ToolFault) → IsAnswerFor r bytes (Err f) → IsOfFile f
+answer_by_file (Ok g) bytes f e = script_by_file g (script_of bytes) f e
+answer_by_file (Err g) bytes f e = let same : fault_of g ≡ f = cc in subst IsOfFile same (fault_by_file g)
 
-pub answer_no_device : (bytes : List ℕ) (d : Stream) → IsAnswer bytes (Err (fault.Device d)) → ⊥
-answer_no_device bytes d answer = for_no_device answer.0 bytes d answer.2
+pub refusal_by_file : (bytes : List ℕ) (f : ToolFault) → IsAnswer bytes (Err f) → IsOfFile f
+refusal_by_file bytes f answer = answer_by_file answer.0 bytes f answer.2

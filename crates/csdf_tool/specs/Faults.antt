@@ -1,12 +1,15 @@
 -- Faults of the program, and passes that end at the first.
-use Rattle.std.specs.Prelude.{◌≡◌, ◌≢◌, ℕ, Result, Ok, Err}
+use Rattle.std.specs.Prelude.{◌≡◌, ◌≢◌, ℕ, List, Result, Ok, Err}
 use Rattle.csdf_graph.specs.declared.fault.GraphFault.{GraphFault}
 use Rattle.csdf_graph.specs.declared.fault.GraphFault.TheVariants as graph
 use Rattle.csdf_graph.specs.declared.intake.InputFault.{InputFault}
 use Rattle.csdf_graph.specs.declared.intake.InputFault.TheVariants as input
+use Rattle.csdf_analysis.specs.declared.fault.AcceptFault.{AcceptFault}
+use Rattle.csdf_analysis.specs.declared.fault.AcceptFault.TheVariants as accept
 use Rattle.csdf_tool.specs.declared.fault.Stream.TheVariants.{Input}
+use Rattle.csdf_tool.specs.Printed.{name_at}
 use Rattle.csdf_tool.specs.declared.fault.ToolFault.{ToolFault}
-use Rattle.csdf_tool.specs.declared.fault.ToolFault.TheVariants.{Graph, Line, TooLong, Device, Memory}
+use Rattle.csdf_tool.specs.declared.fault.ToolFault.TheVariants.{Graph, Line, Unbalanced, TooLarge, Deadlock, TooTight, TooLong, Device, Memory}
 
 infixl 10 ◌>>=◌
 abbrev pub ◌>>=◌ : {A B : Type 0} → Result A ToolFault → (A → Result B ToolFault) → Result B ToolFault
@@ -26,10 +29,13 @@ fault_of (graph.KernelPorts a) = Graph (graph.KernelPorts a)
 fault_of graph.NotConnected = Graph graph.NotConnected
 fault_of graph.Memory = Memory
 
--- what reading a graph file gives, with its fault as the program tells it
-abbrev pub of_graph : {A : Type 0} → Result A GraphFault → Result A ToolFault
-of_graph (Ok x) = Ok x
-of_graph (Err fault) = Err (fault_of fault)
+-- why a graph is not accepted, as the program tells it: channels by their names
+abbrev pub accept_fault : List (List ℕ) → AcceptFault → ToolFault
+accept_fault names (accept.Unbalanced c) = Unbalanced (name_at names c)
+accept_fault names (accept.TooLarge c) = TooLarge (name_at names c)
+accept_fault names accept.Deadlock = Deadlock
+accept_fault names accept.TooTight = TooTight
+accept_fault names accept.Memory = Memory
 
 -- why standard input was not read, as the program tells it
 abbrev pub of_input : InputFault → ToolFault
@@ -51,6 +57,10 @@ Tells view (Err fault) Allows = fault ≢ Memory → Allows (Err fault)
 abbrev pub status_of : ToolFault → ℕ
 status_of (Graph fault) = 1
 status_of (Line n) = 1
+status_of (Unbalanced name) = 1
+status_of (TooLarge name) = 1
+status_of Deadlock = 1
+status_of TooTight = 1
 status_of TooLong = 1
 status_of (Device d) = 3
 status_of Memory = 3

@@ -1,20 +1,20 @@
 -- What a script plays, and what the program prints for it.
-use Rattle.std.specs.Prelude.{◌≡◌, ℕ, suc, List, [], ◌∷◌, ◌++◌, Option, Some, None, MatchResult, Result, Ok, Err, is_none, length, position, map, replicate, if◌then◌else◌}
-use Rattle.csdf_graph.specs.declared.fault.At.TheVariants as at
+use Rattle.std.specs.Prelude.{◌≡◌, ◌≢◌, ℕ, suc, List, [], ◌∷◌, ◌++◌, Option, Some, None, MatchResult, Result, Ok, Err, length, map, replicate, if◌then◌else◌}
 use Rattle.csdf_graph.specs.declared.fault.GraphFault.{GraphFault}
-use Rattle.csdf_graph.specs.declared.fault.GraphFault.TheVariants.{Shape}
-use Rattle.csdf_graph.specs.Graph as graph
 use Rattle.csdf_graph.specs.Graph.{Graph, Actor}
 use Rattle.csdf_graph.specs.GraphText.{IsGraphOf}
 use Rattle.csdf_graph.specs.ScriptText.{Script, script_of}
 use Rattle.csdf_pool.specs.Pool.{Shared, held_tokens, IsPartition}
+use Rattle.csdf_analysis.specs.declared.fault.AcceptFault.{AcceptFault}
+use Rattle.csdf_analysis.specs.declared.fault.AcceptFault.TheVariants as accept
+use Rattle.csdf_analysis.specs.Acceptance.{Accepted, IsAccepted, IsNotAccepted}
 use Rattle.csdf_core.specs.Layout.{is_source_kernel, plan_for}
 use Rattle.csdf_core.specs.Plan.{Plan}
 use Rattle.csdf_core.specs.State.{State, Present, present, opening}
 use Rattle.csdf_core.specs.Step.{reply_to, after}
 use Rattle.csdf_tool.specs.declared.fault.ToolFault.{ToolFault}
 use Rattle.csdf_tool.specs.declared.fault.ToolFault.TheVariants as fault
-use Rattle.csdf_tool.specs.Faults.{◌>>=◌, fault_of, of_graph}
+use Rattle.csdf_tool.specs.Faults.{◌>>=◌, fault_of, accept_fault}
 use Rattle.csdf_tool.specs.Lines.{Line, Play, Cells, line_in}
 use Rattle.csdf_tool.specs.Printed.{names_of, reply_line, cells_text}
 
@@ -29,34 +29,13 @@ abbrev pub lines_from : Graph → ℕ → List (List ℕ) → Result (List Line)
 lines_from g n [] = Ok []
 lines_from g n (text ∷ texts) = or_line n (line_in g text) >>= λ line. lines_from g (suc n) texts >>= λ lines. Ok (line ∷ lines)
 
--- each channel is to have a given capacity: the first that has none is told as one out of shape
-abbrev pub all_given : Option ℕ → Result (Unit {0}) ToolFault
-all_given None = Ok tt
-all_given (Some c) = Err (fault.Graph (Shape (at.Channel c)))
-
-abbrev pub capacities_in : Graph → Result (Unit {0}) ToolFault
-capacities_in g = all_given (position (λ (c : graph.Channel). is_none c.capacity) g.channels)
-
 -- how many tokens the file of an actor has: as many as the script supplies for a source, and none for any other
 abbrev pub supply_of : ℕ → Actor → ℕ
 supply_of supply actor = if is_source_kernel actor.kernel then supply else 0
 
--- the script's limit for each actor, its supply for each source, and its limit on all firings
-abbrev pub plan_in : Graph → Script → Plan
-plan_in g script = plan_for g (replicate (length g.actors) script.limit) (map (supply_of script.supply) g.actors) script.firings
-
--- the names of the channels, the plan that is played, and the lines
-pub record Session : Type 0 where
-  pub names : List (List ℕ)
-  pub plan : Plan
-  pub lines : List Line
-
--- what a script plays on a graph, or its first fault: the lines are looked at before the capacities
-unfoldable pub session_in : Graph → Script → Result Session ToolFault
-session_in g script = do
-  lines ← lines_from g 0 script.lines
-  given ← capacities_in g
-  Ok (record { names = names_of g.channels; plan = plan_in g script; lines = lines })
+-- what is played: the accepted graph with the script's limit for each actor, its supply for each source, and its limit on all firings
+abbrev pub plan_in : Accepted → Script → Plan
+plan_in a script = plan_for a (replicate (length a.graph.actors) script.limit) (map (supply_of script.supply) a.graph.actors) script.firings
 
 -- ---- what is printed
 
@@ -81,20 +60,25 @@ PrintsLines names plan s [] text = text ≡ []
 PrintsLines names plan s (line ∷ lines) text =
     (first : List ℕ) × (rest : List ℕ) × PrintsLine names plan s line first × PrintsLines names plan (next_state plan s line) lines rest × (text ≡ first ++ rest)
 
--- the text of a session, from the opening state on
-abbrev pub IsReplay : Session → Result (List ℕ) ToolFault → Type 0
-IsReplay session (Ok text) = PrintsLines session.names session.plan (opening session.plan) session.lines text
-IsReplay session (Err fault) = ⊥
+-- the fault tells why the graph is not accepted, other than for want of memory
+abbrev pub RefusesGraph : Graph → ToolFault → Type 0
+RefusesGraph g fault = (refusal : AcceptFault) × IsNotAccepted g refusal × (refusal ≢ accept.Memory) × (fault ≡ accept_fault (names_of g.channels) refusal)
 
--- the text of a session, or the fault that there is in its place
-abbrev pub IsReplayOf : Result Session ToolFault → Result (List ℕ) ToolFault → Type 0
-IsReplayOf session answer = MatchResult session (λ s. IsReplay s answer) (λ fault. answer ≡ Err fault)
+-- the text of lines on a graph that is accepted, from the opening state on; or why it is not accepted
+abbrev pub IsReplay : Graph → Script → List Line → Result (List ℕ) ToolFault → Type 0
+IsReplay g script lines (Ok text) =
+    (a : Accepted) × IsAccepted a × (a.graph ≡ g) × PrintsLines (names_of g.channels) (plan_in a script) (opening (plan_in a script)) lines text
+IsReplay g script lines (Err fault) = RefusesGraph g fault
+
+-- the text of a script on a graph, or its first fault: the lines are looked at before the graph is accepted
+abbrev pub IsReplayOf : Graph → Script → Result (List ℕ) ToolFault → Type 0
+IsReplayOf g script answer = MatchResult (lines_from g 0 script.lines) (λ lines. IsReplay g script lines answer) (λ fault. answer ≡ Err fault)
 
 -- what is printed for a graph file whose graph, or first fault, this is
 abbrev pub IsAnswerFor : Result Graph GraphFault → List ℕ → Result (List ℕ) ToolFault → Type 0
-IsAnswerFor (Ok g) bytes answer = IsReplayOf (of_graph (script_of bytes) >>= session_in g) answer
+IsAnswerFor (Ok g) bytes answer = MatchResult (script_of bytes) (λ script. IsReplayOf g script answer) (λ fault. answer ≡ Err (fault_of fault))
 IsAnswerFor (Err fault) bytes answer = answer ≡ Err (fault_of fault)
 
--- what is printed for a graph file, or its first fault: those of the graph come first, then those of the script's table, its lines and the capacities
+-- what is printed for a graph file, or its first fault: those of the graph come first, then those of the script's table, of its lines, and why the graph is not accepted
 abbrev pub IsAnswer : List ℕ → Result (List ℕ) ToolFault → Type 0
 IsAnswer bytes answer = (graph : Result Graph GraphFault) × IsGraphOf bytes graph × IsAnswerFor graph bytes answer

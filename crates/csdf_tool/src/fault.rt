@@ -1,12 +1,13 @@
 //! Why a command gave no answer.
 
-ghost use Rattle.std.specs.Prelude.{◌≡◌};
+ghost use Rattle.std.specs.Prelude.{◌≡◌, IfOk};
 ghost use Rattle.csdf_tool.specs.Faults.{status_of};
 ghost use Rattle.csdf_tool.specs.declared.fault.ToolFault.TheVariants.{Memory};
 
 use csdf_graph::{GraphFault, InputFault};
-use std::alloc::{AllocError, AllocFailed};
+use std::alloc::{AllocError, AllocFailed, Global};
 use std::fmt;
+use std::marker::Model;
 use thiserror::Error;
 
 /// A stream of the program.
@@ -25,8 +26,37 @@ impl fmt::Display for Stream {
     }
 }
 
+/// The name of a channel.
+#[derive(Debug, Drop)]
+pub struct ChannelName(String);
+
+/// It is seen as its bytes.
+impl Model for ChannelName {
+    ghost use Rattle.std.specs.Prelude.{ℕ, List, string_bytes};
+
+    ghost Value = { List ℕ };
+
+    ghost view = { λ n. string_bytes n.0 };
+}
+
+impl ChannelName {
+    /// The name in memory of its own.
+    pub(crate) fn new(alloc: Global, name: &str) -> Result<ChannelName, AllocError>
+        ensures { IfOk result (λ n. n ≡ name.now) }
+    {
+        Ok(ChannelName(String::from_str(alloc, name)?))
+    }
+}
+
+impl fmt::Display for ChannelName {
+    fn fmt<W: fmt::Write>(&self, f: &mut fmt::Formatter<W>) -> fmt::Result {
+        let name = self.0.as_str();
+        write!(f, "{name}")
+    }
+}
+
 /// Why a command gave no answer. Its text is the line that the program prints.
-#[derive(Clone, Copy, Debug, PartialEq, Eq, Error)]
+#[derive(Debug, Drop, Error)]
 pub enum ToolFault {
     /// The graph file has this fault.
     #[error("csdf: graph: {0}")]
@@ -34,6 +64,18 @@ pub enum ToolFault {
     /// This line of the script, counted from 0, asks for nothing that there is.
     #[error("csdf: script: line {0}")]
     Line(usize),
+    /// The first channel that no repetition vector balances together with those before it.
+    #[error("csdf: graph: unbalanced at channel {0}")]
+    Unbalanced(ChannelName),
+    /// The first channel whose full capacity is too large.
+    #[error("csdf: graph: too large at channel {0}")]
+    TooLarge(ChannelName),
+    /// No capacities complete a period of the graph.
+    #[error("csdf: graph: deadlock")]
+    Deadlock,
+    /// No capacities that agree with the given ones complete a period of the graph.
+    #[error("csdf: graph: too tight")]
+    TooTight,
     /// The input has more than 16,777,216 bytes.
     #[error("csdf: input too long")]
     TooLong,
@@ -51,7 +93,13 @@ impl ToolFault {
         ensures { result ≡ status_of self.now }
     {
         match self {
-            ToolFault::Graph(_) | ToolFault::Line(_) | ToolFault::TooLong => 1,
+            ToolFault::Graph(_)
+            | ToolFault::Line(_)
+            | ToolFault::Unbalanced(_)
+            | ToolFault::TooLarge(_)
+            | ToolFault::Deadlock
+            | ToolFault::TooTight
+            | ToolFault::TooLong => 1,
             ToolFault::Device(_) | ToolFault::Memory => 3,
         }
     }

@@ -20,7 +20,7 @@ fn push(text: &mut String, more: &str) -> Result<(), AllocError>
 }
 
 /// The channel's name.
-fn name_at(channels: &[Channel], number: u32) -> &str
+pub(crate) fn name_at(channels: &[Channel], number: u32) -> &str
     ensures { result.now ≡ name_at (names_of (map channel_view channels.now)) number }
 {
     match channels.get(number as usize) {

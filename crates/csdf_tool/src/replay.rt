@@ -1,27 +1,44 @@
 //! A script from its bytes to its replies.
 
-ghost use Rattle.std.specs.Prelude.{◌≡◌, ◌≢◌, ◌≤◌, ℕ, List, true, Ok, Err, string_bytes, IfErr, OnOk};
+ghost use Rattle.std.specs.Prelude.{◌≡◌, ◌≢◌, ◌≤◌, ℕ, List, true, Ok, Err, map, string_bytes, IfErr, IfOk, OnOk};
 ghost use Rattle.std.specs.Io.KnownBytes.{Appends};
 ghost use Rattle.csdf_graph.specs.ScriptText.{script_view};
 ghost use Rattle.csdf_tool.specs.Faults.{Tells};
-ghost use Rattle.csdf_tool.specs.Session.{session_in, IsReplayOf, IsAnswer};
+ghost use Rattle.csdf_tool.specs.Lines.{line_view};
+ghost use Rattle.csdf_tool.specs.Session.{IsReplay, IsReplayOf, IsAnswer};
 
 use crate::fault::{Stream, ToolFault};
-use crate::session::{check_capacities, lines_of, opening_core};
+use crate::line::Line;
+use crate::session::{accepted_of, lines_of, opening_core};
 use crate::turns::turn_all;
+use csdf_analysis::Accepted;
 use csdf_graph::{Graph, Outlet, Script, read_graph, read_script, write_bytes};
-use std::alloc::Global;
+use std::alloc::{AllocError, Global};
+
+/// The text of lines on an accepted graph.
+fn text_on(
+    alloc: Global,
+    accepted: &Accepted,
+    script: &Script,
+    lines: &[Line<'_>],
+) -> Result<String, AllocError>
+    requires { script.now.limit ≤ 1_000_000 }
+    ensures { IfOk result (λ text. IsReplay accepted.now.graph (script_view script.now) (map line_view lines.now) (Ok (string_bytes text))) }
+{
+    let mut core = opening_core(alloc, accepted, script)?;
+    let channels = accepted.graph().channels();
+    let text = turn_all(alloc, channels, &mut core, lines)?;
+    Ok(text)
+}
 
 /// The text of a script that is played on a graph, or its first fault.
-#[tactic(auto, unfolding(crate::specs::Session::session_in))]
-fn replay(alloc: Global, graph: &Graph, script: &Script) -> Result<String, ToolFault>
+fn replay(alloc: Global, graph: Graph, script: &Script) -> Result<String, ToolFault>
     requires { script.now.limit ≤ 1_000_000 }
-    ensures { Tells string_bytes result (IsReplayOf (session_in graph.now (script_view script.now))) }
+    ensures { Tells string_bytes result (IsReplayOf graph (script_view script.now)) }
 {
-    let lines = lines_of(alloc, graph, &script.lines)?;
-    check_capacities(graph)?;
-    let mut core = opening_core(alloc, graph, script)?;
-    let text = turn_all(alloc, graph.channels(), &mut core, &lines)?;
+    let lines = lines_of(alloc, &graph, &script.lines)?;
+    let accepted = accepted_of(alloc, graph)?;
+    let text = text_on(alloc, &accepted, script, &lines)?;
     Ok(text)
 }
 
@@ -31,14 +48,14 @@ fn text_of(alloc: Global, bytes: &[u8]) -> Result<String, ToolFault>
 {
     let graph = read_graph(alloc, bytes)?;
     let script = read_script(alloc, bytes)?;
-    replay(alloc, &graph, &script)
+    replay(alloc, graph, &script)
 }
 
 /// Plays the script of a graph file on its graph, and writes the reply to each move.
 ///
 /// Nothing is written before the last move is played. The error is the first fault of
-/// [`read_graph`], of [`read_script`] and of the script's lines; then that of the first channel
-/// without a given capacity; then [`ToolFault::Device`] where the writer failed.
+/// [`read_graph`], of [`read_script`], of the script's lines and of
+/// [`accept`](csdf_analysis::accept); then [`ToolFault::Device`] where the writer failed.
 /// [`ToolFault::Memory`] may come in place of another answer, and says nothing of the file.
 pub fn play_script<O: Outlet>(alloc: Global, bytes: &[u8], writer: &mut O) -> Result<(), ToolFault>
     ensures written { OnOk result ((text : List ℕ) × IsAnswer bytes.now (Ok text)

@@ -1,20 +1,22 @@
 //! What a script plays on a graph.
 
-ghost use Rattle.std.specs.Prelude.{◌≡◌, ◌≤◌, length, map, is_none, position, string_bytes, IfOk, OnOk};
+ghost use Rattle.std.specs.Prelude.{◌≡◌, ◌≢◌, ◌≤◌, length, map, string_bytes, IfErr, IfOk};
 ghost use Rattle.csdf_graph.specs.Graph.{actor_view};
-ghost use Rattle.csdf_graph.specs.Passes.{itself};
 ghost use Rattle.csdf_graph.specs.ScriptText.{script_view};
-ghost use Rattle.csdf_core.specs.Layout.{HasCapacities};
+ghost use Rattle.csdf_analysis.specs.Acceptance.{IsAccepted};
 ghost use Rattle.csdf_core.specs.Shows.{Shows};
 ghost use Rattle.csdf_core.specs.State.{opening};
-ghost use Rattle.csdf_tool.specs.Faults.{Gives};
+ghost use Rattle.csdf_tool.specs.Faults.{Gives, accept_fault};
 ghost use Rattle.csdf_tool.specs.Lines.{line_view};
-ghost use Rattle.csdf_tool.specs.Session.{lines_from, capacities_in, supply_of, plan_in};
+ghost use Rattle.csdf_tool.specs.Printed.{names_of};
+ghost use Rattle.csdf_tool.specs.Session.{lines_from, supply_of, plan_in, RefusesGraph};
 
-use crate::fault::ToolFault;
+use crate::fault::{ChannelName, ToolFault};
 use crate::line::{Line, line_in};
+use crate::printed::name_at;
+use csdf_analysis::{AcceptFault, Accepted, accept};
 use csdf_core::{Core, Setup};
-use csdf_graph::{Actor, At, Channel, Graph, GraphFault, Kernel, Script};
+use csdf_graph::{Actor, Graph, Kernel, Script};
 use std::alloc::{AllocError, Global};
 
 /// What each line asks for, or the first that asks for nothing that there is.
@@ -35,26 +37,35 @@ pub(crate) fn lines_of<'a>(
     Ok(lines)
 }
 
-/// The number of the first channel without a given capacity.
-fn without_capacity(channels: &[Channel]) -> Option<usize>
-    ensures { result ≡ position (λ channel. is_none channel.capacity) channels.now }
+/// Why the graph is not accepted, as the program tells it: channels by their names.
+fn accept_fault(alloc: Global, graph: &Graph, fault: AcceptFault) -> Result<ToolFault, AllocError>
+    ensures { IfOk result (λ told. told ≡ accept_fault (names_of graph.now.channels) fault) }
 {
-    channels
-        .iter()
-        .position(|channel| channel.capacity.is_none())
+    let channels = graph.channels();
+    match fault {
+        AcceptFault::Unbalanced(number) => {
+            let name = ChannelName::new(alloc, name_at(channels, number))?;
+            Ok(ToolFault::Unbalanced(name))
+        }
+        AcceptFault::TooLarge(number) => {
+            let name = ChannelName::new(alloc, name_at(channels, number))?;
+            Ok(ToolFault::TooLarge(name))
+        }
+        AcceptFault::Deadlock => Ok(ToolFault::Deadlock),
+        AcceptFault::TooTight => Ok(ToolFault::TooTight),
+        AcceptFault::Memory => Ok(ToolFault::Memory),
+    }
 }
 
-/// Finds the first channel without a given capacity, which is told as one out of shape.
-pub(crate) fn check_capacities(graph: &Graph) -> Result<(), ToolFault>
-    ensures first { Gives itself result (capacities_in graph.now) }
-    ensures given { OnOk result (HasCapacities graph.now) }
+/// The graph with its capacities, or why it is not accepted.
+pub(crate) fn accepted_of(alloc: Global, graph: Graph) -> Result<Accepted, ToolFault>
+    ensures graph { IfOk result (λ accepted. accepted.graph ≡ graph) }
+    ensures accepted { IfOk result IsAccepted }
+    ensures refused { IfErr result (λ fault. fault ≢ ToolFault.Memory → RefusesGraph graph fault) }
 {
-    match without_capacity(graph.channels()) {
-        Some(number) => {
-            let at = At::Channel(number as u32);
-            Err(ToolFault::Graph(GraphFault::Shape(at)))
-        }
-        None => Ok(()),
+    match accept(alloc, graph) {
+        Ok(accepted) => Ok(accepted),
+        Err((graph, fault)) => Err(accept_fault(alloc, &graph, fault)?),
     }
 }
 
@@ -81,19 +92,19 @@ fn supplies_of(alloc: Global, actors: &[Actor], supply: u32) -> Result<Vec<u32>,
 /// The core on which the script is played.
 pub(crate) fn opening_core(
     alloc: Global,
-    graph: &Graph,
+    accepted: &Accepted,
     script: &Script,
 ) -> Result<Core, AllocError>
-    requires given { HasCapacities graph.now }
-    requires limit { script.now.limit ≤ 1_000_000 }
-    ensures plan { IfOk result (λ core. core.plan ≡ plan_in graph.now (script_view script.now)) }
+    requires { script.now.limit ≤ 1_000_000 }
+    ensures plan { IfOk result (λ core. core.plan ≡ plan_in accepted.now (script_view script.now)) }
     ensures opening { IfOk result (λ core. Shows core (opening core.plan)) }
-    ensures channels { IfOk result (λ core. length core.plan.channels ≡ length graph.now.channels) }
+    ensures channels { IfOk result (λ core. length core.plan.channels ≡ length accepted.now.graph.channels) }
 {
-    let limits = vec![in alloc; script.limit; graph.actors().len()]?;
-    let supply = supplies_of(alloc, graph.actors(), script.supply)?;
+    let actors = accepted.graph().actors();
+    let limits = vec![in alloc; script.limit; actors.len()]?;
+    let supply = supplies_of(alloc, actors, script.supply)?;
     let setup = Setup {
-        graph,
+        accepted,
         limits,
         supply,
         firings: script.firings,

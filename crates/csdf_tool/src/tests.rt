@@ -1,6 +1,6 @@
 //! Worked examples of scripts.
 
-use crate::fault::{Stream, ToolFault};
+use crate::fault::{ChannelName, Stream, ToolFault};
 use crate::play_input;
 use crate::replay::play_script;
 use csdf_graph::{At, Fused, GraphFault, Slice, ToWriter};
@@ -33,15 +33,57 @@ const ROW: &str = r#"actor = [
   { name = "c", kernel = "sink" },
 ]
 channel = [
-  { name = "x", from = "a", to = "b", produce = [2], consume = [3], capacity = 4 },
-  { name = "y", from = "b", to = "c", produce = [1], consume = [2], capacity = 2 },
+  { name = "x", from = "a", to = "b", produce = [2], consume = [3] },
+  { name = "y", from = "b", to = "c", produce = [1], consume = [2] },
+]
+"#;
+
+/// Two copies in a circle with no token.
+const STUCK: &str = r#"actor = [{ name = "a", kernel = "copy" }, { name = "b", kernel = "copy" }]
+channel = [
+  { name = "x", from = "a", to = "b", produce = [1], consume = [1] },
+  { name = "y", from = "b", to = "a", produce = [1], consume = [1] },
+]
+"#;
+
+/// Two channels that ask for different numbers of firings.
+const DISAGREEING: &str =
+    r#"actor = [{ name = "a", kernel = "source" }, { name = "b", kernel = "sink" }]
+channel = [
+  { name = "x", from = "a", to = "b", produce = [1], consume = [1] },
+  { name = "y", from = "a", to = "b", produce = [2], consume = [1] },
+]
+"#;
+
+/// A channel whose full capacity is above 65,535.
+const HUGE: &str = r#"actor = [
+  { name = "a", kernel = "source", phases = 16 },
+  { name = "b", kernel = "sink", phases = 2 },
+]
+[[channel]]
+name = "x"
+from = "a"
+to = "b"
+produce = [64, 64, 64, 64, 64, 64, 64, 64, 64, 64, 64, 64, 64, 64, 64, 64]
+consume = [64, 3]
+"#;
+
+/// A row whose first channel is given too small a capacity.
+const TIGHT: &str = r#"actor = [
+  { name = "a", kernel = "source" },
+  { name = "b", kernel = "copy" },
+  { name = "c", kernel = "sink" },
+]
+channel = [
+  { name = "x", from = "a", to = "b", produce = [2], consume = [3], capacity = 3 },
+  { name = "y", from = "b", to = "c", produce = [1], consume = [2] },
 ]
 "#;
 
 /// A copy that feeds itself.
 const LOOP: &str = r#"actor = [{ name = "a", kernel = "copy" }]
 channel = [
-  { name = "s", from = "a", to = "a", produce = [1], consume = [1], initial = [1], capacity = 1 },
+  { name = "s", from = "a", to = "a", produce = [1], consume = [1], initial = [1] },
 ]
 "#;
 
@@ -197,13 +239,9 @@ moves = [
 
 #[test]
 fn the_first_fault_is_told(rt: HostRuntime) -> Result<(), Fail> {
-    let bare = PAIR.trim_end_matches("capacity = 3\n");
+    let faulty = "[script]\nmoves = [\"begin src\", \"read src\", \"write src 5 6\", \"begin\"]\n";
     let table = [
-        (
-            PAIR,
-            "[script]\nmoves = [\"begin src\", \"read src\", \"write src 5 6\", \"begin\"]\n",
-            "csdf: script: line 3",
-        ),
+        (PAIR, faulty, "csdf: script: line 3"),
         (
             PAIR,
             "[script]\nmoves = [\"begin src\"\n",
@@ -219,21 +257,20 @@ fn the_first_fault_is_told(rt: HostRuntime) -> Result<(), Fail> {
             "[script]\nmoves = [1]\n",
             "csdf: graph: shape at script",
         ),
-        (bare, "", "csdf: graph: shape at channel 0"),
+        (DISAGREEING, "", "csdf: graph: unbalanced at channel y"),
+        (HUGE, "", "csdf: graph: too large at channel x"),
+        (STUCK, "", "csdf: graph: deadlock"),
+        (TIGHT, "", "csdf: graph: too tight"),
+        (STUCK, faulty, "csdf: script: line 3"),
         (
-            bare,
-            "[script]\nmoves = [\"begin\"]\n",
-            "csdf: script: line 0",
-        ),
-        (
-            bare,
+            STUCK,
             "[script]\nlimit = -1\nmoves = [\"begin\"]\n",
             "csdf: graph: range at script",
         ),
         (
-            bare,
-            "kind = 1\n[script]\nlimit = -1\n",
-            "csdf: graph: shape at channel 0",
+            STUCK,
+            "[[channel]]\n[script]\nlimit = -1\n",
+            "csdf: graph: not TOML",
         ),
     ];
     for (graph, script, want) in table {
@@ -278,11 +315,17 @@ fn a_failing_stream_is_told(rt: HostRuntime) -> Result<(), Fail> {
     let bytes = file.as_bytes();
     let mut written = Vec::new(rt.alloc());
     let mut writer = Fused::new(ToWriter::new(&mut written), 0);
-    let answer = play_script(rt.alloc(), bytes, &mut writer);
-    assert_eq!(rt; answer, Err(ToolFault::Device(Stream::Output)));
+    let Err(fault) = play_script(rt.alloc(), bytes, &mut writer) else {
+        return Err(Fail::from("the writer failed"));
+    };
+    let line = format!(in rt.alloc(); "{fault}")?;
+    assert_eq!(rt; line.as_str(), "csdf: device: standard output");
     let mut reader = Fused::new(Slice::new(bytes), 0);
-    let answer = play_input(rt.alloc(), &mut reader, &mut writer);
-    assert_eq!(rt; answer, Err(ToolFault::Device(Stream::Input)));
+    let Err(fault) = play_input(rt.alloc(), &mut reader, &mut writer) else {
+        return Err(Fail::from("the reader failed"));
+    };
+    let line = format!(in rt.alloc(); "{fault}")?;
+    assert_eq!(rt; line.as_str(), "csdf: device: standard input");
     Ok(())
 }
 
@@ -334,6 +377,18 @@ fn faults_have_a_line_and_a_status(rt: HostRuntime) -> Result<(), Fail> {
             "csdf: graph: not connected",
             1,
         ),
+        (
+            ToolFault::Unbalanced(ChannelName::new(rt.alloc(), "x")?),
+            "csdf: graph: unbalanced at channel x",
+            1,
+        ),
+        (
+            ToolFault::TooLarge(ChannelName::new(rt.alloc(), "y")?),
+            "csdf: graph: too large at channel y",
+            1,
+        ),
+        (ToolFault::Deadlock, "csdf: graph: deadlock", 1),
+        (ToolFault::TooTight, "csdf: graph: too tight", 1),
         (ToolFault::Line(99_999), "csdf: script: line 99999", 1),
         (ToolFault::TooLong, "csdf: input too long", 1),
         (

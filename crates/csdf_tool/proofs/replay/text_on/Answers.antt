@@ -1,0 +1,15 @@
+use Rattle.std.proofs.Common.{◌≡◌, map, refl, ap, subst, ◌∙◌, string_bytes}
+use Rattle.csdf_graph.specs.Graph.{Graph}
+use Rattle.csdf_graph.specs.ScriptText.{script_view}
+use Rattle.csdf_core.specs.State.{opening}
+use Rattle.csdf_tool.specs.Lines.{line_view}
+use Rattle.csdf_tool.specs.Printed.{names_of}
+use Rattle.csdf_tool.specs.Session.{PrintsLines}
+use Rattle.csdf_tool.proofs.replay.text_on.Goals as goal
+
+pub returns : goal.returns
+returns c =
+    let prints = c.in_ok-text.ensures (opening c.in_ok-core.core.plan) c.in_ok-core.ensures.opening in
+    let channels = c.channels-channels.ensures.value ∙ ap (λ (g : Graph). g.channels) c.graph.ensures.graph in
+    let named = subst (λ cs. PrintsLines (names_of cs) c.in_ok-core.core.plan (opening c.in_ok-core.core.plan) (map line_view c.args.lines.now) (string_bytes c.in_ok-text.text)) channels prints in
+    (c.args.accepted.now, c.graph.ensures.accepted, refl, subst (λ p. PrintsLines (names_of c.args.accepted.now.graph.channels) p (opening p) (map line_view c.args.lines.now) (string_bytes c.in_ok-text.text)) c.in_ok-core.ensures.plan named)
