@@ -1,6 +1,6 @@
 -- A graph whose passes all went through is well formed.
-use Rattle.std.proofs.Common.{◌≡◌, ◌≢◌, ℕ, ◌+◌, ◌<◌, ◌≤◌, ◌==◌, Bool, true, false, not, cond, ◌&&◌, nat_le, nat_lt, List, [], ◌∷◌, length, get_or, take, map, sum, Option, Some, None, Result, Ok, Err, refl, sym, ap, subst, ◌∙◌, arith}
-use Rattle.std.specs.Prelude.{All, AllPairs, IfSome, MatchOption, sum_by, position}
+use Rattle.std.proofs.Common.{◌≡◌, ℕ, ◌+◌, ◌<◌, ◌≤◌, ◌==◌, true, false, not, ◌&&◌, nat_le, nat_lt, List, [], ◌∷◌, length, get_or, take, map, sum, Option, Some, None, Ok, refl, sym, ap, subst, ◌∙◌, arith}
+use Rattle.std.specs.Prelude.{All, IfSome, sum_by}
 use Rattle.std.specs.List.{list_any, position_or_len}
 use Rattle.std.specs.Str.{bytes_eq}
 use Rattle.std.proofs.lemmas.Bool.{and_parts, not-true, leb-true, ltb-true, eqb-true, eqb-false}
@@ -8,12 +8,11 @@ use Rattle.std.proofs.lemmas.List.{get_or-take, length-take, length-map}
 use Rattle.std.proofs.lemmas.List.Folds.{list_any_at}
 use Rattle.std.proofs.lemmas.List.Sums.{sum-map}
 use Rattle.std.proofs.lemmas.Slice.Eq.{bytes_eq-Decides}
-use Rattle.csdf_graph.specs.declared.fault.GraphFault.{GraphFault}
 use Rattle.csdf_graph.specs.declared.fault.GraphFault.TheVariants as fault
 use Rattle.csdf_graph.specs.declared.fault.At.TheVariants as at
 use Rattle.csdf_graph.specs.declared.names.Kind.{Kind}
 use Rattle.csdf_graph.specs.Told.{told}
-use Rattle.csdf_graph.specs.Passes.{◌>>=◌, or_fault, each, check}
+use Rattle.csdf_graph.specs.Passes.{or_fault, each, check}
 use Rattle.csdf_graph.specs.Names.{is_name, is_free, name_at, names_of}
 use Rattle.csdf_graph.specs.Names as names
 use Rattle.csdf_graph.specs.Graph.{Actor, Channel, Graph, phases_of}
@@ -25,8 +24,8 @@ use Rattle.csdf_graph.specs.GraphText.{parts_of}
 use Rattle.std.specs.List.{AllByRecursion}
 use Rattle.std.proofs.lemmas.List.Elements.{recursion_from_All}
 use Rattle.csdf_graph.specs.Joined.{HasEnds}
-use Rattle.csdf_graph.specs.WellFormed.{AreNames, IsActor, AreRates, IsCapacity, IsChannel, IsCells, IsFitting, initial_total}
-use Rattle.csdf_graph.specs.Whole.{IsNumbered, IsUnjoined}
+use Rattle.csdf_graph.specs.WellFormed.{AreNames, IsActor, IsCapacity, IsChannel, IsCells, initial_total}
+use Rattle.csdf_graph.specs.Whole.{IsUnjoined}
 use Rattle.csdf_graph.proofs.PassFacts.{ok_is, some_is, bind_ok, or_fault_ok, cond_ok, cond_some, bind_some, each_keeps, each_all, each_at, check_at}
 use Rattle.csdf_graph.proofs.RangeFacts.{IsRanged, actor_within_fits, channel_within_fits, cells_within_fits}
 

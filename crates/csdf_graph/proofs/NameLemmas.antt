@@ -1,12 +1,11 @@
 -- A loop that numbers names.
-use Rattle.std.proofs.Common.{◌≡◌, ℕ, ◌+◌, ◌<◌, Bool, true, false, List, [], ◌∷◌, ◌++◌, length, map, get_or, take, drop, String, Global, Bor, string_bytes, Result, Ok, Err, refl, sym, ap, ◌∙◌, arith}
+use Rattle.std.proofs.Common.{◌≡◌, ℕ, ◌+◌, ◌<◌, true, false, List, [], ◌∷◌, ◌++◌, length, map, get_or, take, drop, String, Global, Bor, string_bytes, Ok, Err, refl, sym, ap, ◌∙◌}
 use Rattle.std.specs.String.{string_eq}
 use Rattle.std.specs.List.{list_any}
 use Rattle.std.specs.Str.{bytes_eq}
 use Rattle.std.proofs.lemmas.Bool.{and_parts, not-true}
 use Rattle.std.proofs.lemmas.List.{drop_more, take_more, take-map, map_push}
 use Rattle.indexmap.specs.IndexSet.{insert_key}
-use Rattle.csdf_graph.specs.declared.fault.GraphFault.{GraphFault}
 use Rattle.csdf_graph.specs.declared.fault.GraphFault.TheVariants.{Name}
 use Rattle.csdf_graph.specs.declared.names.Kind.{Kind}
 use Rattle.csdf_graph.specs.Told.{told}

@@ -1,5 +1,5 @@
 -- A loop that writes weights over zeros.
-use Rattle.std.proofs.Common.{◌≡◌, ℕ, ℤ, pos, suc, ◌+◌, ◌-◌, ◌<◌, ◌≤◌, List, [], ◌∷◌, ◌++◌, length, get_or, take, drop, set, replicate, Option, Some, None, option_map, refl, sym, ap, ◌∙◌, append_assoc, arith, length-set, add-one}
+use Rattle.std.proofs.Common.{◌≡◌, ℕ, ℤ, pos, ◌+◌, ◌-◌, ◌<◌, ◌≤◌, List, [], ◌∷◌, ◌++◌, length, get_or, take, drop, set, replicate, Option, Some, None, option_map, refl, sym, ap, ◌∙◌, append_assoc, arith, length-set}
 use Rattle.std.proofs.lemmas.List.{drop_more, take_more_set, drop-replicate, drop-drop, drop-set-lt}
 use Rattle.csdf_graph.specs.Tree.{all_some}
 

@@ -1,8 +1,8 @@
 -- Sums of rates, cycle by cycle.
 use Rattle.std.proofs.Common.{◌≡◌, ℕ, zero, suc, ◌+◌, ◌*◌, ◌/◌, ◌%◌, ◌^◌, ◌<◌, ◌≤◌, List, [], length, take, get_or, sum, refl, sym, ap, ◌∙◌, arith, mul-le-mul}
 use Rattle.std.proofs.Math.Seq.{take-suc}
-use Rattle.std.proofs.Math.Nat.{mod-eq_of_lt, mul-add-mod_self_left, div-add-mod, mod-lt, mul-suc, add-suc}
-use Rattle.std.proofs.lemmas.List.{take_all, length-take-le}
+use Rattle.std.proofs.Math.Nat.{mod-eq_of_lt, mul-add-mod_self_left, div-add-mod, mod-lt, mul-suc}
+use Rattle.std.proofs.lemmas.List.{take_all}
 use Rattle.std.proofs.lemmas.List.Sums.{sum_by_push}
 use Rattle.csdf_graph.specs.Rates.{rate, total}
 

@@ -1,11 +1,10 @@
 -- The graph that a text stands for, or the first thing that is wrong with it; and its script.
-use Rattle.std.specs.Prelude.{◌≡◌, ℕ, ℤ, pos, codes, Bool, nat_le, List, [], ◌∷◌, length, map, Option, Some, None, option_and_then, option_map, if◌then◌else◌, MatchResult, Result, Ok, Err}
+use Rattle.std.specs.Prelude.{◌≡◌, ℕ, List, length, map, Option, None, if◌then◌else◌, MatchResult, Result, Ok, Err}
 use Rattle.std.specs.Str.{is_utf8}
-use Rattle.toml.specs.Data.{Members, no_members, as_table, get_member}
+use Rattle.toml.specs.Data.{Members}
 use Rattle.toml.specs.Parse.{parse_document}
 use Rattle.csdf_graph.specs.declared.fault.GraphFault.{GraphFault}
-use Rattle.csdf_graph.specs.declared.fault.GraphFault.TheVariants.{NotToml, PhaseLength, ZeroRate, KernelPorts, NotConnected, Shape, Range}
-use Rattle.csdf_graph.specs.declared.fault.At.TheVariants as at
+use Rattle.csdf_graph.specs.declared.fault.GraphFault.TheVariants.{NotToml, PhaseLength, ZeroRate, KernelPorts, NotConnected}
 use Rattle.csdf_graph.specs.declared.names.Kind.TheVariants as kind
 use Rattle.csdf_graph.specs.declared.read.Parts.{Parts}
 use Rattle.csdf_graph.specs.Passes.{◌>>=◌, or_fault, each, check}

@@ -1,5 +1,5 @@
 -- The ends of each channel are actors, by name in the file and by number in the graph.
-use Rattle.std.specs.Prelude.{ℕ, List, Option, Some, None, option_and_then, position, Result}
+use Rattle.std.specs.Prelude.{ℕ, List, Option, Some, option_and_then, position, Result}
 use Rattle.std.specs.Str.{bytes_eq}
 use Rattle.csdf_graph.specs.declared.fault.GraphFault.{GraphFault}
 use Rattle.csdf_graph.specs.declared.fault.GraphFault.TheVariants as fault

@@ -1,5 +1,5 @@
 -- The script of a file: the lines of its table `script`, with their limits.
-use Rattle.std.specs.Prelude.{ℕ, ℤ, pos, codes, nat_le, List, [], ◌∷◌, length, map, Option, Some, None, option_and_then, option_map, if◌then◌else◌, string_bytes, Result, Ok, Err}
+use Rattle.std.specs.Prelude.{ℕ, ℤ, pos, codes, nat_le, List, [], ◌∷◌, length, map, Option, Some, None, option_and_then, option_map, if◌then◌else◌, string_bytes, Result}
 use Rattle.toml.specs.Data.{Members, no_members, as_table, get_member}
 use Rattle.csdf_graph.specs.declared.fault.GraphFault.{GraphFault}
 use Rattle.csdf_graph.specs.declared.fault.GraphFault.TheVariants.{NotToml, Shape, Range}

@@ -1,7 +1,7 @@
 -- The shape of a file: each table has its keys, of their kinds, and no others.
-use Rattle.std.specs.Prelude.{ℕ, ℤ, pos, codes, Bool, ◌||◌, List, [], ◌∷◌, Option, Some, None, option_and_then, option_map, is_some, if◌then◌else◌, map, Result, Ok}
+use Rattle.std.specs.Prelude.{ℕ, ℤ, pos, codes, ◌||◌, List, [], ◌∷◌, Option, Some, None, option_and_then, option_map, is_some, if◌then◌else◌, map, Result, Ok}
 use Rattle.std.specs.Str.{bytes_eq}
-use Rattle.toml.specs.Data.{Data, Members, no_members, get_member, as_table}
+use Rattle.toml.specs.Data.{Members, no_members, get_member, as_table}
 use Rattle.csdf_graph.specs.declared.fault.GraphFault.{GraphFault}
 use Rattle.csdf_graph.specs.declared.fault.GraphFault.TheVariants.{Shape}
 use Rattle.csdf_graph.specs.declared.fault.At.TheVariants.{File, Actor, Channel}

@@ -1,7 +1,6 @@
 -- What a graph keeps with the names that its numbers stand for.
-use Rattle.std.specs.Prelude.{◌≡◌, ℕ, List, map, length}
+use Rattle.std.specs.Prelude.{◌≡◌, ℕ, List, map}
 use Rattle.csdf_graph.specs.Graph.{Graph, Actor, Channel}
-use Rattle.csdf_graph.specs.Joined.{AreJoined}
 use Rattle.csdf_graph.specs.WellFormed.{IsFitting, IsWellFormed}
 
 -- the names of actors and of channels, by number

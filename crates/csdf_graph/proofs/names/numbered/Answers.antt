@@ -1,4 +1,4 @@
-use Rattle.std.proofs.Common.{sym, ap, ◌∙◌, rules}
+use Rattle.std.proofs.Common.{sym, ap, ◌∙◌}
 use Rattle.csdf_graph.proofs.NameLemmas.{name_refused, name_taken, keys_grow}
 use Rattle.csdf_graph.specs.declared.fault.GraphFault.TheVariants.{Name}
 use Rattle.std.proofs.Common.{Err}

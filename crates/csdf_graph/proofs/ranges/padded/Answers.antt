@@ -1,4 +1,4 @@
-use Rattle.std.proofs.Common.{◌≡◌, Some, get_or, pos, rules, sym, ◌∙◌, to_z, of_z}
+use Rattle.std.proofs.Common.{◌≡◌, Some, get_or, pos, rules, sym, ◌∙◌}
 use Rattle.std.proofs.lemmas.Int.{to_z-of_z}
 use Rattle.csdf_graph.specs.Ranges.{signed_within}
 use Rattle.csdf_graph.proofs.RangeLemmas.{padded-step}

@@ -1,6 +1,5 @@
-use Rattle.std.proofs.Common.{◌≡◌, None, refl, ◌∙◌}
+use Rattle.std.proofs.Common.{refl, ◌∙◌}
 use Rattle.std.proofs.lemmas.Bool.{iff_false}
-use Rattle.csdf_graph.specs.GraphText.{file_of}
 use Rattle.csdf_graph.proofs.ReadLemmas.{is_text, text_is}
 use Rattle.csdf_graph.proofs.read.file_of.Goals as goal
 

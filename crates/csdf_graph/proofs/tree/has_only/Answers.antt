@@ -1,4 +1,4 @@
-use Rattle.std.proofs.Common.{List, map, string_bytes, sym, ◌∙◌, rules, tests}
+use Rattle.std.proofs.Common.{map, string_bytes, sym, ◌∙◌, rules, tests}
 use Rattle.std.proofs.lemmas.Iterator.Search.{all_from_yields_List}
 use Rattle.csdf_graph.specs.Tree.{is_among}
 use Rattle.csdf_graph.proofs.TreeLemmas.{has_only-view, yields_keys}
