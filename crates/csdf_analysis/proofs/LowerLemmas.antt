@@ -46,9 +46,6 @@ bound_enough : (o : Option ℕ) (full b w : ℕ) → b ≡ unwrap_or o full → 
 bound_enough None full b w is same = inr (omega arith)
 bound_enough (Some given) full b w is same = inl (omega arith)
 
-pub full_initial : (q : List ℕ) (channels : List Channel) → HoldInitial channels (full_capacities q channels)
-full_initial q channels i c is = subst (λ b. length c.initial ≤ b) (sym (bound_at (full_capacity q) channels i c is)) (omega arith)
-
 pub first_initial : (g : Graph) (q : List ℕ) → IsWellFormed g → HoldInitial g.channels (first_bounds q g.channels)
 first_initial g q whole i c is =
     subst (λ b. length c.initial ≤ b) (sym (bound_at (first_bound q) g.channels i c is)) (fits_capacity c.capacity c (full_capacity q c) (at (IsChannel g.actors) g.channels i c whole.fitting.channels is).capacity (omega arith))

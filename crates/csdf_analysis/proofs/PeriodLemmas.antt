@@ -1,11 +1,11 @@
 -- Persistence: an actor that is able to fire stays so while others fire. So counts that a schedule reached go on wherever another one does.
-use Rattle.std.proofs.Common.{◌≡◌, ℕ, zero, suc, ◌+◌, ◌-◌, ◌<◌, ◌≤◌, inl, inr, cond, List, [], ◌∷◌, ◌++◌, length, replicate, get_or, sum, refl, sym, ap, subst, ◌∙◌, arith}
+use Rattle.std.proofs.Common.{◌≡◌, ℕ, zero, suc, ◌+◌, ◌<◌, ◌≤◌, inl, inr, cond, List, [], ◌∷◌, ◌++◌, length, replicate, get_or, sum, refl, sym, ap, subst, ◌∙◌, arith}
 use Rattle.std.specs.Prelude.{slice_get, Some}
 use Rattle.std.proofs.Math.Nat.{eq-or-lt_of_le}
 use Rattle.std.proofs.lemmas.Bool.{eq-eqb, ne_eqb}
 use Rattle.std.proofs.lemmas.List.{length-replicate}
 use Rattle.csdf_graph.specs.Graph.{Channel}
-use Rattle.csdf_graph.specs.Rates.{rate, produced, consumed, consumption}
+use Rattle.csdf_graph.specs.Rates.{produced, consumed, consumption}
 use Rattle.csdf_analysis.specs.Period.{held, own_consumption, held_after, CanFire, fired, IsSchedule, counts_after, no_firings, IsReached, CompletesPeriod, CanGo}
 use Rattle.csdf_analysis.specs.Laws.{IsWithinAll}
 use Rattle.csdf_analysis.proofs.CountLemmas.{same_or_not, total_mono, fired_same, fired_other, fired_length, fired_more, fired_within, fired_both, fired_sum, none_at, some_less, all_same}
@@ -27,9 +27,6 @@ own_same a n c to = ap (λ b. cond b (consumption c (get_or n a 0)) 0) (eq-eqb c
 
 own_other : (a : ℕ) (n : List ℕ) (c : Channel) → (c.to ≡ a → ⊥) → own_consumption a n c ≡ 0
 own_other a n c other = ap (λ b. cond b (consumption c (get_or n a 0)) 0) (ne_eqb c.to a other)
-
-tokens_of : (d x y1 y2 rate h : ℕ) → y1 ≡ y2 → y2 ≤ d + x → rate ≤ d + x - y2 → y1 + rate ≤ d + x
-tokens_of d x y1 y2 rate h same fed enough = omega arith
 
 -- what an output holds after the firing, with and without subtraction
 after_to : (channels : List Channel) (n : List ℕ) (a i : ℕ) (c : Channel) (b : ℕ) → a < length n → IsFed channels n → slice_get channels i ≡ Some c → c.from ≡ a
@@ -130,9 +127,6 @@ schedule_more channels bounds n (x ∷ actors) a able can =
 
 pub reached_fed : (channels : List Channel) (q bounds n : List ℕ) → IsReached channels q bounds n → IsFed channels n
 reached_fed channels q bounds n r = subst (IsFed channels) r.leads (fed_after channels bounds (no_firings q) r.schedule (fed_first channels (length q)) r.able)
-
-pub reached_length : (channels : List Channel) (q bounds n : List ℕ) → IsReached channels q bounds n → length n ≡ length q
-reached_length channels q bounds n r = ap length (sym r.leads) ∙ after_length channels bounds (no_firings q) r.schedule ∙ length-replicate (length q) 0
 
 pub reached_more : (channels : List Channel) (q bounds n : List ℕ) (a : ℕ) → IsReached channels q bounds n → CanFire channels bounds n a → IsReached channels q bounds (fired n a)
 reached_more channels q bounds n a r can =
