@@ -2,10 +2,9 @@
 use Rattle.std.proofs.Common.{◌≡◌, ℕ, List, [], ◌∷◌, ◌++◌, refl, sym, ap, subst, ◌∙◌, append_assoc, append-nil}
 use Rattle.csdf_core.specs.State.{State}
 use Rattle.csdf_core.specs.Moves.{Move}
-use Rattle.csdf_core.specs.Step.{Reply, reply_to}
+use Rattle.csdf_core.specs.Step.{reply_to}
 use Rattle.csdf_core.specs.Shows.{View, Shows, Plays}
-use Rattle.csdf_tool.specs.Lines.{Line, Play, Cells}
-use Rattle.csdf_tool.specs.Printed.{reply_line, cells_text}
+use Rattle.csdf_tool.specs.Lines.{Line, Play}
 use Rattle.csdf_tool.specs.Session.{PrintsLine, PrintsLines, next_state}
 use Rattle.csdf_tool.specs.Turns.{Turns, TurnsAll}
 

@@ -1,6 +1,5 @@
-use Rattle.std.proofs.Common.{◌≡◌, map, refl, ap, subst, ◌∙◌, string_bytes}
+use Rattle.std.proofs.Common.{map, refl, ap, subst, ◌∙◌, string_bytes}
 use Rattle.csdf_graph.specs.Graph.{Graph}
-use Rattle.csdf_graph.specs.ScriptText.{script_view}
 use Rattle.csdf_core.specs.State.{opening}
 use Rattle.csdf_tool.specs.Lines.{line_view}
 use Rattle.csdf_tool.specs.Printed.{names_of}

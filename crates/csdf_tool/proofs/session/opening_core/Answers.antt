@@ -1,4 +1,4 @@
-use Rattle.std.proofs.Common.{◌≡◌, length, ap, sym, ◌∙◌}
+use Rattle.std.proofs.Common.{length, ap, ◌∙◌}
 use Rattle.csdf_graph.specs.ScriptText.{script_view}
 use Rattle.csdf_core.specs.Plan.{Plan}
 use Rattle.csdf_tool.proofs.SessionLemmas.{plan_in-made, length-channels}
