@@ -163,7 +163,8 @@ impl Core {
 
     /// The free cells, the next to be taken first.
     pub fn free_cells(&self) -> Cells<'_>
-        ensures { result ≡ self.now.pool.free }
+        ensures value { result ≡ self.now.pool.free }
+        ensures size { self.now.pool.size ≡ self.now.plan.cells }
     {
         self.pool.free_cells()
     }

@@ -39,15 +39,16 @@ plan_in a script = plan_for a (replicate (length a.graph.actors) script.limit) (
 
 -- ---- what is printed
 
--- a pool that holds what waits in the channels: its cells are shared out, and the tokens of each chain are those of its channel
-pub record Holds (p : Present) (pool : Shared) : Type 0 where
+-- a pool that holds what waits in the channels: it has as many cells as are played with, they are shared out, and the tokens of each chain are those of its channel
+pub record Holds (plan : Plan) (p : Present) (pool : Shared) : Type 0 where
+  pub size : pool.size ≡ plan.cells
   pub partition : IsPartition pool
   pub tokens : map held_tokens pool.chains ≡ p.tokens
 
 -- the text of a line that is played in a state: the reply of the step, or the cells of some pool that holds what waits in the channels
 abbrev pub PrintsLine : List (List ℕ) → Plan → State → Line → List ℕ → Type 0
 PrintsLine names plan s (Play verb name m) text = text ≡ reply_line names verb name (reply_to plan s m)
-PrintsLine names plan s Cells text = (pool : Shared) × Holds (present s) pool × (text ≡ cells_text names pool)
+PrintsLine names plan s Cells text = (pool : Shared) × Holds plan (present s) pool × (text ≡ cells_text names pool)
 
 -- the state after a line
 abbrev pub next_state : Plan → State → Line → State

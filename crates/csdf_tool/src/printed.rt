@@ -144,7 +144,8 @@ pub(crate) fn push_cells_text(
 ) -> Result<(), AllocError>
     requires same { length channels.now ≡ length core.now.plan.channels }
     requires few { length channels.now ≤ 128 }
-    ensures { OnOk result (string_bytes text.new ≡ string_bytes text.old ++ cells_text (names_of (map channel_view channels.now)) core.now.pool) }
+    ensures text { OnOk result (string_bytes text.new ≡ string_bytes text.old ++ cells_text (names_of (map channel_view channels.now)) core.now.pool) }
+    ensures size { OnOk result (core.now.pool.size ≡ core.now.plan.cells) }
 {
     push_chains(text, channels, core)?;
     push(text, "free:")?;
