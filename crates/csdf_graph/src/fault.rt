@@ -20,6 +20,11 @@ pub enum At {
 }
 
 impl fmt::Display for At {
+    ghost use Rattle.std.specs.Prelude.{Some};
+    ghost use Rattle.csdf_graph.specs.Told.{place_text};
+
+    ghost output = { λ at. Some (place_text at) };
+
     fn fmt<W: fmt::Write>(&self, f: &mut fmt::Formatter<W>) -> fmt::Result {
         match self {
             At::File => write!(f, "file"),

@@ -1,15 +1,21 @@
 -- Faults of the program, and passes that end at the first.
-use Rattle.std.specs.Prelude.{◌≡◌, ◌≢◌, ℕ, List, Result, Ok, Err}
+use Rattle.std.specs.Prelude.{◌≡◌, ◌≢◌, ℕ, List, Result, Ok, Err, codes}
 use Rattle.csdf_graph.specs.declared.fault.GraphFault.{GraphFault}
 use Rattle.csdf_graph.specs.declared.fault.GraphFault.TheVariants as graph
 use Rattle.csdf_graph.specs.declared.intake.InputFault.{InputFault}
 use Rattle.csdf_graph.specs.declared.intake.InputFault.TheVariants as input
 use Rattle.csdf_analysis.specs.declared.fault.AcceptFault.{AcceptFault}
 use Rattle.csdf_analysis.specs.declared.fault.AcceptFault.TheVariants as accept
-use Rattle.csdf_tool.specs.declared.fault.Stream.TheVariants.{Input}
+use Rattle.csdf_tool.specs.declared.fault.Stream.{Stream}
+use Rattle.csdf_tool.specs.declared.fault.Stream.TheVariants.{Input, Output}
 use Rattle.csdf_tool.specs.Printed.{name_at}
 use Rattle.csdf_tool.specs.declared.fault.ToolFault.{ToolFault}
 use Rattle.csdf_tool.specs.declared.fault.ToolFault.TheVariants.{Graph, Line, Unbalanced, TooLarge, Deadlock, TooTight, TooLong, Device, Memory}
+
+-- the text of a stream
+abbrev pub stream_text : Stream → List ℕ
+stream_text Input = codes "standard input"
+stream_text Output = codes "standard output"
 
 infixl 10 ◌>>=◌
 abbrev pub ◌>>=◌ : {A B : Type 0} → Result A ToolFault → (A → Result B ToolFault) → Result B ToolFault

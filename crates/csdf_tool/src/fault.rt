@@ -18,6 +18,11 @@ pub enum Stream {
 }
 
 impl fmt::Display for Stream {
+    ghost use Rattle.std.specs.Prelude.{Some};
+    ghost use Rattle.csdf_tool.specs.Faults.{stream_text};
+
+    ghost output = { λ stream. Some (stream_text stream) };
+
     fn fmt<W: fmt::Write>(&self, f: &mut fmt::Formatter<W>) -> fmt::Result {
         match self {
             Stream::Input => write!(f, "standard input"),
@@ -49,6 +54,10 @@ impl ChannelName {
 }
 
 impl fmt::Display for ChannelName {
+    ghost use Rattle.std.specs.Prelude.{Some};
+
+    ghost output = { λ name. Some name };
+
     fn fmt<W: fmt::Write>(&self, f: &mut fmt::Formatter<W>) -> fmt::Result {
         let name = self.0.as_str();
         write!(f, "{name}")
