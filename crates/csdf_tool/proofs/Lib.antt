@@ -2,3 +2,4 @@ pub mod NameLemmas
 pub mod TurnLemmas
 pub mod SessionLemmas
 pub mod AnswerLemmas
+pub mod ToldLemmas

@@ -7,7 +7,7 @@ use Rattle.csdf_graph.specs.declared.intake.InputFault.TheVariants as input
 use Rattle.csdf_analysis.specs.declared.fault.AcceptFault.{AcceptFault}
 use Rattle.csdf_analysis.specs.declared.fault.AcceptFault.TheVariants as accept
 use Rattle.csdf_tool.specs.declared.fault.Stream.{Stream}
-use Rattle.csdf_tool.specs.declared.fault.Stream.TheVariants.{Input, Output}
+use Rattle.csdf_tool.specs.declared.fault.Stream.TheVariants.{Input, Output, File}
 use Rattle.csdf_tool.specs.Printed.{name_at}
 use Rattle.csdf_tool.specs.declared.fault.ToolFault.{ToolFault}
 use Rattle.csdf_tool.specs.declared.fault.ToolFault.TheVariants.{Graph, Line, Unbalanced, TooLarge, Deadlock, TooTight, TooLong, Device, Memory}
@@ -16,6 +16,7 @@ use Rattle.csdf_tool.specs.declared.fault.ToolFault.TheVariants.{Graph, Line, Un
 abbrev pub stream_text : Stream → List ℕ
 stream_text Input = codes "standard input"
 stream_text Output = codes "standard output"
+stream_text (File name) = name
 
 infixl 10 ◌>>=◌
 abbrev pub ◌>>=◌ : {A B : Type 0} → Result A ToolFault → (A → Result B ToolFault) → Result B ToolFault
@@ -43,11 +44,11 @@ accept_fault names accept.Deadlock = Deadlock
 accept_fault names accept.TooTight = TooTight
 accept_fault names accept.Memory = Memory
 
--- why standard input was not read, as the program tells it
-abbrev pub of_input : InputFault → ToolFault
-of_input input.Read = Device Input
-of_input input.TooLong = TooLong
-of_input input.Memory = Memory
+-- why a stream was not read, as the program tells it
+abbrev pub unread : Stream → InputFault → ToolFault
+unread stream input.Read = Device stream
+unread stream input.TooLong = TooLong
+unread stream input.Memory = Memory
 
 -- what a function answered, seen by view, is what is wanted, unless memory ran out
 abbrev pub Gives : {X Y : Type 0} → (X → Y) → Result X ToolFault → Result Y ToolFault → Type 0

@@ -1,7 +1,7 @@
 //! Why a command gave no answer.
 
 ghost use Rattle.std.specs.Prelude.{◌≡◌, IfOk};
-ghost use Rattle.csdf_tool.specs.Faults.{status_of};
+ghost use Rattle.csdf_tool.specs.Faults.{status_of, unread};
 ghost use Rattle.csdf_tool.specs.declared.fault.ToolFault.TheVariants.{Memory};
 
 use csdf_graph::{GraphFault, InputFault};
@@ -10,11 +10,46 @@ use std::fmt;
 use std::marker::Model;
 use thiserror::Error;
 
-/// A stream of the program.
-#[derive(Clone, Copy, Debug, PartialEq, Eq)]
+/// The name of a channel or a file.
+#[derive(Debug, Drop)]
+pub struct Name(String);
+
+/// It is seen as its bytes.
+impl Model for Name {
+    ghost use Rattle.std.specs.Prelude.{ℕ, List, string_bytes};
+
+    ghost Value = { List ℕ };
+
+    ghost view = { λ n. string_bytes n.0 };
+}
+
+impl Name {
+    /// The name in memory of its own.
+    pub(crate) fn new(alloc: Global, name: &str) -> Result<Name, AllocError>
+        ensures { IfOk result (λ n. n ≡ name.now) }
+    {
+        Ok(Name(String::from_str(alloc, name)?))
+    }
+}
+
+impl fmt::Display for Name {
+    ghost use Rattle.std.specs.Prelude.{Some};
+
+    ghost output = { λ name. Some name };
+
+    fn fmt<W: fmt::Write>(&self, f: &mut fmt::Formatter<W>) -> fmt::Result {
+        let name = self.0.as_str();
+        write!(f, "{name}")
+    }
+}
+
+/// What the program reads from or writes to.
+#[derive(Debug, Drop)]
 pub enum Stream {
     Input,
     Output,
+    /// The file of this name, as the command line gave it.
+    File(Name),
 }
 
 impl fmt::Display for Stream {
@@ -27,40 +62,8 @@ impl fmt::Display for Stream {
         match self {
             Stream::Input => write!(f, "standard input"),
             Stream::Output => write!(f, "standard output"),
+            Stream::File(file) => write!(f, "{file}"),
         }
-    }
-}
-
-/// The name of a channel.
-#[derive(Debug, Drop)]
-pub struct ChannelName(String);
-
-/// It is seen as its bytes.
-impl Model for ChannelName {
-    ghost use Rattle.std.specs.Prelude.{ℕ, List, string_bytes};
-
-    ghost Value = { List ℕ };
-
-    ghost view = { λ n. string_bytes n.0 };
-}
-
-impl ChannelName {
-    /// The name in memory of its own.
-    pub(crate) fn new(alloc: Global, name: &str) -> Result<ChannelName, AllocError>
-        ensures { IfOk result (λ n. n ≡ name.now) }
-    {
-        Ok(ChannelName(String::from_str(alloc, name)?))
-    }
-}
-
-impl fmt::Display for ChannelName {
-    ghost use Rattle.std.specs.Prelude.{Some};
-
-    ghost output = { λ name. Some name };
-
-    fn fmt<W: fmt::Write>(&self, f: &mut fmt::Formatter<W>) -> fmt::Result {
-        let name = self.0.as_str();
-        write!(f, "{name}")
     }
 }
 
@@ -75,10 +78,10 @@ pub enum ToolFault {
     Line(usize),
     /// The first channel that no repetition vector balances together with those before it.
     #[error("csdf: graph: unbalanced at channel {0}")]
-    Unbalanced(ChannelName),
+    Unbalanced(Name),
     /// The first channel whose full capacity is too large.
     #[error("csdf: graph: too large at channel {0}")]
-    TooLarge(ChannelName),
+    TooLarge(Name),
     /// No capacities complete a period of the graph.
     #[error("csdf: graph: deadlock")]
     Deadlock,
@@ -144,17 +147,13 @@ impl From<GraphFault> for ToolFault {
     }
 }
 
-impl From<InputFault> for ToolFault {
-    ghost use Rattle.std.specs.Prelude.{◌≡◌};
-    ghost use Rattle.csdf_tool.specs.Faults.{of_input};
-
-    ghost from_gives = { λ fault e. e ≡ of_input fault };
-
-    fn from(fault: InputFault) -> ToolFault {
-        match fault {
-            InputFault::Read => ToolFault::Device(Stream::Input),
-            InputFault::TooLong => ToolFault::TooLong,
-            InputFault::Memory => ToolFault::Memory,
-        }
+/// Why a stream was not read.
+pub(crate) fn unread(stream: Stream, fault: InputFault) -> ToolFault
+    ensures { result ≡ unread stream fault }
+{
+    match fault {
+        InputFault::Read => ToolFault::Device(stream),
+        InputFault::TooLong => ToolFault::TooLong,
+        InputFault::Memory => ToolFault::Memory,
     }
 }

@@ -1,14 +1,16 @@
-//! The program `csdf`: it reads a graph file with a script from standard input, and prints the
-//! reply to each move of the script.
+//! The program `csdf`: it plays the script of a graph file and prints the reply to each move, or
+//! tells whether and how the graph can run for ever in bounded buffers.
 #![tactic(auto)]
 
-ghost use Rattle.std.specs.Prelude.{◌≡◌, ◌≢◌, ℕ, List, Ok, IfErr, IfSome, OnOk};
-ghost use Rattle.std.specs.Io.KnownBytes.{Appends};
-ghost use Rattle.csdf_tool.specs.Session.{IsAnswer};
-
+mod command;
+#[cfg(test)]
+mod command_tests;
+mod described;
 mod fault;
 mod line;
 mod printed;
+mod program;
+mod question;
 mod replay;
 mod session;
 #[cfg(test)]
@@ -16,35 +18,31 @@ mod tests;
 mod turns;
 mod words;
 
-use crate::fault::{Stream, ToolFault};
-use crate::replay::play_script;
-use csdf_graph::{FromReader, Intake, Outlet, ToWriter, read_bytes};
-use std::alloc::Global;
+use crate::program::run_words;
+use csdf_graph::{FromReader, ToWriter};
+use std::env::{self, Env};
+use std::io;
 use std::process::ExitCode;
 
-/// Reads a graph file with a script to its end, and writes the replies.
-fn play_input<I: Intake, O: Outlet>(
-    alloc: Global,
-    reader: &mut I,
-    writer: &mut O,
-) -> Result<(), ToolFault>
-    ensures written { OnOk result (IfSome (I.left reader.old) (λ bytes. (text : List ℕ) × IsAnswer bytes (Ok text)
-        × Appends (O.written writer.old) (O.written writer.new) text)) }
-    ensures unwritten { IfErr result (λ fault. fault ≢ ToolFault.Device Stream.Output → writer.new ≡ writer.old) }
-{
-    let bytes = read_bytes(alloc, reader)?;
-    play_script(alloc, &bytes, writer)
+/// The words of the command line after the program's own name.
+fn words_after_name(rt: &(impl Env + AllocGlobal)) -> io::Result<Vec<String>> {
+    let words = env::args(rt)?.skip(1).collect(rt.alloc())?;
+    Ok(words)
 }
 
 fn main(rt: HostRuntime) -> ExitCode {
     let mut reader = FromReader::new(rt.stdin());
-    let mut writer = ToWriter::new(rt.stdout());
-    match play_input(rt.alloc(), &mut reader, &mut writer) {
-        Ok(()) => ExitCode::SUCCESS,
-        Err(fault) => {
-            // A failure of standard error changes no status.
-            let _ = eprintln!(rt; "{fault}");
-            ExitCode::from(fault.status())
+    let mut out = ToWriter::new(rt.stdout());
+    let mut err = ToWriter::new(rt.stderr());
+    match words_after_name(&rt) {
+        Ok(words) => ExitCode::from(run_words(&rt, &words, &mut reader, &mut out, &mut err)),
+        Err(fault) if fault.kind() == io::ErrorKind::InvalidData => {
+            let _ = eprintln!(rt; "error: invalid UTF-8 was detected in one or more arguments");
+            ExitCode::from(2)
+        }
+        Err(_) => {
+            let _ = eprintln!(rt; "csdf: memory");
+            ExitCode::from(3)
         }
     }
 }

@@ -11,7 +11,7 @@ ghost use Rattle.csdf_tool.specs.Lines.{line_view};
 ghost use Rattle.csdf_tool.specs.Printed.{names_of};
 ghost use Rattle.csdf_tool.specs.Session.{lines_from, supply_of, plan_in, RefusesGraph};
 
-use crate::fault::{ChannelName, ToolFault};
+use crate::fault::{Name, ToolFault};
 use crate::line::{Line, line_in};
 use crate::printed::name_at;
 use csdf_analysis::{AcceptFault, Accepted, accept};
@@ -38,17 +38,21 @@ pub(crate) fn lines_of<'a>(
 }
 
 /// Why the graph is not accepted, as the program tells it: channels by their names.
-fn accept_fault(alloc: Global, graph: &Graph, fault: AcceptFault) -> Result<ToolFault, AllocError>
+pub(crate) fn accept_fault(
+    alloc: Global,
+    graph: &Graph,
+    fault: AcceptFault,
+) -> Result<ToolFault, AllocError>
     ensures { IfOk result (λ told. told ≡ accept_fault (names_of graph.now.channels) fault) }
 {
     let channels = graph.channels();
     match fault {
         AcceptFault::Unbalanced(number) => {
-            let name = ChannelName::new(alloc, name_at(channels, number))?;
+            let name = Name::new(alloc, name_at(channels, number))?;
             Ok(ToolFault::Unbalanced(name))
         }
         AcceptFault::TooLarge(number) => {
-            let name = ChannelName::new(alloc, name_at(channels, number))?;
+            let name = Name::new(alloc, name_at(channels, number))?;
             Ok(ToolFault::TooLarge(name))
         }
         AcceptFault::Deadlock => Ok(ToolFault::Deadlock),

@@ -1,7 +1,7 @@
 //! Worked examples of scripts.
 
-use crate::fault::{ChannelName, Stream, ToolFault};
-use crate::play_input;
+use crate::fault::{Name, Stream, ToolFault};
+use crate::program::play_input;
 use crate::replay::play_script;
 use csdf_graph::{At, Fused, GraphFault, Slice, ToWriter};
 use std::process::Abort;
@@ -378,12 +378,12 @@ fn faults_have_a_line_and_a_status(rt: HostRuntime) -> Result<(), Fail> {
             1,
         ),
         (
-            ToolFault::Unbalanced(ChannelName::new(rt.alloc(), "x")?),
+            ToolFault::Unbalanced(Name::new(rt.alloc(), "x")?),
             "csdf: graph: unbalanced at channel x",
             1,
         ),
         (
-            ToolFault::TooLarge(ChannelName::new(rt.alloc(), "y")?),
+            ToolFault::TooLarge(Name::new(rt.alloc(), "y")?),
             "csdf: graph: too large at channel y",
             1,
         ),
@@ -399,6 +399,11 @@ fn faults_have_a_line_and_a_status(rt: HostRuntime) -> Result<(), Fail> {
         (
             ToolFault::Device(Stream::Output),
             "csdf: device: standard output",
+            3,
+        ),
+        (
+            ToolFault::Device(Stream::File(Name::new(rt.alloc(), "a.toml")?)),
+            "csdf: device: a.toml",
             3,
         ),
         (ToolFault::Memory, "csdf: memory", 3),

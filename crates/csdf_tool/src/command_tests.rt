@@ -1,0 +1,142 @@
+//! Worked examples of questions and command lines.
+
+use crate::described::describe;
+use crate::program::run_words;
+use crate::question::Question;
+use csdf_graph::{Slice, ToWriter};
+use std::fs;
+use std::process::Abort;
+use std::rt::Files;
+use std::test::Fail;
+
+/// A source, a copy and a sink in a row.
+const ROW: &str = r#"actor = [
+  { name = "a", kernel = "source" },
+  { name = "b", kernel = "copy" },
+  { name = "c", kernel = "sink" },
+]
+channel = [
+  { name = "x", from = "a", to = "b", produce = [2], consume = [3] },
+  { name = "y", from = "b", to = "c", produce = [1], consume = [2] },
+]
+"#;
+
+/// Two copies in a circle with no token.
+const STUCK: &str = r#"actor = [{ name = "a", kernel = "copy" }, { name = "b", kernel = "copy" }]
+channel = [
+  { name = "x", from = "a", to = "b", produce = [1], consume = [1] },
+  { name = "y", from = "b", to = "a", produce = [1], consume = [1] },
+]
+"#;
+
+/// Two channels that ask for different numbers of firings.
+const DISAGREEING: &str =
+    r#"actor = [{ name = "a", kernel = "source" }, { name = "b", kernel = "sink" }]
+channel = [
+  { name = "x", from = "a", to = "b", produce = [1], consume = [1] },
+  { name = "y", from = "a", to = "b", produce = [2], consume = [1] },
+]
+"#;
+
+/// The answer to a question, or the line of the fault, for which nothing is written.
+fn answer_to(
+    rt: &(impl Abort + AllocGlobal),
+    question: Question,
+    graph: &str,
+) -> Result<String, Fail> {
+    let mut written = Vec::new(rt.alloc());
+    let mut writer = ToWriter::new(&mut written);
+    match describe(rt.alloc(), question, graph.as_bytes(), &mut writer) {
+        Ok(()) => Ok(String::from_utf8(written)?),
+        Err(fault) => {
+            assert_eq!(rt; written.len(), 0);
+            Ok(format!(in rt.alloc(); "{fault}")?)
+        }
+    }
+}
+
+#[test]
+fn questions_are_answered(rt: HostRuntime) -> Result<(), Fail> {
+    let check = answer_to(&rt, Question::Check, ROW)?;
+    assert_eq!(rt; check.as_str(), "consistent: 3 actors, 2 channels\n");
+    let repetition = answer_to(&rt, Question::Repetition, ROW)?;
+    assert_eq!(rt; repetition.as_str(), "a 3 3\nb 2 2\nc 1 1\n");
+    let schedule = answer_to(&rt, Question::Schedule, ROW)?;
+    assert_eq!(rt; schedule.as_str(), "a\na\nb\na\nb\nc\n");
+    let capacity = answer_to(&rt, Question::Capacity, ROW)?;
+    assert_eq!(rt; capacity.as_str(), "x 4\ny 2\ncells 6\n");
+    let shared = format!(in rt.alloc(); "cells = 4\n{ROW}")?;
+    let capacity = answer_to(&rt, Question::Capacity, shared.as_str())?;
+    assert_eq!(rt; capacity.as_str(), "x 4\ny 2\ncells 4\n");
+    Ok(())
+}
+
+#[test]
+fn a_graph_with_no_answer_is_told(rt: HostRuntime) -> Result<(), Fail> {
+    let check = answer_to(&rt, Question::Check, STUCK)?;
+    assert_eq!(rt; check.as_str(), "consistent: 2 actors, 2 channels\n");
+    let capacity = answer_to(&rt, Question::Capacity, STUCK)?;
+    assert_eq!(rt; capacity.as_str(), "csdf: graph: deadlock");
+    let check = answer_to(&rt, Question::Check, DISAGREEING)?;
+    assert_eq!(rt; check.as_str(), "csdf: graph: unbalanced at channel y");
+    let schedule = answer_to(&rt, Question::Schedule, "[[actor")?;
+    assert_eq!(rt; schedule.as_str(), "csdf: graph: not TOML");
+    Ok(())
+}
+
+/// What the program writes for a command line, without its own name, whose words stand apart by
+/// one space: its status, standard output and standard error.
+fn run(rt: &(impl Files + AllocGlobal), line: &str, input: &str) -> Result<String, Fail> {
+    let mut words = Vec::new(rt.alloc());
+    for word in line.split_whitespace() {
+        words.push(String::from_str(rt.alloc(), word)?)?;
+    }
+    let mut reader = Slice::new(input.as_bytes());
+    let mut out = Vec::new(rt.alloc());
+    let mut err = Vec::new(rt.alloc());
+    let status = run_words(
+        rt,
+        &words,
+        &mut reader,
+        &mut ToWriter::new(&mut out),
+        &mut ToWriter::new(&mut err),
+    );
+    let out = String::from_utf8(out)?;
+    let err = String::from_utf8(err)?;
+    Ok(format!(in rt.alloc(); "{status}|{out}|{err}")?)
+}
+
+#[test]
+fn words_are_carried_out(rt: HostRuntime) -> Result<(), Fail> {
+    fs::write(&rt, "row.toml", ROW)?;
+    let check = run(&rt, "check row.toml", "")?;
+    assert_eq!(rt; check.as_str(), "0|consistent: 3 actors, 2 channels\n|");
+    let script = "[script]\nmoves = [\"begin a\"]\n";
+    fs::write(&rt, "script.toml", format!(in rt.alloc(); "{ROW}{script}")?)?;
+    let moves = run(&rt, "moves script.toml", "")?;
+    assert_eq!(rt; moves.as_str(), "0|begin a: ok\n|");
+    let input = format!(in rt.alloc(); "{ROW}{script}")?;
+    let played = run(&rt, "", input.as_str())?;
+    assert_eq!(rt; played.as_str(), "0|begin a: ok\n|");
+    let faulty = run(&rt, "", "[[actor")?;
+    assert_eq!(rt; faulty.as_str(), "1||csdf: graph: not TOML\n");
+    let missing = run(&rt, "schedule no_such_file", "")?;
+    assert_eq!(rt; missing.as_str(), "3||csdf: device: no_such_file\n");
+    let folder = run(&rt, "capacity .", "")?;
+    assert_eq!(rt; folder.as_str(), "3||csdf: device: .\n");
+    Ok(())
+}
+
+#[test]
+fn refused_words_end_with_status_two(rt: HostRuntime) -> Result<(), Fail> {
+    let unknown = run(&rt, "fly row.toml", "")?;
+    assert!(rt; unknown.starts_with("2||error: "));
+    let no_graph = run(&rt, "check", "")?;
+    assert!(rt; no_graph.starts_with("2||error: "));
+    let help = run(&rt, "--help", "")?;
+    assert!(rt; help.starts_with("0|Runs and analyses"));
+    assert!(rt; help.ends_with("|"));
+    let version = run(&rt, "--version", "")?;
+    assert_eq!(rt; version.as_str(), "0|csdf 0.1.0\n|");
+    Ok(())
+}
