@@ -6,7 +6,7 @@ use Rattle.std.proofs.lemmas.List.{get_or_append_left, get_or_default, length_pu
 use Rattle.std.proofs.lemmas.Option.{slice_get_within, get_or_from_slice_get}
 use Rattle.csdf_graph.specs.Graph.{Channel, numbers_from}
 use Rattle.csdf_graph.specs.Rates.{produced}
-use Rattle.csdf_analysis.specs.declared.ports.Ports.{Ports}
+use Rattle.csdf_graph.specs.declared.ports.Ports.{Ports}
 use Rattle.csdf_analysis.specs.Repetition.{full_capacity}
 use Rattle.csdf_analysis.specs.Laws.{IsWithinAll}
 use Rattle.csdf_analysis.specs.Fitting.{IsBetween, IsFit, ArePorts, AreGathered}

@@ -2,7 +2,7 @@
 use Rattle.std.specs.Prelude.{◌≡◌, ℕ, ◌<◌, ◌≤◌, List, length, All, sum, slice_index, slice_index_or}
 use Rattle.csdf_graph.specs.Graph.{Channel, inputs_of, outputs_of}
 use Rattle.csdf_graph.specs.Rates.{produced}
-use Rattle.csdf_analysis.specs.declared.ports.Ports.{Ports}
+use Rattle.csdf_graph.specs.declared.ports.Ports.{Ports}
 use Rattle.csdf_analysis.specs.Repetition.{HaveRoom}
 
 -- channels, and the firings of each actor in a period

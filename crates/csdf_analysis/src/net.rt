@@ -6,8 +6,8 @@ ghost use Rattle.csdf_analysis.specs.Period.{held};
 ghost use Rattle.csdf_analysis.specs.Laws.{IsWithinAll};
 ghost use Rattle.csdf_analysis.specs.Fitting.{IsFit};
 
-use crate::ports::{Ports, gathered};
-use csdf_graph::Channel;
+use crate::gathered::gathered;
+use csdf_graph::{Channel, Ports};
 use std::alloc::{AllocError, Global};
 use std::marker::Model;
 

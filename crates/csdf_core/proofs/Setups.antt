@@ -11,7 +11,7 @@ use Rattle.csdf_graph.specs.Graph.{Graph, inputs_of, outputs_of}
 use Rattle.csdf_graph.specs.WellFormed.{IsChannel, IsCells, initial_total}
 use Rattle.csdf_analysis.specs.Period.{HoldInitial}
 use Rattle.csdf_analysis.specs.Acceptance.{Accepted, IsAccepted, cells_of}
-use Rattle.csdf_core.specs.declared.ports.Ports.{Ports}
+use Rattle.csdf_graph.specs.declared.ports.Ports.{Ports}
 use Rattle.csdf_core.specs.Plan.{Channel}
 use Rattle.csdf_core.specs.Playable.{IsPlayable}
 use Rattle.csdf_core.specs.Layout.{with_capacity, is_source_kernel, plan_for, IsLaidOut}

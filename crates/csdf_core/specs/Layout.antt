@@ -7,7 +7,7 @@ use Rattle.csdf_graph.specs.Graph as graph
 use Rattle.csdf_graph.specs.Graph.{Graph, inputs_of, outputs_of}
 use Rattle.csdf_graph.specs.WellFormed.{IsWellFormed}
 use Rattle.csdf_analysis.specs.Acceptance.{Accepted, cells_of}
-use Rattle.csdf_core.specs.declared.ports.Ports.{Ports}
+use Rattle.csdf_graph.specs.declared.ports.Ports.{Ports}
 use Rattle.csdf_core.specs.Plan.{Channel, Plan}
 use Rattle.csdf_core.specs.Playable.{IsPlayable}
 

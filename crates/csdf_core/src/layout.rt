@@ -9,9 +9,8 @@ ghost use Rattle.csdf_core.specs.Playable.{IsPlayable};
 ghost use Rattle.csdf_core.specs.Streams.{part};
 ghost use Rattle.csdf_core.specs.Ports.{inputs_at, outputs_at, take_at, give_at};
 
-use crate::ports::Ports;
 use crate::setup::Setup;
-use csdf_graph::{Channel, Graph, Kernel};
+use csdf_graph::{Channel, Graph, Kernel, Ports};
 use std::alloc::{AllocError, Global};
 use std::marker::Model;
 

@@ -7,7 +7,6 @@ mod lanes;
 mod layout;
 mod moves;
 mod playing;
-mod ports;
 mod setup;
 
 pub use firing::Core;

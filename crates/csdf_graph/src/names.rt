@@ -39,8 +39,9 @@ fn are_word_bytes(bytes: &[u8]) -> bool
     bytes.iter().all(|byte| is_word_byte(*byte))
 }
 
-/// Whether the text is an ASCII letter, and at most 31 letters, digits or underscores.
-pub(crate) fn is_name(text: &str) -> bool
+/// Whether the text has the form of a name: an ASCII letter, then at most 31 letters, digits or
+/// underscores.
+pub fn is_name(text: &str) -> bool
     ensures { result ≡ is_name text.now }
 {
     match text.as_bytes() {

@@ -3,40 +3,12 @@
 use crate::described::describe;
 use crate::program::run_words;
 use crate::question::Question;
+use crate::tests::{DISAGREEING, ROW, STUCK};
 use csdf_graph::{Slice, ToWriter};
 use std::fs;
 use std::process::Abort;
 use std::rt::Files;
 use std::test::Fail;
-
-/// A source, a copy and a sink in a row.
-const ROW: &str = r#"actor = [
-  { name = "a", kernel = "source" },
-  { name = "b", kernel = "copy" },
-  { name = "c", kernel = "sink" },
-]
-channel = [
-  { name = "x", from = "a", to = "b", produce = [2], consume = [3] },
-  { name = "y", from = "b", to = "c", produce = [1], consume = [2] },
-]
-"#;
-
-/// Two copies in a circle with no token.
-const STUCK: &str = r#"actor = [{ name = "a", kernel = "copy" }, { name = "b", kernel = "copy" }]
-channel = [
-  { name = "x", from = "a", to = "b", produce = [1], consume = [1] },
-  { name = "y", from = "b", to = "a", produce = [1], consume = [1] },
-]
-"#;
-
-/// Two channels that ask for different numbers of firings.
-const DISAGREEING: &str =
-    r#"actor = [{ name = "a", kernel = "source" }, { name = "b", kernel = "sink" }]
-channel = [
-  { name = "x", from = "a", to = "b", produce = [1], consume = [1] },
-  { name = "y", from = "a", to = "b", produce = [2], consume = [1] },
-]
-"#;
 
 /// The answer to a question, or the line of the fault, for which nothing is written.
 fn answer_to(

@@ -4,9 +4,9 @@ ghost use Rattle.std.specs.Prelude.{◌≡◌, map, IfOk, option_map};
 ghost use Rattle.csdf_core.specs.Moves.{move_of};
 ghost use Rattle.csdf_tool.specs.Lines.{alone, move_in, asked_by, line_in, line_view};
 
-use crate::words::{actor_in, channel_in, is_name, tokens_of, words_of};
+use crate::words::{actor_in, channel_in, tokens_of, words_of};
 use csdf_core::Move;
-use csdf_graph::Graph;
+use csdf_graph::{Graph, is_name};
 use std::alloc::{AllocError, Global};
 
 /// A line of a script.

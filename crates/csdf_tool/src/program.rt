@@ -2,6 +2,7 @@
 
 ghost use Rattle.std.specs.Prelude.{◌≡◌, ◌≢◌, ◌↔◌, ◌<◌, ◌⊎◌, length, ℕ, List, [], true, Ok, Err, IfErr, IfSome, OnOk};
 ghost use Rattle.std.specs.Io.KnownBytes.{Appends};
+ghost use Rattle.clap.specs.Words.{kind_of};
 ghost use Rattle.csdf_tool.specs.Faults.{status_of};
 ghost use Rattle.csdf_tool.specs.Session.{IsAnswer};
 
@@ -82,6 +83,8 @@ fn carry_out<I: Intake, O: Outlet>(
 struct Printer<'a, O>(&'a mut O);
 
 impl<O: Outlet> fmt::Write for Printer<'_, O> {
+    ghost write_str_gives = { λ old text new. (new.0.ghost_name ≡ old.0.ghost_name) × Appends (O.written old.0.now) (O.written new.0.now) text };
+
     fn write_str(&mut self, text: &str) -> fmt::Result {
         write_bytes(self.0, text.as_bytes()).map_err(|_| fmt::Error)
     }
@@ -126,6 +129,10 @@ fn status_of_words<O: Outlet, E: Outlet>(
     ensures refused { (result ≡ 1) ⊎ (result ≡ 2) → out.new ≡ out.old }
     ensures device { result ≡ 3 → (out.new ≡ out.old) ⊎ (O.failed out.new ≡ true) }
     ensures answered { result ≡ 0 → err.new ≡ err.old }
+    ensures shown { (kind_of error.now ≡ ErrorKind.DisplayHelp) ⊎ (kind_of error.now ≡ ErrorKind.DisplayVersion) → (result ≡ 0) ⊎ (result ≡ 3) }
+    ensures memory { kind_of error.now ≡ ErrorKind.OutOfMemory → result ≡ 3 }
+    ensures usage { kind_of error.now ≢ ErrorKind.DisplayHelp → kind_of error.now ≢ ErrorKind.DisplayVersion
+        → kind_of error.now ≢ ErrorKind.OutOfMemory → result ≡ 2 }
 {
     match error.kind() {
         ErrorKind::DisplayHelp | ErrorKind::DisplayVersion => {

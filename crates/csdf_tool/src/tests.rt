@@ -27,7 +27,7 @@ capacity = 3
 "#;
 
 /// A source, a copy and a sink in a row.
-const ROW: &str = r#"actor = [
+pub(crate) const ROW: &str = r#"actor = [
   { name = "a", kernel = "source" },
   { name = "b", kernel = "copy" },
   { name = "c", kernel = "sink" },
@@ -39,7 +39,7 @@ channel = [
 "#;
 
 /// Two copies in a circle with no token.
-const STUCK: &str = r#"actor = [{ name = "a", kernel = "copy" }, { name = "b", kernel = "copy" }]
+pub(crate) const STUCK: &str = r#"actor = [{ name = "a", kernel = "copy" }, { name = "b", kernel = "copy" }]
 channel = [
   { name = "x", from = "a", to = "b", produce = [1], consume = [1] },
   { name = "y", from = "b", to = "a", produce = [1], consume = [1] },
@@ -47,7 +47,7 @@ channel = [
 "#;
 
 /// Two channels that ask for different numbers of firings.
-const DISAGREEING: &str =
+pub(crate) const DISAGREEING: &str =
     r#"actor = [{ name = "a", kernel = "source" }, { name = "b", kernel = "sink" }]
 channel = [
   { name = "x", from = "a", to = "b", produce = [1], consume = [1] },

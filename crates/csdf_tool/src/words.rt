@@ -1,8 +1,6 @@
 //! The words of a script's lines.
 
 ghost use Rattle.std.specs.Prelude.{◌≡◌, map, IfOk, option_map, unwrap_or};
-ghost use Rattle.std.specs.List.{list_all};
-ghost use Rattle.csdf_graph.specs.Names.{is_word_byte, is_name};
 ghost use Rattle.csdf_tool.specs.Lines.{words_of, tokens_of, actor_in, channel_in};
 
 use csdf_graph::{Graph, token_of};
@@ -15,30 +13,6 @@ pub(crate) fn words_of<'a>(alloc: Global, line: &'a str) -> Result<Vec<&'a str>,
     line.split(' ')
         .filter(|word| !word.is_empty())
         .collect(alloc)
-}
-
-fn is_word_byte(byte: u8) -> bool
-    ensures { result ≡ is_word_byte byte }
-{
-    byte.is_ascii_alphanumeric() || byte == b'_'
-}
-
-fn are_word_bytes(bytes: &[u8]) -> bool
-    ensures { result ≡ list_all is_word_byte bytes.now }
-{
-    bytes.iter().all(|byte| is_word_byte(*byte))
-}
-
-/// Whether the word is an ASCII letter, and at most 31 letters, digits or underscores.
-pub(crate) fn is_name(word: &str) -> bool
-    ensures { result ≡ is_name word.now }
-{
-    match word.as_bytes() {
-        [first, rest @ ..] => first.is_ascii_alphabetic()
-            && rest.len() <= 31
-            && are_word_bytes(rest),
-        [] => false,
-    }
 }
 
 /// The tokens that the words are, where each is one.

@@ -1,6 +1,6 @@
 use Rattle.std.proofs.Common.{ℕ, ◌∙◌, ap, List, map}
 use Rattle.csdf_graph.specs.Graph.{channel_view, inputs_of, outputs_of}
-use Rattle.csdf_core.specs.declared.ports.Ports.{Ports}
+use Rattle.csdf_graph.specs.declared.ports.Ports.{Ports}
 use Rattle.csdf_core.proofs.Setups.{gathered_more}
 use Rattle.csdf_core.proofs.layout.ports_of.Goals as goal
 

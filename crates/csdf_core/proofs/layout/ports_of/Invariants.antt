@@ -1,7 +1,7 @@
 use Rattle.std.proofs.Common.{◌≡◌, map}
 use Rattle.std.specs.List.{range_with_len}
 use Rattle.csdf_graph.specs.Graph.{channel_view, inputs_of, outputs_of}
-use Rattle.csdf_core.specs.declared.ports.Ports.{Ports}
+use Rattle.csdf_graph.specs.declared.ports.Ports.{Ports}
 use Rattle.csdf_core.proofs.layout.ports_of.Given as goal
 
 abbrev pub invariant-loop-actor : goal.invariant-loop-actor

@@ -1,7 +1,7 @@
 use Rattle.std.proofs.Common.{◌==◌, ◌<◌, length, map, ap, subst, sym, ◌∙◌}
 use Rattle.std.specs.Prelude.{All}
 use Rattle.csdf_graph.specs.Graph.{Channel, channel_view}
-use Rattle.csdf_analysis.specs.declared.ports.Ports.{Ports}
+use Rattle.csdf_graph.specs.declared.ports.Ports.{Ports}
 use Rattle.csdf_analysis.proofs.FitLemmas.{numbers_within}
 use Rattle.csdf_analysis.proofs.net.Net.inputs.Goals as goal
 

@@ -2,7 +2,7 @@ use Rattle.std.proofs.Common.{◌<◌, ◌≤◌, ◌==◌, length, map, subst, 
 use Rattle.std.proofs.lemmas.List.{length-map}
 use Rattle.csdf_graph.specs.Graph as graph
 use Rattle.csdf_graph.specs.Graph.{inputs_of}
-use Rattle.csdf_core.specs.declared.ports.Ports.{Ports}
+use Rattle.csdf_graph.specs.declared.ports.Ports.{Ports}
 use Rattle.std.specs.Prelude.{All}
 use Rattle.std.specs.List.{zip}
 use Rattle.csdf_core.specs.Layout.{is_source_kernel, with_capacity}

@@ -1,9 +1,9 @@
-use Rattle.std.proofs.Common.{◌≡◌, ℕ, ◌∙◌, ap, sym, subst, List, length, map}
+use Rattle.std.proofs.Common.{ℕ, ◌∙◌, ap, sym, subst, List, length, map}
 use Rattle.std.specs.Prelude.{Option}
 use Rattle.std.specs.List.{range_with_len}
 use Rattle.std.proofs.lemmas.List.{length-map}
-use Rattle.csdf_graph.specs.Graph.{Graph, channel_view, actor_view, inputs_of, outputs_of}
-use Rattle.csdf_analysis.specs.Acceptance.{Accepted, cells_of}
+use Rattle.csdf_graph.specs.Graph.{Graph, actor_view, inputs_of, outputs_of}
+use Rattle.csdf_analysis.specs.Acceptance.{Accepted}
 use Rattle.csdf_core.specs.Plan.{Plan}
 use Rattle.csdf_core.specs.Playable.{IsPlayable}
 use Rattle.csdf_core.specs.Layout.{plan_of, IsLaidOut}

@@ -3,19 +3,22 @@
 ghost use Rattle.std.specs.Prelude.{◌≡◌, ◌≤◌, length, map, IfOk};
 ghost use Rattle.csdf_graph.specs.Graph.{channel_view, inputs_of, outputs_of};
 
-use csdf_graph::Channel;
+use crate::graph::Channel;
 use std::alloc::{AllocError, Global};
 
-/// The numbers of an actor's channels, in file order.
+/// The numbers of an actor's channels, in file order. A channel from an actor to itself is among
+/// both.
 #[derive(Debug, Drop)]
-pub(crate) struct Ports {
-    pub(crate) inputs: Vec<u32>,
-    pub(crate) outputs: Vec<u32>,
+pub struct Ports {
+    /// The channels that end at it.
+    pub inputs: Vec<u32>,
+    /// The channels that begin at it.
+    pub outputs: Vec<u32>,
 }
 
 impl Ports {
-    /// The channels that end at the actor and those that begin at it.
-    pub(crate) fn of(alloc: Global, channels: &[Channel], actor: u32) -> Result<Ports, AllocError>
+    /// The channels of this actor. An error says that memory ran out.
+    pub fn of(alloc: Global, channels: &[Channel], actor: u32) -> Result<Ports, AllocError>
         requires { length channels.now ≤ 128 }
         ensures inputs { IfOk result (λ ports. ports.inputs.items ≡ inputs_of (map channel_view channels.now) actor) }
         ensures outputs { IfOk result (λ ports. ports.outputs.items ≡ outputs_of (map channel_view channels.now) actor) }
