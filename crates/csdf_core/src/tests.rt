@@ -1,12 +1,13 @@
-ghost use Rattle.std.specs.Prelude.{◌≡◌, length, IfOk};
-ghost use Rattle.csdf_analysis.specs.Acceptance.{IsAccepted};
+ghost use Rattle.std.specs.Prelude.{◌≡◌, ◌≤◌, All, length, IfOk};
 
 use super::*;
 use csdf_analysis::{Accepted, accept};
-use csdf_graph::{Graph, Kernel, read_graph};
-use std::alloc::Global;
+use csdf_graph::{Actor, Kernel, read_graph};
+use csdf_pool::Cells;
+use std::alloc::{AllocError, Global};
 use std::fmt::Write;
 use std::process::Abort;
+use std::str::SplitWhitespace;
 use std::test::Fail;
 
 /// A source that makes 2 and 1 tokens in turn, and a sink that takes 3.
@@ -31,6 +32,18 @@ channel = [
 ]
 "#;
 
+/// What the core of the chain shows when the source has fired twice and written a third time, and
+/// the stage has fired once.
+const STATE: &str = r#"actor 0: 2 fired, Written, needs 0, gives 2
+actor 1: 1 fired, Idle, needs 3, gives 1
+actor 2: 0 fired, Idle, needs 2, gives 0
+channel 0: holds 3, peak 4, open true, cells 3 5 0
+channel 1: holds 1, peak 1, open true, cells 4
+free cells 1 2
+quiet false
+actor 64: needs 0
+"#;
+
 /// An actor that hands its one token to itself.
 const LOOP: &str = r#"actor = [{ name = "a", kernel = "copy" }]
 channel = [
@@ -44,6 +57,7 @@ struct Limits {
     limit: u32,
     supply: u32,
     firings: Option<u32>,
+    ghost few: { limit ≤ 16_384_000 },
 }
 
 const AMPLE: Limits = Limits {
@@ -52,24 +66,30 @@ const AMPLE: Limits = Limits {
     firings: None,
 };
 
+/// The tokens of the words.
+fn tokens_in(alloc: Global, words: SplitWhitespace<'_>) -> Result<Vec<i32>, Fail> {
+    let mut tokens = Vec::new(alloc);
+    for word in words {
+        tokens.push(word.parse::<i32>()?)?;
+    }
+    Ok(tokens)
+}
+
 /// A move by its verb, the number of its actor or channel, and its tokens.
 fn move_in(alloc: Global, line: &str) -> Result<Move, Fail> {
     let mut words = line.split_whitespace();
     let verb = words.next().unwrap_or("");
     let number = words.next().unwrap_or("").parse::<u32>()?;
-    let mut tokens = Vec::new(alloc);
-    for word in words {
-        tokens.push(word.parse::<i32>()?)?;
-    }
     Ok(match verb {
         "begin" => Move::Begin(number),
         "read" => Move::Read(number),
-        "write" => Move::Write(number, tokens),
+        "write" => Move::Write(number, tokens_in(alloc, words)?),
         "finish" => Move::Finish(number),
         _ => Move::Close(number),
     })
 }
 
+/// The moves of the script, with slashes between them.
 fn moves_in(alloc: Global, script: &str) -> Result<Vec<Move>, Fail> {
     let mut moves = Vec::new(alloc);
     for line in script.split(" / ") {
@@ -78,86 +98,103 @@ fn moves_in(alloc: Global, script: &str) -> Result<Vec<Move>, Fail> {
     Ok(moves)
 }
 
-/// What a script came to, with the numbers of actors and channels.
-#[derive(Drop)]
-struct Run {
-    played: Played,
-    actors: usize,
-    channels: usize,
-}
-
-fn accepted(alloc: Global, graph: Graph) -> Result<Accepted, Fail>
-    ensures graph { IfOk result (λ accepted. accepted.graph ≡ graph) }
-    ensures accepted { IfOk result IsAccepted }
-{
-    match accept(alloc, graph) {
+/// The graph of the file, which is accepted.
+fn accepted_in(alloc: Global, text: &str) -> Result<Accepted, Fail> {
+    match accept(alloc, read_graph(alloc, text.as_bytes())?) {
         Ok(accepted) => Ok(accepted),
         Err((_, fault)) => Err(fault.into()),
     }
 }
 
-/// Plays the script from the start.
-fn played(
-    rt: &impl Abort,
-    alloc: Global,
-    text: &str,
-    limits: &Limits,
-    script: &str,
-) -> Result<Run, Fail>
-    ensures actors { IfOk result (λ run. run.actors ≡ length run.played.core.plan.sources) }
-    ensures channels { IfOk result (λ run. run.channels ≡ length run.played.core.plan.channels) }
-{
-    let graph = read_graph(alloc, text.as_bytes())?;
-    let actors = graph.actors().len();
-    let channels = graph.channels().len();
-    let mut supply = Vec::new(alloc);
-    for actor in graph.actors() {
-        let is_source = matches!(actor.kernel, Kernel::Source);
-        supply.push(if is_source { limits.supply } else { 0 })?;
+/// So many tokens for a source, and none for another actor.
+fn supply_of(tokens: u32, actor: &Actor) -> u32 {
+    match actor.kernel {
+        Kernel::Source => tokens,
+        _ => 0,
     }
-    assert_eq!(rt; supply.len(), actors);
-    assert!(rt; limits.limit <= 16_384_000);
-    let accepted = accepted(alloc, graph)?;
-    let setup = Setup {
-        accepted: &accepted,
-        limits: vec![in alloc; limits.limit; actors]?,
-        supply,
+}
+
+fn supplies(alloc: Global, actors: &[Actor], tokens: u32) -> Result<Vec<u32>, AllocError>
+    ensures { IfOk result (λ supply. length supply.items ≡ length actors.now) }
+{
+    actors
+        .iter()
+        .map(|actor| supply_of(tokens, actor))
+        .collect(alloc)
+}
+
+/// The graph, with these limits for each of its actors.
+fn setup_of<'a>(
+    alloc: Global,
+    accepted: &'a Accepted,
+    limits: &Limits,
+) -> Result<Setup<'a>, AllocError>
+    ensures capacities { length accepted.now.capacities ≡ length accepted.now.graph.channels }
+    ensures accepted { IfOk result (λ setup. setup.accepted.now ≡ accepted.now) }
+    ensures limits { IfOk result (λ setup. length setup.limits.items ≡ length accepted.now.graph.actors) }
+    ensures supply { IfOk result (λ setup. length setup.supply.items ≡ length accepted.now.graph.actors) }
+    ensures few { IfOk result (λ setup. All (λ n. n ≤ 16_384_000) setup.limits.items) }
+{
+    let actors = accepted.graph().actors();
+    Ok(Setup {
+        accepted,
+        limits: vec![in alloc; limits.limit; actors.len()]?,
+        supply: supplies(alloc, actors, limits.supply)?,
         firings: limits.firings,
-    };
-    let played = play(alloc, setup, &moves_in(alloc, script)?)?;
-    Ok(Run {
-        played,
-        actors,
-        channels,
     })
 }
 
-/// The replies, with the tokens that reads handed out.
+/// Plays the script from the start.
+fn played(alloc: Global, accepted: &Accepted, limits: &Limits, script: &str) -> Result<Played, Fail>
+    ensures actors { IfOk result (λ p. length p.core.plan.sources ≡ length accepted.now.graph.actors) }
+    ensures channels { IfOk result (λ p. length p.core.plan.channels ≡ length accepted.now.graph.channels) }
+{
+    let moves = moves_in(alloc, script)?;
+    let setup = setup_of(alloc, accepted, limits)?;
+    Ok(play(alloc, setup, &moves)?)
+}
+
+/// The reply, with the tokens that a read handed out.
+fn tell(text: &mut String, reply: &Reply) -> Result<(), AllocError> {
+    match reply {
+        Ok(tokens) => {
+            write!(text, "ok")?;
+            for token in tokens {
+                write!(text, " {token}")?;
+            }
+        }
+        Err(refusal) => write!(text, "{refusal:?}")?,
+    }
+    Ok(())
+}
+
+/// The replies, in order.
 fn told(alloc: Global, replies: &[Reply]) -> Result<String, Fail> {
     let mut text = String::new(alloc);
     for reply in replies {
         if !text.is_empty() {
-            text.push_str(" / ")?;
+            write!(text, " / ")?;
         }
-        match reply {
-            Ok(tokens) => {
-                text.push_str("ok")?;
-                for token in tokens {
-                    write!(text, " {token}")?;
-                }
-            }
-            Err(refusal) => write!(text, "{refusal:?}")?,
-        }
+        tell(&mut text, reply)?;
     }
     Ok(text)
 }
 
-fn cells_in(alloc: Global, cells: csdf_pool::Cells<'_>) -> Result<String, Fail> {
-    let mut text = String::new(alloc);
-    for cell in cells {
-        write!(text, " {cell}")?;
-    }
-    Ok(text)
+/// What the graph answers to the script.
+fn answers_of(
+    alloc: Global,
+    accepted: &Accepted,
+    limits: &Limits,
+    script: &str,
+) -> Result<String, Fail> {
+    let played = played(alloc, accepted, limits, script)?;
+    told(alloc, &played.replies)
+}
+
+/// What the graph of the file answers to the script.
+fn answers(alloc: Global, text: &str, limits: &Limits, script: &str) -> Result<String, Fail> {
+    let accepted = accepted_in(alloc, text)?;
+    answers_of(alloc, &accepted, limits, script)
 }
 
 /// Asserts that the script is answered by these replies.
@@ -169,10 +206,88 @@ fn expect(
     script: &str,
     replies: &str,
 ) -> Result<(), Fail> {
-    let run = played(rt, alloc, text, limits, script)?;
-    let answers = told(alloc, &run.played.replies)?;
+    let answers = answers(alloc, text, limits, script)?;
     assert_eq!(rt; answers.as_str(), replies, "to {script}");
     Ok(())
+}
+
+/// The cells, a space before each.
+fn show_cells(text: &mut String, cells: Cells<'_>) -> Result<(), AllocError> {
+    for cell in cells {
+        write!(text, " {cell}")?;
+    }
+    Ok(())
+}
+
+/// A line for each actor.
+fn show_actors(text: &mut String, core: &Core, actors: u32) -> Result<(), AllocError>
+    requires { actors ≡ length core.now.plan.sources }
+{
+    for actor in 0..actors {
+        let fired = core.fired(actor);
+        let stage = core.stage(actor);
+        let need = core.need(actor);
+        let gives = core.gives(actor);
+        write!(
+            text,
+            "actor {actor}: {fired} fired, {stage:?}, needs {need}, gives {gives}\n"
+        )?;
+    }
+    Ok(())
+}
+
+/// A line for each channel.
+fn show_channels(text: &mut String, core: &Core, channels: u32) -> Result<(), AllocError>
+    requires { channels ≡ length core.now.plan.channels }
+{
+    for channel in 0..channels {
+        let len = core.len(channel);
+        let peak = core.peak(channel);
+        let is_open = core.is_open(channel);
+        write!(
+            text,
+            "channel {channel}: holds {len}, peak {peak}, open {is_open}, cells"
+        )?;
+        show_cells(text, core.cells(channel))?;
+        write!(text, "\n")?;
+    }
+    Ok(())
+}
+
+/// All that the core shows, and what an actor that is not there needs.
+fn shown(alloc: Global, core: &Core, actors: u32, channels: u32) -> Result<String, Fail>
+    requires actors { actors ≡ length core.now.plan.sources }
+    requires channels { channels ≡ length core.now.plan.channels }
+{
+    let mut text = String::new(alloc);
+    show_actors(&mut text, core, actors)?;
+    show_channels(&mut text, core, channels)?;
+    write!(text, "free cells")?;
+    show_cells(&mut text, core.free_cells())?;
+    let is_quiet = core.is_quiet();
+    let need = core.need(64);
+    write!(text, "\nquiet {is_quiet}\nactor 64: needs {need}\n")?;
+    Ok(text)
+}
+
+/// What the core of the graph shows after the script.
+fn state_of(
+    alloc: Global,
+    accepted: &Accepted,
+    limits: &Limits,
+    script: &str,
+) -> Result<String, Fail> {
+    let graph = accepted.graph();
+    let actors = u32::try_from(graph.actors().len())?;
+    let channels = u32::try_from(graph.channels().len())?;
+    let played = played(alloc, accepted, limits, script)?;
+    shown(alloc, &played.core, actors, channels)
+}
+
+/// What the core of the file's graph shows after the script.
+fn state_after(alloc: Global, text: &str, limits: &Limits, script: &str) -> Result<String, Fail> {
+    let accepted = accepted_in(alloc, text)?;
+    state_of(alloc, &accepted, limits, script)
 }
 
 #[test]
@@ -206,7 +321,11 @@ fn keeps_to_the_limits(rt: HostRuntime) -> Result<(), Fail> {
     let replies =
         "Unknown / NotBegun / Short(0) / ok / Busy / NotRead / NotWritten / ok / WrongCount / ok / ok / Spent";
     expect(&rt, alloc, PAIR, &one_each, script, replies)?;
-    let two_tokens = Limits { supply: 2, ..AMPLE };
+    let two_tokens = Limits {
+        limit: AMPLE.limit,
+        supply: 2,
+        firings: None,
+    };
     let script = "begin 0 / read 0 / write 0 5 6 / finish 0 / begin 0";
     expect(
         &rt,
@@ -217,8 +336,9 @@ fn keeps_to_the_limits(rt: HostRuntime) -> Result<(), Fail> {
         "ok / ok / ok / ok / Dry",
     )?;
     let one_firing = Limits {
+        limit: AMPLE.limit,
+        supply: AMPLE.supply,
         firings: Some(1),
-        ..AMPLE
     };
     let script = "begin 0 / begin 1 / read 0 / write 0 5 6 / finish 0 / begin 0";
     let replies = "ok / Short(0) / ok / ok / ok / Stopped";
@@ -232,32 +352,23 @@ fn reserves_cells(rt: HostRuntime) -> Result<(), Fail> {
     let three = format!(in alloc; "cells = 3\n{CHAIN}")?;
     let script = "begin 0 / read 0 / write 0 1 2 / finish 0 / begin 0";
     let replies = "ok / ok / ok / ok / NoCells";
-    expect(&rt, alloc, three.as_str(), &AMPLE, script, replies)?;
+    expect(&rt, alloc, &three, &AMPLE, script, replies)?;
     let four = format!(in alloc; "cells = 4\n{CHAIN}")?;
     let script =
         "begin 0 / read 0 / write 0 1 2 / finish 0 / begin 0 / read 0 / write 0 3 4 / finish 0 / begin 1 / read 1 / write 1 9 / finish 1 / begin 0 / read 0 / write 0 5 6 / finish 0 / begin 1 / read 1 / write 1 8 / finish 1 / begin 2 / begin 0 / read 0 / write 0 7 7 / finish 0 / begin 0 / read 2 / begin 0";
     let replies =
         "ok / ok / ok / ok / ok / ok / ok / ok / ok / ok 1 2 3 / ok / ok / ok / ok / ok / ok / ok / ok 4 5 6 / ok / ok / ok / ok / ok / ok / ok / NoCells / ok 9 8 / ok";
-    expect(&rt, alloc, four.as_str(), &AMPLE, script, replies)?;
+    expect(&rt, alloc, &four, &AMPLE, script, replies)?;
     let one = format!(in alloc; "cells = 1\n{LOOP}")?;
-    expect(&rt, alloc, one.as_str(), &AMPLE, "begin 0", "ok")?;
+    expect(&rt, alloc, &one, &AMPLE, "begin 0", "ok")?;
     Ok(())
 }
 
 #[test]
 fn shows_its_cells(rt: HostRuntime) -> Result<(), Fail> {
-    let alloc = rt.alloc();
     let script =
         "begin 0 / read 0 / write 0 1 2 / finish 0 / begin 0 / read 0 / write 0 3 4 / finish 0 / begin 1 / read 1 / write 1 9 / finish 1 / begin 0 / read 0 / write 0 5 6";
-    let run = played(&rt, alloc, CHAIN, &AMPLE, script)?;
-    assert!(rt; run.actors == 3 && run.channels == 2);
-    let core = &run.played.core;
-    assert_eq!(rt; cells_in(alloc, core.cells(0))?.as_str(), " 3 5 0");
-    assert_eq!(rt; cells_in(alloc, core.cells(1))?.as_str(), " 4");
-    assert_eq!(rt; cells_in(alloc, core.free_cells())?.as_str(), " 1 2");
-    assert_eq!(rt; (core.fired(0), core.stage(0)), (2, Stage::Written));
-    assert_eq!(rt; (core.len(0), core.peak(0), core.is_open(1)), (3, 4, true));
-    assert_eq!(rt; (core.need(1), core.gives(1), core.need(64)), (3, 1, 0));
-    assert!(rt; !core.is_quiet());
+    let state = state_after(rt.alloc(), CHAIN, &AMPLE, script)?;
+    assert_eq!(rt; state.as_str(), STATE);
     Ok(())
 }
