@@ -39,7 +39,8 @@ channel = [
 "#;
 
 /// Two copies in a circle with no token.
-pub(crate) const STUCK: &str = r#"actor = [{ name = "a", kernel = "copy" }, { name = "b", kernel = "copy" }]
+pub(crate) const STUCK: &str =
+    r#"actor = [{ name = "a", kernel = "copy" }, { name = "b", kernel = "copy" }]
 channel = [
   { name = "x", from = "a", to = "b", produce = [1], consume = [1] },
   { name = "y", from = "b", to = "a", produce = [1], consume = [1] },
