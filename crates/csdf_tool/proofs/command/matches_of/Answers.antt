@@ -1,0 +1,18 @@
+use Rattle.std.proofs.Common.{◌≡◌, true, map, ap, subst, refl, ◌∙◌, string_bytes}
+use Rattle.std.proofs.lemmas.Result.{IfErr-weaker}
+use Rattle.clap.specs.Words.{App, fault_of, is_simple_and_free, takes, FailsBy}
+use Rattle.clap.proofs.OnLiterals.{clap_on_literals}
+use Rattle.csdf_tool.specs.CommandLine.{program}
+use Rattle.csdf_tool.proofs.command.matches_of.Goals as goal
+
+is_free : is_simple_and_free program ≡ true
+unfolding clap_on_literals
+is_free = refl
+
+pub returns-clause-taken : goal.returns-clause-taken
+returns-clause-taken c = λ taken.
+    IfErr-weaker c.try_get_matches_from.result _ _ (λ e h. h (ap (λ (a : App). takes a (map string_bytes c.args.words.now)) c.in_ok-program.ensures ∙ taken)) c.try_get_matches_from.ensures.passes
+
+pub returns-clause-kinds : goal.returns-clause-kinds
+returns-clause-kinds c =
+    subst (λ (a : App). FailsBy (fault_of a (map string_bytes c.args.words.now)) c.try_get_matches_from.result) c.in_ok-program.ensures (c.try_get_matches_from.ensures.kinds (ap is_simple_and_free c.in_ok-program.ensures ∙ is_free))
