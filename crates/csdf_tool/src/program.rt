@@ -3,7 +3,9 @@
 ghost use Rattle.std.specs.Prelude.{◌≡◌, ◌≢◌, ◌↔◌, ◌<◌, ◌⊎◌, length, map, string_bytes, ℕ, List, [], true, Ok, Err, IfErr, IfSome, OnOk};
 ghost use Rattle.std.specs.Io.KnownBytes.{Appends};
 ghost use Rattle.clap.specs.Words.{kind_of, takes};
-ghost use Rattle.csdf_tool.specs.CommandLine.{program};
+ghost use Rattle.csdf_tool.specs.CommandLine.{program, asked_view, words_ask, Moves, Ask};
+ghost use Rattle.csdf_tool.specs.Described.{IsDescription};
+ghost use Rattle.csdf_tool.specs.declared.question.Question.{Question};
 ghost use Rattle.csdf_tool.specs.Faults.{status_of};
 ghost use Rattle.csdf_tool.specs.Session.{IsAnswer};
 
@@ -66,6 +68,10 @@ fn carry_out<I: Intake, O: Outlet>(
     ensures failed { result ≡ Err (ToolFault.Device Stream.Output) → O.failed out.new ≡ true }
     ensures played { request.entry ≡ Request.Input → OnOk result (IfSome (I.left reader.old)
         (λ bytes. (text : List ℕ) × IsAnswer bytes (Ok text) × Appends (O.written out.old) (O.written out.new) text)) }
+    ensures moves { (path : List ℕ) → asked_view request.entry ≡ Moves path → OnOk result ((bytes text : List ℕ) × IsAnswer bytes (Ok text)
+        × Appends (O.written out.old) (O.written out.new) text) }
+    ensures told { (question : Question) (path : List ℕ) → asked_view request.entry ≡ Ask question path → OnOk result ((bytes text : List ℕ)
+        × IsDescription question bytes (Ok text) × Appends (O.written out.old) (O.written out.new) text) }
     ensures long { request.entry ≡ Request.Input → result ≡ Err ToolFault.TooLong
         → IfSome (I.left reader.old) (λ bytes. 16777216 < length bytes) }
     ensures refused { request.entry ≡ Request.Input → IfErr result (λ fault. status_of fault ≡ 1 → fault ≢ ToolFault.TooLong
@@ -164,6 +170,10 @@ pub fn run_words<I: Intake, O: Outlet, E: Outlet>(
     ensures device { result ≡ 3 → (out.new ≡ out.old) ⊎ (O.failed out.new ≡ true) }
     ensures answered { result ≡ 0 → err.new ≡ err.old }
     ensures taken { takes program (map string_bytes words.now) ≡ true → result ≢ 2 }
+    ensures moves { (path : List ℕ) → takes program (map string_bytes words.now) ≡ true → words_ask (map string_bytes words.now) ≡ Moves path → result ≡ 0
+        → (bytes text : List ℕ) × IsAnswer bytes (Ok text) × Appends (O.written out.old) (O.written out.new) text }
+    ensures told { (question : Question) (path : List ℕ) → takes program (map string_bytes words.now) ≡ true → words_ask (map string_bytes words.now) ≡ Ask question path → result ≡ 0
+        → (bytes text : List ℕ) × IsDescription question bytes (Ok text) × Appends (O.written out.old) (O.written out.new) text }
     ensures played { words.now ≡ [] → result ≡ 0 → IfSome (I.left reader.old)
         (λ bytes. (text : List ℕ) × IsAnswer bytes (Ok text) × Appends (O.written out.old) (O.written out.new) text) }
     ensures faulty { words.now ≡ [] → result ≡ 1 → IfSome (I.left reader.old)
