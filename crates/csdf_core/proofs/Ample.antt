@@ -6,10 +6,10 @@ use Rattle.std.proofs.lemmas.List.Sums.{sum_by-cons}
 use Rattle.std.proofs.lemmas.Bool.{ltb-true}
 use Rattle.std.proofs.lemmas.Bool.Decides.{eqb_tells}
 use Rattle.csdf_graph.specs.Rates.{rate}
-use Rattle.csdf_core.specs.declared.setup.Stage.{Stage}
-use Rattle.csdf_core.specs.declared.setup.Stage.TheVariants.{Idle, Begun, Fetched, Written}
-use Rattle.csdf_core.specs.declared.setup.Refusal.{Refusal}
-use Rattle.csdf_core.specs.declared.setup.Refusal.TheVariants.{Busy, Spent, Closed, Dry, Short, Full, Stopped, NoCells}
+use Rattle.csdf_core.specs.declared.stage.Stage.{Stage}
+use Rattle.csdf_core.specs.declared.stage.Stage.TheVariants.{Idle, Begun, Fetched, Written}
+use Rattle.csdf_core.specs.declared.refusal.Refusal.{Refusal}
+use Rattle.csdf_core.specs.declared.refusal.Refusal.TheVariants.{Busy, Spent, Closed, Dry, Short, Full, Stopped, NoCells}
 use Rattle.csdf_core.specs.Plan.{Channel, Plan, takes_of, gives_of, HasAmpleCells}
 use Rattle.csdf_core.specs.Rows.{is_closed, is_short, is_full, first, need, gift}
 use Rattle.csdf_core.specs.State.{Present}

@@ -4,9 +4,9 @@ use Rattle.std.specs.Prelude.{ℤ, sum, sum_by, count_by, not, ◌==◌, slice_i
 use Rattle.std.proofs.lemmas.List.{length-map, length-replicate}
 use Rattle.std.proofs.lemmas.List.Sums.{sum_by-cons}
 use Rattle.csdf_graph.specs.Rates.{total}
-use Rattle.csdf_pool.specs.Pool.{Shared, IsPartition, held_tokens}
-use Rattle.csdf_core.specs.declared.setup.Stage.{Stage}
-use Rattle.csdf_core.specs.declared.setup.Stage.TheVariants.{Idle}
+use Rattle.csdf_pool.specs.Pool.{Shared, held_tokens}
+use Rattle.csdf_core.specs.declared.stage.Stage.{Stage}
+use Rattle.csdf_core.specs.declared.stage.Stage.TheVariants.{Idle}
 use Rattle.std.specs.List.{AllByRecursion}
 use Rattle.csdf_core.specs.Plan.{Channel, Plan}
 use Rattle.csdf_core.specs.Playable.{IsPlayable}
@@ -14,7 +14,7 @@ use Rattle.csdf_core.specs.State.{Stream, State, Present, present, opening, wait
 use Rattle.csdf_core.specs.Step.{count, stage, given, is_stage}
 use Rattle.csdf_core.specs.Ports.{tokens_in}
 use Rattle.csdf_core.specs.Ready.{IsFit}
-use Rattle.csdf_core.specs.Shows.{Shows, ArePeaks}
+use Rattle.csdf_core.specs.Shows.{Shows, ArePeaks, AreSharedOut}
 use Rattle.csdf_core.specs.Sound.{IsSound}
 use Rattle.csdf_core.proofs.Presents.{present_same}
 use Rattle.csdf_core.proofs.Opening.{alike, waiting-opening, fit_opening, reached_opening, none_reserved}
@@ -47,7 +47,7 @@ none_busy zero = refl
 none_busy (suc n) = none_busy n
 
 module _ (plan : Plan) (pool : Shared) (counts sums peaks : List ℕ) (stages : List Stage) (opens : List Bool) (playable : IsPlayable plan) (counts_are : counts ≡ replicate (length plan.sources) 0) (stages_are : stages ≡ replicate (length plan.sources) Idle)
-    (opens_are : opens ≡ replicate (length plan.channels) true) (tokens_are : tokens_in pool ≡ map (λ (c : Channel). c.initial) plan.channels) (partition : IsPartition pool) where
+    (opens_are : opens ≡ replicate (length plan.channels) true) (tokens_are : tokens_in pool ≡ map (λ (c : Channel). c.initial) plan.channels) (cells : AreSharedOut plan pool) where
   abbrev pub here : Present
   here = record { counts = counts; stages = stages; opens = opens; tokens = tokens_in pool }
 
@@ -60,8 +60,8 @@ module _ (plan : Plan) (pool : Shared) (counts sums peaks : List ℕ) (stages : 
   idle : (a : ℕ) → stage here a ≡ Idle
   idle a = ap (λ l. get_or l a Idle) stages_are ∙ alike (length plan.sources) a Idle
 
-  pub sound_opening : sums ≡ replicate (length plan.sources) 0 → peaks ≡ map length (tokens_in pool) → pool.size ≡ plan.cells → IsSound plan here peaks sums 0 0 pool
-  sound_opening sums_are peaks_are size =
+  pub sound_opening : sums ≡ replicate (length plan.sources) 0 → peaks ≡ map length (tokens_in pool) → IsSound plan here peaks sums 0 0 pool
+  sound_opening sums_are peaks_are =
       let tokens : length (tokens_in pool) ≡ length plan.channels = ap length tokens_are ∙ length-map plan.channels (λ (c : Channel). c.initial) in
       let none : (a : ℕ) → slice_index sums a ≡ 0 = λ a. ap (λ l. get_or l a 0) sums_are ∙ alike (length plan.sources) a 0 in
       record {
@@ -70,8 +70,7 @@ module _ (plan : Plan) (pool : Shared) (counts sums peaks : List ℕ) (stages : 
         peaked = ap length peaks_are ∙ length-map (tokens_in pool) length ∙ tokens;
         high = subst (λ l. ArePeaks l (tokens_in pool)) (sym peaks_are) (high_same (tokens_in pool));
         chained = sym (length-map pool.chains held_tokens) ∙ tokens;
-        sized = size;
-        partition = partition;
+        cells = cells;
         within = λ a. (let e = none_counted a in omega arith);
         tallied = ap length sums_are ∙ length-replicate (length plan.sources) 0;
         summed = λ a lt. none a ∙ sym (given-zero plan a) ∙ ap (given plan a) (sym (none_counted a));
@@ -81,7 +80,7 @@ module _ (plan : Plan) (pool : Shared) (counts sums peaks : List ℕ) (stages : 
       }
 
   pub shows_opening : Shows (record { plan = plan; now = here; peaks = peaks; pool = pool }) (opening plan)
-  shows_opening = record { same = is_opening; lawful = (reached_opening plan playable).lawful; chains = refl; partition = partition }
+  shows_opening = record { same = is_opening; lawful = (reached_opening plan playable).lawful; chains = refl; cells = cells }
 
 -- all that waits as written, and nothing taken
 as_written : List ℤ → Stream
@@ -98,7 +97,7 @@ none_taken [] = tt
 none_taken (t ∷ ts) = ((let h : 0 ≤ length t = omega arith in h), none_taken ts)
 
 -- a core whose cells are shared out shows some state
-pub shows_some : (plan : Plan) (p : Present) (peaks : List ℕ) (pool : Shared) → tokens_in pool ≡ p.tokens → IsPartition pool → (s : State) × Shows (record { plan = plan; now = p; peaks = peaks; pool = pool }) s
-shows_some plan p peaks pool chains partition =
+pub shows_some : (plan : Plan) (p : Present) (peaks : List ℕ) (pool : Shared) → tokens_in pool ≡ p.tokens → AreSharedOut plan pool → (s : State) × Shows (record { plan = plan; now = p; peaks = peaks; pool = pool }) s
+shows_some plan p peaks pool chains cells =
     let s : State = record { counts = p.counts; stages = p.stages; opens = p.opens; streams = map as_written p.tokens } in
-    (s, record { same = present_same p (present s) refl refl refl (sym (all_wait p.tokens)); lawful = none_taken p.tokens; chains = chains; partition = partition })
+    (s, record { same = present_same p (present s) refl refl refl (sym (all_wait p.tokens)); lawful = none_taken p.tokens; chains = chains; cells = cells })

@@ -3,8 +3,8 @@ use Rattle.std.proofs.Common.{◌≡◌, ◌≢◌, ℕ, zero, suc, ◌<◌, Lis
 use Rattle.std.specs.Prelude.{◌==◌, ◌&&◌, not, slice_index}
 use Rattle.std.specs.List.{zip, AllByRecursion}
 use Rattle.std.proofs.lemmas.Bool.{eq-eqb}
-use Rattle.csdf_core.specs.declared.setup.Stage.{Stage}
-use Rattle.csdf_core.specs.declared.setup.Stage.TheVariants.{Idle, Begun, Fetched}
+use Rattle.csdf_core.specs.declared.stage.Stage.{Stage}
+use Rattle.csdf_core.specs.declared.stage.Stage.TheVariants.{Idle, Begun, Fetched}
 use Rattle.csdf_core.specs.Plan.{Channel}
 use Rattle.csdf_core.specs.Rows.{is_closed}
 use Rattle.csdf_core.proofs.Kept.{stage_set}

@@ -1,7 +1,7 @@
 -- The step, computed on worked examples.
 use Rattle.std.proofs.Common.{◌≡◌, List, [], ◌∷◌, true, false, Some, None, refl}
 use Rattle.std.specs.Prelude.{pos, Ok, Err}
-use Rattle.csdf_core.specs.declared.setup.Refusal.TheVariants.{Unknown, Busy, Closed, Full, Stopped, Short, NoCells}
+use Rattle.csdf_core.specs.declared.refusal.Refusal.TheVariants.{Unknown, Busy, Closed, Full, Stopped, Short, NoCells}
 use Rattle.csdf_core.specs.Moves.{Move}
 use Rattle.csdf_core.specs.Moves.{Begin, Read, Write, Finish, Close}
 use Rattle.csdf_core.specs.Plan.{Plan}

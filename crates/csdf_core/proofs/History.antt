@@ -3,7 +3,7 @@ use Rattle.std.proofs.Common.{◌≡◌, ℕ, ◌+◌, zero, suc, List, [], ◌�
 use Rattle.std.specs.Prelude.{ℤ, Ok, Err}
 use Rattle.std.proofs.Math.Seq.{take-add}
 use Rattle.std.proofs.lemmas.List.{take_at, drop_at, take-append-le, take-append-drop, length-take-le, length-map}
-use Rattle.csdf_core.specs.declared.setup.Refusal.{Refusal}
+use Rattle.csdf_core.specs.declared.refusal.Refusal.{Refusal}
 use Rattle.csdf_core.specs.Moves.{Move}
 use Rattle.csdf_core.specs.Moves.{Begin, Read, Write, Finish, Close}
 use Rattle.csdf_core.specs.Plan.{Channel, Plan, takes_of, gives_of}
@@ -162,12 +162,23 @@ none_gone c [] = refl
 none_gone zero (d ∷ cs) = refl
 none_gone (suc c) (d ∷ cs) = none_gone c cs
 
+-- what all moves from the opening state took from channel c, and what was ever written to it, in the words of the streams
+pub record AreTold (plan : Plan) (c : ℕ) (ms : List Move) : Type 0 where
+  pub gone : gone_at c (state_after plan (opening plan) ms) ≡ tokens_taken plan c ms (replies_of plan (opening plan) ms)
+  pub written : written_at c (state_after plan (opening plan) ms) ≡ initial plan c ++ written_to plan c ms (replies_of plan (opening plan) ms)
+
+pub streams_told : (plan : Plan) (c : ℕ) (ms : List Move) → IsPlayable plan → AreTold plan c ms
+streams_told plan c ms h =
+    let g = grown plan (opening plan) c ms (reached_opening plan h) in
+    let rs : List Reply = replies_of plan (opening plan) ms in
+    record {
+      gone = g.gone ∙ ap (λ (x : List ℤ). x ++ tokens_taken plan c ms rs) (none_gone c plan.channels);
+      written = g.written ∙ ap (λ (x : List ℤ). x ++ written_to plan c ms rs) (ap (part c) (at_start plan.channels));
+    }
+
 -- the tokens taken from a channel are a prefix of its initial tokens followed by those written to it
 pub taken_prefix : (plan : Plan) (c : ℕ) (ms : List Move) → IsPlayable plan → IsPrefix (tokens_taken plan c ms (replies_of plan (opening plan) ms)) (initial plan c ++ written_to plan c ms (replies_of plan (opening plan) ms))
 taken_prefix plan c ms h =
-    let g = grown plan (opening plan) c ms (reached_opening plan h) in
-    let s : State = state_after plan (opening plan) ms in
-    let p = gone_prefix c s.streams in
-    let tokens : gone_at c s ≡ tokens_taken plan c ms (replies_of plan (opening plan) ms) = g.gone ∙ ap (λ (x : List ℤ). x ++ tokens_taken plan c ms (replies_of plan (opening plan) ms)) (none_gone c plan.channels) in
-    let all : written_at c s ≡ initial plan c ++ written_to plan c ms (replies_of plan (opening plan) ms) = g.written ∙ ap (λ (x : List ℤ). x ++ written_to plan c ms (replies_of plan (opening plan) ms)) (ap (part c) (at_start plan.channels)) in
-    (p.0, sym all ∙ p.1 ∙ ap (λ (x : List ℤ). x ++ p.0) tokens)
+    let told = streams_told plan c ms h in
+    let p = gone_prefix c (state_after plan (opening plan) ms).streams in
+    (p.0, sym told.written ∙ p.1 ∙ ap (λ (x : List ℤ). x ++ p.0) told.gone)

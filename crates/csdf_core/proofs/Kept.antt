@@ -6,15 +6,15 @@ use Rattle.std.proofs.lemmas.List.{get_or-set_other, get_or-set_same}
 use Rattle.std.proofs.lemmas.Bool.{ltb-true, eqb-true}
 use Rattle.std.proofs.lemmas.Bool.Decides.{eqb_tells, nat_tests}
 use Rattle.csdf_core.specs.Plan.{Plan}
-use Rattle.csdf_core.specs.declared.setup.Stage.{Stage}
-use Rattle.csdf_core.specs.declared.setup.Stage.TheVariants.{Idle, Begun, Fetched, Written}
+use Rattle.csdf_core.specs.declared.stage.Stage.{Stage}
+use Rattle.csdf_core.specs.declared.stage.Stage.TheVariants.{Idle, Begun, Fetched, Written}
 use Rattle.csdf_core.specs.Moves.{Begin, Read, Finish, Close}
-use Rattle.csdf_core.specs.declared.setup.Refusal.{Refusal}
-use Rattle.csdf_core.specs.declared.setup.Refusal.TheVariants.{Unknown, Busy, Spent, Closed, Short, Full, NoCells, NotBegun, NotRead, NotWritten, WrongCount}
+use Rattle.csdf_core.specs.declared.refusal.Refusal.{Refusal}
+use Rattle.csdf_core.specs.declared.refusal.Refusal.TheVariants.{Unknown, Busy, Spent, Closed, Dry, Short, Full, Stopped, NoCells, NotBegun, NotRead, NotWritten, WrongCount}
 use Rattle.csdf_core.specs.Plan.{Channel}
-use Rattle.csdf_core.specs.Rows.{Row, is_closed, is_short, is_full, gift}
+use Rattle.csdf_core.specs.Rows.{Row, first, is_closed, is_short, is_full, gift}
 use Rattle.csdf_core.specs.State.{Present}
-use Rattle.csdf_core.specs.Step.{count, stage, is_stage, is_open, producer, lacks_cells, refusal, first_of, when, begin_table, read_table, write_table, finish_table, close_table}
+use Rattle.csdf_core.specs.Step.{count, stage, is_stage, is_open, producer, is_spent, is_dry, is_stopped, lacks_cells, refusal, first_of, when, begin_table, read_table, write_table, finish_table, close_table}
 use Rattle.csdf_core.proofs.Totals.{gift-given}
 
 -- a table that refuses nothing
@@ -67,10 +67,15 @@ is_stage_true Written Fetched e = absurd (cc)
 pub record Begins (plan : Plan) (p : Present) (a : ℕ) : Type 0 where
   pub there : a < length plan.sources
   pub idle : stage p a ≡ Idle
+  pub not_spent : is_spent plan p a ≡ false
   pub below : count p a < slice_index plan.limits a
   pub opens : AllByRecursion (λ (row : Channel × Bool). is_closed a row ≡ false) (zip plan.channels p.opens)
   pub enough : AllByRecursion (λ (row : Row). is_short a (count p a) row ≡ false) (zip plan.channels p.tokens)
   pub room : AllByRecursion (λ (row : Row). is_full a (count p a) row ≡ false) (zip plan.channels p.tokens)
+  pub not_short : first (is_short a (count p a)) plan.channels p.tokens ≡ None
+  pub not_full : first (is_full a (count p a)) plan.channels p.tokens ≡ None
+  pub not_dry : is_dry plan p a ≡ false
+  pub not_stopped : is_stopped plan p ≡ false
   pub cells : lacks_cells plan p a ≡ false
 
 pub begins : (plan : Plan) (p : Present) (a : ℕ) → refusal plan p (Begin a) ≡ None → Begins plan p a
@@ -79,10 +84,15 @@ begins plan p a e =
     record {
       there = ltb-true _ _ (not_false _ (when_none _ Unknown rows.0));
       idle = is_stage_true _ _ (not_false _ (when_none _ Busy rows.1.0));
+      not_spent = when_none _ Spent rows.1.1.0;
       below = let h = when_none _ Spent rows.1.1.0 in grind (arith, nat_tests);
       opens = position_none _ 0 _ (map_none Closed _ rows.1.1.1.0);
       enough = position_none _ 0 _ (map_none Short _ rows.1.1.1.1.1.0);
       room = position_none _ 0 _ (map_none Full _ rows.1.1.1.1.1.1.0);
+      not_short = map_none Short _ rows.1.1.1.1.1.0;
+      not_full = map_none Full _ rows.1.1.1.1.1.1.0;
+      not_dry = when_none _ Dry rows.1.1.1.1.0;
+      not_stopped = when_none _ Stopped rows.1.1.1.1.1.1.1.0;
       cells = when_none _ NoCells rows.1.1.1.1.1.1.1.1.0;
     }
 

@@ -1,7 +1,7 @@
 pub mod Presents
 pub mod Totals
 pub mod Flows
-pub mod Told
+pub mod Answered
 pub mod Kept
 pub mod Ready
 pub mod Next
@@ -26,3 +26,13 @@ pub mod Beginnings
 pub mod Headline
 pub mod Ample
 pub mod Examples
+pub mod FiringCounts
+pub mod Tallies
+pub mod TalliedMoves
+pub mod Able
+pub mod Booked
+pub mod Accepting
+pub mod Periodic
+pub mod Ever
+pub mod EverCores
+pub mod EverExamples

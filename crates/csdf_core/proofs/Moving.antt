@@ -13,7 +13,7 @@ use Rattle.csdf_core.specs.Shows.{ArePeaks, raised}
 use Rattle.csdf_core.specs.Ports.{inputs_at, outputs_at, take_at, give_at, takes_over, taken_over, EnoughOver, puts_over, raise_over}
 use Rattle.csdf_core.proofs.Kept.{reads, writes}
 use Rattle.csdf_core.proofs.Ready.{are_there}
-use Rattle.csdf_core.proofs.Told.{told_taken}
+use Rattle.csdf_core.proofs.Answered.{answered_taken}
 use Rattle.csdf_core.proofs.RoomLemmas.{begun_within, reserved_written, room_to_write}
 use Rattle.csdf_core.proofs.PortLemmas.{takes_all, taken_all, enough_all, puts_all, raise_all, rates_by_number}
 
@@ -28,11 +28,11 @@ left_here plan p a k ts fit is made =
     made ∙ ap (λ n. takes_over (take_at plan.channels n) (inputs_at plan.channels a) p.tokens) is
     ∙ takes_all (λ c. c.to == a) (λ c. rate c.consume (count p a)) (take_at plan.channels (count p a)) 0 [] plan.channels p.tokens refl fit.queued (rates_by_number (λ c. c.to == a) (λ c. rate c.consume (count p a)) plan.channels)
 
-pub told_here : (plan : Plan) (p : Present) (a k n : ℕ) (into old : List ℤ) → IsFit plan p → refusal plan p (Read a) ≡ None → k ≡ count p a → n ≡ need a k plan.channels → into ≡ taken_over (take_at plan.channels k) (inputs_at plan.channels a) p.tokens ++ drop n old
+pub answered_here : (plan : Plan) (p : Present) (a k n : ℕ) (into old : List ℤ) → IsFit plan p → refusal plan p (Read a) ≡ None → k ≡ count p a → n ≡ need a k plan.channels → into ≡ taken_over (take_at plan.channels k) (inputs_at plan.channels a) p.tokens ++ drop n old
     → take n into ≡ taken a (count p a) plan.channels p.tokens
-told_here plan p a k n into old fit none is all made =
+answered_here plan p a k n into old fit none is all made =
     let there : AreThere a (count p a) plan.channels p.tokens = are_there p a plan.channels p.tokens (reads plan p a none).at fit.ready in
-    told_taken a (count p a) n plan.channels p.tokens into old fit.queued there (all ∙ ap (λ m. need a m plan.channels) is)
+    answered_taken a (count p a) n plan.channels p.tokens into old fit.queued there (all ∙ ap (λ m. need a m plan.channels) is)
     (made ∙ ap (λ m. taken_over (take_at plan.channels m) (inputs_at plan.channels a) p.tokens ++ drop n old) is
     ∙ ap (λ ts. ts ++ drop n old) (taken_all (λ c. c.to == a) (λ c. rate c.consume (count p a)) (take_at plan.channels (count p a)) 0 [] plan.channels p.tokens refl fit.queued (rates_by_number (λ c. c.to == a) (λ c. rate c.consume (count p a)) plan.channels)))
 

@@ -1,7 +1,7 @@
 -- What is present after each accepted move.
 use Rattle.std.proofs.Common.{◌≡◌, ℕ, suc, List, set, map, refl, None, false}
 use Rattle.std.specs.Prelude.{ℤ}
-use Rattle.csdf_core.specs.declared.setup.Stage.TheVariants.{Idle, Begun, Fetched, Written}
+use Rattle.csdf_core.specs.declared.stage.Stage.TheVariants.{Idle, Begun, Fetched, Written}
 use Rattle.csdf_core.specs.Moves.{Move}
 use Rattle.csdf_core.specs.Moves.{Begin, Read, Write, Finish, Close}
 use Rattle.csdf_core.specs.Plan.{Plan}

@@ -4,7 +4,7 @@ use Rattle.std.specs.Prelude.{ℤ, sum_by}
 use Rattle.std.specs.List.{zip, range_with_len, AllByRecursion}
 use Rattle.std.proofs.lemmas.List.{length-map, length-replicate}
 use Rattle.std.proofs.lemmas.List.Sums.{sum_by-cons}
-use Rattle.csdf_core.specs.declared.setup.Stage.TheVariants.{Idle, Begun, Fetched}
+use Rattle.csdf_core.specs.declared.stage.Stage.TheVariants.{Idle, Begun, Fetched}
 use Rattle.csdf_core.specs.Plan.{Channel, Plan}
 use Rattle.csdf_core.specs.Rows.{Row, need, gift}
 use Rattle.csdf_core.specs.State.{Stream, Present, opening, waiting, present}

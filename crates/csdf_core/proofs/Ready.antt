@@ -6,8 +6,8 @@ use Rattle.std.proofs.lemmas.List.{get_or-set_other, length-drop, length-append,
 use Rattle.std.proofs.lemmas.Bool.{ltb-false, eq-eqb}
 use Rattle.std.proofs.lemmas.Bool.Decides.{eqb_tells}
 use Rattle.csdf_core.specs.Plan.{Channel}
-use Rattle.csdf_core.specs.declared.setup.Stage.{Stage}
-use Rattle.csdf_core.specs.declared.setup.Stage.TheVariants.{Idle, Begun, Fetched, Written}
+use Rattle.csdf_core.specs.declared.stage.Stage.{Stage}
+use Rattle.csdf_core.specs.declared.stage.Stage.TheVariants.{Idle, Begun, Fetched, Written}
 use Rattle.csdf_core.specs.Plan.{takes_of, gives_of}
 use Rattle.csdf_graph.specs.Rates.{rate}
 use Rattle.csdf_core.specs.Rows.{Row, is_short, is_full, left, joined, shares, AreThere, HaveRoom}

@@ -21,7 +21,7 @@ raised_over-push plan s peaks [] m = refl
 raised_over-push plan s peaks (n ∷ ms) m = raised_over-push plan (after plan s n) (raised peaks (present (after plan s n)).tokens) ms m
 
 passes_more : (old mid new : View) (ms : List Move) (rs : List Reply) (m : Move) (r : Reply) → PassesThrough old mid ms rs → Follows mid new m r → PassesThrough old new (ms ++ m ∷ []) (rs ++ r ∷ [])
-passes_more old mid new [] [] m r same f = (new, subst (λ (v : View). Follows v new m r) same f, f.partition, refl)
+passes_more old mid new [] [] m r same f = (new, subst (λ (v : View). Follows v new m r) same f, f.cells, refl)
 passes_more old mid new [] (q ∷ rs) m r p f = absurd p
 passes_more old mid new (n ∷ ms) [] m r p f = absurd p
 passes_more old mid new (n ∷ ms) (q ∷ rs) m r p f = (p.0, p.1, p.2, passes_more p.0 mid new ms rs m r p.3 f)

@@ -4,15 +4,15 @@ use Rattle.std.specs.Prelude.{ℤ, slice_index, sum, sum_by, count_by, not, All}
 use Rattle.std.proofs.lemmas.List.{get_or-set_other, get_or-set_same, get_or_default, length-set, length-drop}
 use Rattle.std.proofs.lemmas.List.Sums.{sum_by-cons, sum_by-le}
 use Rattle.std.proofs.lemmas.Bool.Decides.{eqb_tells}
-use Rattle.csdf_pool.specs.Pool.{Shared, IsPartition}
-use Rattle.csdf_core.specs.declared.setup.Stage.{Stage}
-use Rattle.csdf_core.specs.declared.setup.Stage.TheVariants.{Idle, Begun, Fetched, Written}
+use Rattle.csdf_pool.specs.Pool.{Shared}
+use Rattle.csdf_core.specs.declared.stage.Stage.{Stage}
+use Rattle.csdf_core.specs.declared.stage.Stage.TheVariants.{Idle, Begun, Fetched, Written}
 use Rattle.csdf_core.specs.Moves.{Begin, Read, Finish, Close}
 use Rattle.csdf_core.specs.Plan.{Channel, Plan, takes_of}
 use Rattle.csdf_core.specs.Rows.{left, need, gift}
 use Rattle.csdf_core.specs.State.{Present}
 use Rattle.csdf_core.specs.Step.{count, stage, is_stage, given, refusal, first_of, write_table}
-use Rattle.csdf_core.specs.Shows.{ArePeaks, raised}
+use Rattle.csdf_core.specs.Shows.{ArePeaks, raised, AreSharedOut}
 use Rattle.csdf_core.specs.Sound.{IsSound}
 use Rattle.csdf_core.proofs.Kept.{begins, reads, writes, finishes}
 use Rattle.csdf_core.proofs.Totals.{given-suc}
@@ -58,8 +58,7 @@ module _ (plan : Plan) (p : Present) (peaks sums : List ℕ) (started kept : ℕ
         peaked = s.peaked;
         high = s.high;
         chained = s.chained;
-        sized = s.sized;
-        partition = s.partition;
+        cells = s.cells;
         within = s.within;
         tallied = s.tallied;
         summed = s.summed;
@@ -70,8 +69,8 @@ module _ (plan : Plan) (p : Present) (peaks sums : List ℕ) (started kept : ℕ
 
   pub sound_fetched : (a kept' : ℕ) (pool' : Shared) → IsSound plan p peaks sums started kept pool → refusal plan p (Read a) ≡ None
       → kept' + (gift a (count p a) plan.channels - need a (count p a) plan.channels) ≡ kept + gift a (count p a) plan.channels
-      → length pool'.chains ≡ length pool.chains → pool'.size ≡ pool.size → IsPartition pool' → IsSound plan (fetched plan p a) peaks sums started kept' pool'
-  sound_fetched a kept' pool' s none more chains size partition =
+      → length pool'.chains ≡ length pool.chains → AreSharedOut plan pool' → IsSound plan (fetched plan p a) peaks sums started kept' pool'
+  sound_fetched a kept' pool' s none more chains cells =
       let w = reads plan p a none in
       let lt : a < length p.stages = let there = w.there in let staged = s.fit.staged in omega arith in
       let busy = busy_set p a Fetched Begun lt w.at in
@@ -82,8 +81,7 @@ module _ (plan : Plan) (p : Present) (peaks sums : List ℕ) (started kept : ℕ
         peaked = s.peaked;
         high = high_left a (count p a) plan.channels peaks p.tokens s.fit.queued s.high;
         chained = chains ∙ s.chained;
-        sized = size ∙ s.sized;
-        partition = partition;
+        cells = cells;
         within = s.within;
         tallied = s.tallied;
         summed = s.summed;
@@ -94,8 +92,8 @@ module _ (plan : Plan) (p : Present) (peaks sums : List ℕ) (started kept : ℕ
 
   pub sound_written : (a kept' : ℕ) (v : List ℤ) (peaks' : List ℕ) (pool' : Shared) → IsSound plan p peaks sums started kept pool → first_of (write_table plan p a v) ≡ None
       → kept' + gift a (count p a) plan.channels ≡ kept → peaks' ≡ raised peaks (written plan p a v).tokens
-      → length pool'.chains ≡ length pool.chains → pool'.size ≡ pool.size → IsPartition pool' → IsSound plan (written plan p a v) peaks' sums started kept' pool'
-  sound_written a kept' v peaks' pool' s none more raise chains size partition =
+      → length pool'.chains ≡ length pool.chains → AreSharedOut plan pool' → IsSound plan (written plan p a v) peaks' sums started kept' pool'
+  sound_written a kept' v peaks' pool' s none more raise chains cells =
       let w = (writes plan p a v none).0 in
       let lt : a < length p.stages = let there = w.there in let staged = s.fit.staged in omega arith in
       let busy = busy_set p a Written Fetched lt w.at in
@@ -107,8 +105,7 @@ module _ (plan : Plan) (p : Present) (peaks sums : List ℕ) (started kept : ℕ
         peaked = ap length raise ∙ length-raised peaks (written plan p a v).tokens (s.peaked ∙ sym fit.queued) ∙ fit.queued;
         high = subst (λ ps. ArePeaks ps (written plan p a v).tokens) (sym raise) (raised_are peaks (written plan p a v).tokens);
         chained = chains ∙ s.chained;
-        sized = size ∙ s.sized;
-        partition = partition;
+        cells = cells;
         within = s.within;
         tallied = s.tallied;
         summed = s.summed;
@@ -134,8 +131,7 @@ module _ (plan : Plan) (p : Present) (peaks sums : List ℕ) (started kept : ℕ
         peaked = s.peaked;
         high = s.high;
         chained = s.chained;
-        sized = s.sized;
-        partition = s.partition;
+        cells = s.cells;
         within = λ b. elim (eqb_tells b a) [
           | inl e ↦ subst (λ c. get_or (set p.counts a (suc (count p a))) c 0 ≤ slice_index plan.limits c) (sym e.1) (let x = get_or-set_same p.counts a (suc (count p a)) 0 lt' in omega arith)
           | inr e ↦ (let x = get_or-set_other p.counts a b (suc (count p a)) 0 e.1 in let y = s.within b in omega arith)
@@ -162,8 +158,7 @@ module _ (plan : Plan) (p : Present) (peaks sums : List ℕ) (started kept : ℕ
     peaked = s.peaked;
     high = s.high;
     chained = s.chained;
-    sized = s.sized;
-    partition = s.partition;
+    cells = s.cells;
     within = s.within;
     tallied = s.tallied;
     summed = s.summed;

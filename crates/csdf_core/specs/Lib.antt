@@ -6,7 +6,12 @@ pub mod Step
 pub mod Ready
 pub mod Shows
 pub mod Streams
+pub mod Going
+pub mod Ever
+pub mod Headline
 pub mod Ports
+pub mod Transfers
 pub mod Playable
 pub mod Layout
 pub mod Sound
+pub mod Inside

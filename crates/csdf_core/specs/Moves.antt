@@ -1,7 +1,7 @@
 -- The moves of firings, without where their tokens lie in memory.
 use Rattle.std.specs.Prelude.{ℕ, List, ℤ}
-use Rattle.csdf_core.specs.declared.setup.Move.{Move as MoveCode}
-use Rattle.csdf_core.specs.declared.setup.Move.TheVariants as code
+use Rattle.csdf_core.specs.declared.moves.Move.{Move as MoveCode}
+use Rattle.csdf_core.specs.declared.moves.Move.TheVariants as code
 
 pub data Move : Type 0 where
   Begin : ℕ → Move

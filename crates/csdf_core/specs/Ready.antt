@@ -1,8 +1,8 @@
 -- What every state that is reached has: the channels are ready for what the actors are about to do.
 use Rattle.std.specs.Prelude.{ℕ, ◌+◌, ◌-◌, ◌<◌, ◌≤◌, ◌≡◌, ◌≢◌, Bool, false, List, ℤ, length, slice_index, slice_index_or}
 use Rattle.std.specs.List.{zip, AllByRecursion}
-use Rattle.csdf_core.specs.declared.setup.Stage.{Stage}
-use Rattle.csdf_core.specs.declared.setup.Stage.TheVariants.{Idle, Begun, Fetched}
+use Rattle.csdf_core.specs.declared.stage.Stage.{Stage}
+use Rattle.csdf_core.specs.declared.stage.Stage.TheVariants.{Idle, Begun, Fetched}
 use Rattle.csdf_core.specs.Plan.{Channel, Plan, takes_of, gives_of}
 use Rattle.csdf_core.specs.Rows.{Row}
 use Rattle.csdf_core.specs.State.{Present}

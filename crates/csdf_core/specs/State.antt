@@ -1,8 +1,8 @@
 -- The plain state of a graph: every token ever written, and how many were taken.
 use Rattle.std.specs.Prelude.{ℕ, Bool, true, List, ℤ, map, drop, replicate, length, ◌≤◌}
 use Rattle.std.specs.List.{AllByRecursion}
-use Rattle.csdf_core.specs.declared.setup.Stage.{Stage}
-use Rattle.csdf_core.specs.declared.setup.Stage.TheVariants.{Idle}
+use Rattle.csdf_core.specs.declared.stage.Stage.{Stage}
+use Rattle.csdf_core.specs.declared.stage.Stage.TheVariants.{Idle}
 use Rattle.csdf_core.specs.Plan.{Channel, Plan}
 
 -- a channel: its initial tokens and every token ever written, and how many of them were taken

@@ -2,12 +2,12 @@
 use Rattle.std.specs.Prelude.{ℕ, suc, ◌≡◌, ◌≢◌, ◌<◌, ◌+◌, ◌-◌, ◌==◌, ◌&&◌, ◌||◌, Bool, true, false, not, nat_lt, nat_le, if◌then◌else◌, List, [], ◌∷◌, ◌++◌, ℤ, Option, Some, None, Result, Ok, Err, length, map, sum, sum_by, count_by, slice_index, slice_index_or, slice_set, option_map}
 use Rattle.std.specs.List.{zip, range_with_len}
 use Rattle.csdf_graph.specs.Rates.{total}
-use Rattle.csdf_core.specs.declared.setup.Stage.{Stage}
-use Rattle.csdf_core.specs.declared.setup.Stage.TheVariants.{Idle, Begun, Fetched, Written}
+use Rattle.csdf_core.specs.declared.stage.Stage.{Stage}
+use Rattle.csdf_core.specs.declared.stage.Stage.TheVariants.{Idle, Begun, Fetched, Written}
 use Rattle.csdf_core.specs.Moves.{Move}
 use Rattle.csdf_core.specs.Moves.{Begin, Read, Write, Finish, Close}
-use Rattle.csdf_core.specs.declared.setup.Refusal.{Refusal}
-use Rattle.csdf_core.specs.declared.setup.Refusal.TheVariants.{Unknown, Busy, Spent, Closed, Dry, Short, Full, Stopped, NoCells, NotBegun, NotRead, WrongCount, NotWritten}
+use Rattle.csdf_core.specs.declared.refusal.Refusal.{Refusal}
+use Rattle.csdf_core.specs.declared.refusal.Refusal.TheVariants.{Unknown, Busy, Spent, Closed, Dry, Short, Full, Stopped, NoCells, NotBegun, NotRead, WrongCount, NotWritten}
 use Rattle.csdf_core.specs.Plan.{Channel, Plan, takes_of}
 use Rattle.csdf_core.specs.Rows.{is_closed, is_short, is_full, first, taken, shares, need, gift}
 use Rattle.csdf_core.specs.State.{Stream, State, Present, present}
@@ -44,6 +44,10 @@ is_spent plan p a = nat_le (slice_index plan.limits a) (count p a)
 -- a source's file has too few tokens for the next firing
 abbrev pub is_dry : Plan → Present → ℕ → Bool
 is_dry plan p a = is_source plan a && nat_lt (slice_index plan.supplies a) (given plan a (suc (count p a)))
+
+-- the actor makes no firing more: it is spent or dry
+abbrev pub is_over : Plan → Present → ℕ → Bool
+is_over plan p a = is_spent plan p a || is_dry plan p a
 
 -- the firings that were begun: those finished, and one for each actor that is not idle
 abbrev pub begun_count : Present → ℕ
@@ -157,8 +161,13 @@ abbrev pub Rests : Plan → Present → ℕ → Type 0
 Rests plan p a = (stage p a ≡ Idle) × (refusal plan p (Begin a) ≢ None)
 
 -- every actor is idle, and none can begin a firing
-abbrev pub IsQuiet : Plan → Present → Type 0
+unfoldable pub IsQuiet : Plan → Present → Type 0
 IsQuiet plan p = (a : ℕ) → a < length plan.sources → Rests plan p a
+
+-- quiet, and a channel is open exactly where its producer can make a firing more
+pub record IsSettled (plan : Plan) (p : Present) : Type 0 where
+  pub quiet : IsQuiet plan p
+  pub open_until_over : (c : ℕ) → c < length plan.channels → is_open p c ≡ not (is_over plan p (producer plan c))
 
 -- the tokens that an accepted move answers
 abbrev pub answer : Plan → Present → Move → List ℤ

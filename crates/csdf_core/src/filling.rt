@@ -1,13 +1,14 @@
 //! The pool of a core before its first move.
 
 ghost use Rattle.std.specs.Prelude.{◌≡◌, length, map, IfOk};
-ghost use Rattle.csdf_pool.specs.Pool.{IsPartition};
 ghost use Rattle.csdf_core.specs.Plan.{Channel as ChannelModel};
 ghost use Rattle.csdf_core.specs.Playable.{IsPlayable};
 ghost use Rattle.csdf_core.specs.Ports.{tokens_in};
+ghost use Rattle.csdf_core.specs.Shows.{AreSharedOut};
+ghost use Rattle.csdf_core.specs.Transfers.{opening_pool};
 
 use crate::layout::Layout;
-use crate::moves::put_tokens;
+use crate::transfer::put_tokens;
 use csdf_pool::Pool;
 use std::alloc::{AllocError, Global};
 
@@ -17,8 +18,8 @@ use std::alloc::{AllocError, Global};
 pub(crate) fn filled_pool(alloc: Global, layout: &Layout) -> Result<Pool, AllocError>
     requires { IsPlayable layout.now }
     ensures tokens { IfOk result (λ pool. tokens_in pool ≡ map (λ (c : ChannelModel). c.initial) layout.now.channels) }
-    ensures size { IfOk result (λ pool. pool.size ≡ layout.now.cells) }
-    ensures partition { IfOk result IsPartition }
+    ensures shared_out { IfOk result (AreSharedOut layout.now) }
+    ensures cells { IfOk result (λ pool. pool ≡ opening_pool layout.now) }
 {
     let mut pool = Pool::new(alloc, layout.cells(), layout.channels() as u32)?;
     for channel in 0..layout.channels() as u32 {

@@ -2,16 +2,30 @@
 #![tactic(auto)]
 
 mod filling;
-mod firing;
-mod lanes;
+mod firing_core;
+mod first_refusal;
+mod laws;
 mod layout;
 mod moves;
 mod playing;
+mod readiness;
+mod refusal;
 mod setup;
+mod stage;
+mod steps;
+mod transfer;
 
-pub use firing::Core;
+pub use firing_core::Core;
+pub use laws::{
+    ample_by_default, has_firings, has_period, phases_return, printed_is_period, runs_for_ever,
+};
+pub use moves::Move;
 pub use playing::{Played, Reply, play, play_on};
-pub use setup::{Move, Refusal, Setup, Stage};
+pub use refusal::Refusal;
+pub use setup::Setup;
+pub use stage::Stage;
 
+#[cfg(test)]
+mod period_tests;
 #[cfg(test)]
 mod tests;

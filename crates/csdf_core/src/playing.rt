@@ -1,15 +1,19 @@
 //! Whole lists of moves.
 
-ghost use Rattle.std.specs.Prelude.{◌≡◌, ◌<◌, ◌≤◌, ℕ, [], ◌++◌, All, map, length, slice_index, IfOk, OnErr, take};
-ghost use Rattle.csdf_core.specs.Shows.{Shows, Follows, IsRun, Plays, PlayedSome, replies_in, told};
+ghost use Rattle.std.specs.Prelude.{◌≡◌, ◌<◌, ◌≤◌, ℕ, [], All, map, length, slice_index, IfOk, OnErr};
+ghost use Rattle.csdf_core.specs.Shows.{Shows, Follows, IsRun, Plays, PlayedSome, replies_in, as_reply};
 ghost use Rattle.csdf_core.specs.Moves.{Read, move_of};
 ghost use Rattle.csdf_core.specs.Layout.{plan_for};
 ghost use Rattle.csdf_core.specs.State.{opening};
 ghost use Rattle.csdf_core.specs.Step.{replies_of, state_after};
-ghost use Rattle.csdf_core.specs.Streams.{IsPrefix, IsClosedIn, AreWithin, initial, tokens_taken, written_to, peak_of};
+ghost use Rattle.csdf_core.specs.Streams.{peak_of};
+ghost use Rattle.csdf_core.specs.Ever.{EndsPeriods};
+ghost use Rattle.csdf_core.specs.Headline.{KeepsOrder, KeepsCapacities, KeepsClosed};
 
-use crate::firing::Core;
-use crate::setup::{Move, Refusal, Setup};
+use crate::firing_core::Core;
+use crate::moves::Move;
+use crate::refusal::Refusal;
+use crate::setup::Setup;
 use std::alloc::{AllocError, Global};
 
 /// The answer to a move: the tokens that a read handed out, none for any other move.
@@ -17,7 +21,7 @@ pub type Reply = Result<Vec<i32>, Refusal>;
 
 /// The reply to a move that hands out no tokens.
 fn reply_to(alloc: Global, answer: Result<(), Refusal>) -> Reply
-    ensures { told (λ tokens. tokens.items) result ≡ told (λ _. []) answer }
+    ensures { as_reply (λ tokens. tokens.items) result ≡ as_reply (λ _. []) answer }
 {
     match answer {
         Ok(()) => Ok(Vec::new(alloc)),
@@ -27,7 +31,7 @@ fn reply_to(alloc: Global, answer: Result<(), Refusal>) -> Reply
 
 /// Reads into a list of its own.
 fn read_all(core: &mut Core, alloc: Global, actor: u32) -> Result<Reply, AllocError>
-    ensures step { IfOk result (λ reply. Follows core.old core.new (Read actor) (told (λ tokens. tokens.items) reply)) }
+    ensures step { IfOk result (λ reply. Follows core.old core.new (Read actor) (as_reply (λ tokens. tokens.items) reply)) }
     ensures same { OnErr result (core.new ≡ core.old) }
 {
     let mut tokens = vec![in alloc; 0; core.need(actor)]?;
@@ -42,7 +46,7 @@ fn read_all(core: &mut Core, alloc: Global, actor: u32) -> Result<Reply, AllocEr
 
 /// Makes one move.
 fn play_one(core: &mut Core, alloc: Global, next: &Move) -> Result<Reply, AllocError>
-    ensures step { IfOk result (λ reply. Follows core.old core.new (move_of next.now) (told (λ tokens. tokens.items) reply)) }
+    ensures step { IfOk result (λ reply. Follows core.old core.new (move_of next.now) (as_reply (λ tokens. tokens.items) reply)) }
     ensures same { OnErr result (core.new ≡ core.old) }
 {
     match next {
@@ -81,8 +85,9 @@ pub struct Played {
 ///
 /// The tokens taken from a channel are a prefix of its initial tokens followed by those written to
 /// it, in order. No channel holds more than its capacity, and none takes a token after an accepted
-/// close. Between any two moves each cell is in exactly one of the chains and the free list. An
-/// error says that memory ran out.
+/// close. Between any two moves each cell is in exactly one of the chains and the free list. Moves
+/// of whole periods, by a schedule of the accepted graph, are all accepted where there are enough
+/// cells, and leave the channels as they were at first. An error says that memory ran out.
 pub fn play(alloc: Global, setup: Setup<'_>, moves: &[Move]) -> Result<Played, AllocError>
     requires limits { length setup.limits.items ≡ length setup.accepted.now.graph.actors }
     requires supply { length setup.supply.items ≡ length setup.accepted.now.graph.actors }
@@ -91,9 +96,10 @@ pub fn play(alloc: Global, setup: Setup<'_>, moves: &[Move]) -> Result<Played, A
     ensures replies { IfOk result (λ p. replies_in p.replies.items ≡ replies_of p.core.plan (opening p.core.plan) (map move_of moves.now)) }
     ensures shows { IfOk result (λ p. Shows p.core (state_after p.core.plan (opening p.core.plan) (map move_of moves.now))) }
     ensures peaks { IfOk result (λ p. (c : ℕ) → slice_index p.core.peaks c ≡ peak_of p.core.plan (opening p.core.plan) c (map move_of moves.now)) }
-    ensures prefix { IfOk result (λ p. (c : ℕ) → IsPrefix (tokens_taken p.core.plan c (map move_of moves.now) (replies_in p.replies.items)) (initial p.core.plan c ++ written_to p.core.plan c (map move_of moves.now) (replies_in p.replies.items))) }
-    ensures capacity { IfOk result (λ p. (n : ℕ) → AreWithin p.core.plan (state_after p.core.plan (opening p.core.plan) (take n (map move_of moves.now)))) }
-    ensures closed { IfOk result (λ p. (c : ℕ) → (n : ℕ) → IsClosedIn c (take n (map move_of moves.now)) (take n (replies_in p.replies.items)) → written_to p.core.plan c (map move_of moves.now) (replies_in p.replies.items) ≡ written_to p.core.plan c (take n (map move_of moves.now)) (take n (replies_in p.replies.items))) }
+    ensures prefix { IfOk result (λ p. KeepsOrder p.core.plan (map move_of moves.now) (replies_in p.replies.items)) }
+    ensures capacity { IfOk result (λ p. KeepsCapacities p.core.plan (map move_of moves.now) (replies_in p.replies.items)) }
+    ensures closed { IfOk result (λ p. KeepsClosed p.core.plan (map move_of moves.now) (replies_in p.replies.items)) }
+    ensures periods { IfOk result (λ p. EndsPeriods setup.entry.accepted.now p.core.plan p.core.now (map move_of moves.now) (replies_in p.replies.items)) }
     ensures partition { IfOk result (λ p. IsRun p.core (map move_of moves.now) (replies_in p.replies.items)) }
 {
     let mut core = Core::new(alloc, setup)?;

@@ -4,7 +4,7 @@ ghost use Rattle.std.specs.Prelude.{◌≡◌, ◌<◌, ◌≤◌, ◌++◌, len
 ghost use Rattle.std.specs.List.{enumerate_from};
 ghost use Rattle.csdf_graph.specs.Graph.{channel_view};
 ghost use Rattle.csdf_pool.specs.Pool.{chain_of};
-ghost use Rattle.csdf_core.specs.Shows.{told};
+ghost use Rattle.csdf_core.specs.Shows.{as_reply};
 ghost use Rattle.csdf_tool.specs.Printed.{names_of, name_at, spaced, spaced_tokens, refusal_text, reply_text, reply_line, chain_line, chain_lines, cells_text};
 
 use csdf_core::{Core, Refusal, Reply};
@@ -75,7 +75,7 @@ fn push_tokens(text: &mut String, tokens: &[i32]) -> Result<(), AllocError>
 
 /// Appends a reply.
 fn push_reply(text: &mut String, channels: &[Channel], reply: &Reply) -> Result<(), AllocError>
-    ensures { OnOk result (string_bytes text.new ≡ string_bytes text.old ++ reply_text (names_of (map channel_view channels.now)) (told (λ tokens. tokens.items) reply.now)) }
+    ensures { OnOk result (string_bytes text.new ≡ string_bytes text.old ++ reply_text (names_of (map channel_view channels.now)) (as_reply (λ tokens. tokens.items) reply.now)) }
 {
     match reply {
         Ok(tokens) => {
@@ -97,7 +97,7 @@ pub(crate) fn push_reply_line(
     name: &str,
     reply: &Reply,
 ) -> Result<(), AllocError>
-    ensures { OnOk result (string_bytes text.new ≡ string_bytes text.old ++ reply_line (names_of (map channel_view channels.now)) verb.now name.now (told (λ tokens. tokens.items) reply.now)) }
+    ensures { OnOk result (string_bytes text.new ≡ string_bytes text.old ++ reply_line (names_of (map channel_view channels.now)) verb.now name.now (as_reply (λ tokens. tokens.items) reply.now)) }
 {
     write!(text, "{verb} {name}: ")?;
     push_reply(text, channels, reply)?;

@@ -1,11 +1,13 @@
-use Rattle.std.proofs.Common.{◌≡◌, ◌<◌, ℕ, ◌∙◌, ap, arith, List, length, map}
+use Rattle.std.specs.List.{range_with_len}
+use Rattle.csdf_core.specs.Transfers.{filled_from}
+use Rattle.std.proofs.Common.{replicate, [], ◌≤◌, ◌≡◌, ◌<◌, ℕ, ◌∙◌, ap, arith, List, length, map}
 use Rattle.std.specs.Prelude.{ℤ}
 use Rattle.std.proofs.lemmas.List.{length-map, length-replicate}
 use Rattle.std.proofs.lemmas.List.FromFn.{length-range_with_len}
 use Rattle.csdf_pool.specs.Pool.{held_tokens}
 use Rattle.csdf_core.specs.Plan.{Channel}
 use Rattle.csdf_core.specs.Ports.{tokens_in}
-use Rattle.csdf_core.proofs.Fillings.{filled_more, filled_none, free_more}
+use Rattle.csdf_core.proofs.Fillings.{filled_more, filled_none, free_more, pool_is, cells_more, cells_all}
 use Rattle.csdf_core.proofs.filling.filled_pool.Goals as goal
 
 pub loop-channel-init : goal.loop-channel-init
@@ -13,14 +15,15 @@ loop-channel-init c =
     let cs : List Channel = c.args.layout.now.channels in
     let count : c.channels.result ≡ length cs = c.channels.ensures.count in
     let chains = c.in_ok-pool.ensures.chains in
+    let xs : List (List ℤ) = map (λ (d : Channel). d.initial) cs in
     let free = ap length c.in_ok-pool.ensures.free ∙ length-range_with_len 0 c.cells.result in
     let cells = c.cells.ensures in
     record {
       front = ap (map held_tokens) chains ∙ filled_none (λ (d : Channel). d.initial) cs c.channels.result count;
       rest = omega (arith, free, cells);
-      size = c.in_ok-pool.ensures.size ∙ cells;
       same = ap length chains ∙ length-replicate c.channels.result _ ∙ count;
-      partition = c.in_ok-pool.ensures.shared_out;
+      shared_out = record { size = c.in_ok-pool.ensures.size ∙ cells; partition = c.in_ok-pool.ensures.shared_out };
+      cells = ap (filled_from 0 xs) (pool_is c.in_ok-pool.pool _ _ _ (c.in_ok-pool.ensures.size ∙ cells) (chains ∙ ap (λ (n : ℕ). replicate n []) count) (c.in_ok-pool.ensures.free ∙ ap (range_with_len 0) cells));
     }
 
 pub loop-channel-preserved : goal.loop-channel-preserved
@@ -34,7 +37,15 @@ loop-channel-preserved c =
     record {
       front = filled_more xs (tokens_in c.loop-channel.pool) (tokens_in c.put_tokens.new.pool) i c.initial.result.now lt old.front c.initial.ensures put.put;
       rest = free_more xs i (length c.loop-channel.pool.free) (length c.put_tokens.new.pool.free) c.args.layout.now.cells c.initial.result.now lt c.initial.ensures old.rest put.free;
-      size = put.size ∙ old.size;
       same = put.same ∙ old.same;
-      partition = put.partition;
+      shared_out = record { size = put.size ∙ old.shared_out.size; partition = put.partition };
+      cells = cells_more xs i c.loop-channel.pool c.put_tokens.new.pool _ c.initial.result.now lt c.initial.ensures put.cells old.cells;
     }
+
+pub returns-clause-cells : goal.returns-clause-cells
+returns-clause-cells c =
+    let cs : List Channel = c.args.layout.now.channels in
+    let xs : List (List ℤ) = map (λ (d : Channel). d.initial) cs in
+    let count = c.channels-channel-end.ensures.count in
+    let past : length xs ≤ c.loop-channel.channel = (let f = c.loop-channel-test.false in let n = length-map cs (λ (d : Channel). d.initial) in omega arith) in
+    cells_all xs c.loop-channel.channel c.loop-channel.pool _ past c.loop-channel.invariant.cells

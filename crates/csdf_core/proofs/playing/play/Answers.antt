@@ -2,25 +2,35 @@ use Rattle.std.proofs.Common.{subst, map}
 use Rattle.csdf_core.specs.Moves.{move_of}
 use Rattle.csdf_core.specs.Playable.{IsPlayable}
 use Rattle.csdf_core.specs.Shows.{View, replies_in}
-use Rattle.csdf_core.proofs.Headline.{prefix_holds, capacity_holds, closed_holds, peaks_hold}
+use Rattle.csdf_core.proofs.EverCores.{periods_kept}
+use Rattle.csdf_core.proofs.Headline.{order_kept, capacities_kept, closed_kept, peaks_hold}
 use Rattle.csdf_core.proofs.playing.play.Goals as goal
 
 pub returns-clause-peaks : goal.returns-clause-peaks
 returns-clause-peaks c =
     let playable : IsPlayable c.play_on.new.core.plan = subst (λ (v : View). IsPlayable v.plan) c.core.view_is c.core.invariant.playable in
-    peaks_hold c.in_ok-core.core c.play_on.new.core (map move_of c.args.moves.now) (replies_in c.in_ok-replies.replies.items) c.in_ok-core.ensures.opening c.in_ok-replies.ensures.played playable c.in_ok-core.ensures.peaks
+    peaks_hold c.in_ok-core.core c.play_on.new.core (map move_of c.args.moves.now) (replies_in c.in_ok-replies.replies.items)
+    c.in_ok-core.ensures.opening c.in_ok-replies.ensures.played playable c.in_ok-core.ensures.peaks
 
 pub returns-clause-prefix : goal.returns-clause-prefix
 returns-clause-prefix c =
     let playable : IsPlayable c.play_on.new.core.plan = subst (λ (v : View). IsPlayable v.plan) c.core.view_is c.core.invariant.playable in
-    prefix_holds c.in_ok-core.core c.play_on.new.core (map move_of c.args.moves.now) (replies_in c.in_ok-replies.replies.items) c.in_ok-core.ensures.opening c.in_ok-replies.ensures.played playable
+    order_kept c.in_ok-core.core c.play_on.new.core (map move_of c.args.moves.now) (replies_in c.in_ok-replies.replies.items)
+    c.in_ok-core.ensures.opening c.in_ok-replies.ensures.played playable
 
 pub returns-clause-capacity : goal.returns-clause-capacity
 returns-clause-capacity c =
     let playable : IsPlayable c.play_on.new.core.plan = subst (λ (v : View). IsPlayable v.plan) c.core.view_is c.core.invariant.playable in
-    capacity_holds c.in_ok-core.core c.play_on.new.core (map move_of c.args.moves.now) (replies_in c.in_ok-replies.replies.items) c.in_ok-core.ensures.opening c.in_ok-replies.ensures.played playable
+    capacities_kept c.in_ok-core.core c.play_on.new.core (map move_of c.args.moves.now) (replies_in c.in_ok-replies.replies.items)
+    c.in_ok-core.ensures.opening c.in_ok-replies.ensures.played playable
 
 pub returns-clause-closed : goal.returns-clause-closed
 returns-clause-closed c =
     let playable : IsPlayable c.play_on.new.core.plan = subst (λ (v : View). IsPlayable v.plan) c.core.view_is c.core.invariant.playable in
-    closed_holds c.in_ok-core.core c.play_on.new.core (map move_of c.args.moves.now) (replies_in c.in_ok-replies.replies.items) c.in_ok-core.ensures.opening c.in_ok-replies.ensures.played playable
+    closed_kept c.in_ok-core.core c.play_on.new.core (map move_of c.args.moves.now) (replies_in c.in_ok-replies.replies.items)
+    c.in_ok-core.ensures.opening c.in_ok-replies.ensures.played playable
+
+pub returns-clause-periods : goal.returns-clause-periods
+returns-clause-periods c =
+    periods_kept c.args.setup.accepted.now c.args.setup.limits.items c.args.setup.supply.items c.args.setup.firings c.in_ok-core.core c.play_on.new.core (map move_of c.args.moves.now) (replies_in c.in_ok-replies.replies.items)
+    c.in_ok-core.ensures.plan c.in_ok-core.ensures.opening c.in_ok-replies.ensures.played

@@ -1,0 +1,18 @@
+use Rattle.std.proofs.Common.{ap, ◌∙◌, refl, arith, ◌≡◌, length}
+use Rattle.std.specs.Prelude.{sum_by}
+use Rattle.csdf_core.specs.Ports.{give_at}
+use Rattle.csdf_core.proofs.PortLemmas.{gift_is}
+use Rattle.csdf_core.proofs.transfer.put_outputs.Goals as goal
+
+pub loop-channel-init : goal.loop-channel-init
+loop-channel-init c =
+    let all : sum_by (give_at c.args.layout.now.channels c.args.firing) c.outputs-outputs.result.now ≡ length c.args.tokens.now = ap (sum_by (give_at c.args.layout.now.channels c.args.firing)) c.outputs-outputs.ensures.value ∙ gift_is c.args.actor c.args.firing c.args.layout.now.channels ∙ c.requires.all in
+    record {
+      same = c.requires.same;
+      all = omega (arith, all);
+      room = omega (arith, c.requires.room);
+      put = refl;
+      cells = refl;
+      partition = c.requires.partition;
+      size = refl;
+    }

@@ -1,0 +1,194 @@
+//! The firing core, and what it shows.
+
+ghost use Rattle.std.specs.Prelude.{◌≡◌, ◌-◌, ◌*◌, ◌<◌, ◌≤◌, suc, length, map, sum, IfOk, All, slice_index};
+ghost use Rattle.csdf_pool.specs.Pool.{chain_of, held_cells};
+
+use crate::filling::{filled_pool, lengths_of};
+use crate::layout::Layout;
+use crate::setup::Setup;
+use crate::stage::Stage;
+use crate::transfer::{gift_of, need_of};
+use csdf_pool::{Cells, Pool};
+use std::alloc::{AllocError, Global};
+use std::marker::Model;
+
+/// A machine whose moves are those of firings, over one pool of cells that all channels share.
+///
+/// A refused move changes nothing. Tokens that were read are not kept.
+#[derive(Drop)]
+pub struct Core {
+    pub(crate) layout: Layout,
+    pub(crate) counts: Vec<u32>,
+    pub(crate) stages: Vec<Stage>,
+    pub(crate) opens: Vec<bool>,
+    pub(crate) sums: Vec<u64>,
+    pub(crate) peaks: Vec<u32>,
+    pub(crate) started: u64,
+    pub(crate) reserved: u64,
+    pub(crate) pool: Pool,
+}
+
+impl Model for Core {
+    ghost use Rattle.csdf_core.specs.Shows.{View};
+
+    ghost Value = { View };
+
+    ghost use Rattle.csdf_core.specs.Inside.{view_in, IsKept};
+
+    ghost view = { view_in };
+
+    ghost invariant = { IsKept };
+}
+
+impl Core {
+    ghost use Rattle.csdf_core.specs.State.{opening};
+    ghost use Rattle.csdf_core.specs.Shows.{Shows};
+    ghost use Rattle.csdf_core.specs.Step.{refused, is_open, given, held, reserved, count, stage};
+    ghost use Rattle.csdf_core.specs.Rows.{need, gift};
+    ghost use Rattle.csdf_core.specs.Ports.{tokens_at};
+    ghost use Rattle.csdf_core.specs.Plan.{Channel as ChannelModel};
+    ghost use Rattle.csdf_core.specs.Layout.{plan_for};
+    ghost use Rattle.csdf_core.specs.Transfers.{opening_pool};
+
+    /// A core of the setup in the state in which nothing has fired: the initial tokens are in the
+    /// channels, in order. It keeps a copy of the accepted graph.
+    ///
+    /// An error says that memory ran out.
+    pub fn new(alloc: Global, setup: Setup<'_>) -> Result<Core, AllocError>
+        requires limits { length setup.limits.items ≡ length setup.accepted.now.graph.actors }
+        requires supply { length setup.supply.items ≡ length setup.accepted.now.graph.actors }
+        requires few { All (λ n. n ≤ 16_384_000) setup.limits.items }
+        ensures plan { IfOk result (λ core. core.plan ≡ plan_for setup.entry.accepted.now setup.entry.limits.items setup.entry.supply.items setup.entry.firings) }
+        ensures opening { IfOk result (λ core. Shows core (opening core.plan)) }
+        ensures peaks { IfOk result (λ core. core.peaks ≡ map length (map (λ (c : ChannelModel). c.initial) core.plan.channels)) }
+        ensures cells { IfOk result (λ core. core.pool ≡ opening_pool core.plan) }
+    {
+        let layout = Layout::new(alloc, setup)?;
+        let actors = layout.actors();
+        let channels = layout.channels();
+        let pool = filled_pool(alloc, &layout)?;
+        let peaks = lengths_of(alloc, &pool, channels as u32)?;
+        Ok(Core {
+            layout,
+            counts: vec![in alloc; 0; actors]?,
+            stages: vec![in alloc; Stage::Idle; actors]?,
+            opens: vec![in alloc; true; channels]?,
+            sums: vec![in alloc; 0; actors]?,
+            peaks,
+            started: 0,
+            reserved: 0,
+            pool,
+        })
+    }
+
+    /// How many actors there are.
+    pub fn actors(&self) -> u32
+        ensures value { result ≡ length self.now.plan.sources }
+        ensures few { result ≤ 64 }
+    {
+        self.layout.actors() as u32
+    }
+
+    /// How many channels there are.
+    pub fn channels(&self) -> u32
+        ensures value { result ≡ length self.now.plan.channels }
+        ensures few { result ≤ 128 }
+    {
+        self.layout.channels() as u32
+    }
+
+    /// How many firings of the actor are finished.
+    pub fn fired(&self, actor: u32) -> u32
+        requires { actor < length self.now.plan.sources }
+        ensures { result ≡ count self.now.now actor }
+    {
+        self.counts[actor as usize]
+    }
+
+    /// Where the actor stands in its firing.
+    pub fn stage(&self, actor: u32) -> Stage
+        requires { actor < length self.now.plan.sources }
+        ensures { result ≡ stage self.now.now actor }
+    {
+        let stages = &self.stages;
+        stages[actor as usize]
+    }
+
+    /// How many tokens wait in the channel.
+    pub fn len(&self, channel: u32) -> u32
+        requires { channel < length self.now.plan.channels }
+        ensures { result ≡ length (tokens_at self.now.now.tokens channel) }
+    {
+        self.pool.len(channel)
+    }
+
+    /// The greatest number of tokens that the channel has held so far.
+    pub fn peak(&self, channel: u32) -> u32
+        requires { channel < length self.now.plan.channels }
+        ensures { result ≡ slice_index self.now.peaks channel }
+    {
+        self.peaks[channel as usize]
+    }
+
+    /// Whether the channel takes tokens.
+    pub fn is_open(&self, channel: u32) -> bool
+        requires { channel < length self.now.plan.channels }
+        ensures { result ≡ is_open self.now.now channel }
+    {
+        let opens = &self.opens;
+        opens[channel as usize]
+    }
+
+    /// The cells of the channel's tokens, the oldest first.
+    pub fn cells(&self, channel: u32) -> Cells<'_>
+        requires { channel < length self.now.plan.channels }
+        ensures { result ≡ held_cells (chain_of self.now.pool channel) }
+    {
+        self.pool.cells(channel)
+    }
+
+    /// The free cells, the next to be taken first.
+    pub fn free_cells(&self) -> Cells<'_>
+        ensures value { result ≡ self.now.pool.free }
+        ensures size { self.now.pool.size ≡ self.now.plan.cells }
+    {
+        self.pool.free_cells()
+    }
+
+    /// How many tokens firing number `fired(actor)` reads; 0 where there is no such actor.
+    pub fn need(&self, actor: u32) -> usize
+        ensures value { result ≡ need actor (count self.now.now actor) self.now.plan.channels }
+        ensures unknown { length self.now.plan.sources ≤ actor → result ≡ 0 }
+        ensures small { result ≤ 8192 }
+    {
+        if actor as usize >= self.counts.len() {
+            return 0;
+        }
+        let firing = self.fired(actor);
+        need_of(&self.layout, actor, firing)
+    }
+
+    /// How many tokens firing number `fired(actor)` writes; 0 where there is no such actor.
+    pub fn gives(&self, actor: u32) -> usize
+        ensures value { result ≡ given self.now.plan actor (suc (count self.now.now actor)) - given self.now.plan actor (count self.now.now actor) }
+        ensures sum { result ≡ gift actor (count self.now.now actor) self.now.plan.channels }
+        ensures unknown { length self.now.plan.sources ≤ actor → result ≡ 0 }
+        ensures small { result ≤ 8192 }
+    {
+        if actor as usize >= self.counts.len() {
+            return 0;
+        }
+        let firing = self.fired(actor);
+        gift_of(&self.layout, actor, firing)
+    }
+
+    /// How many tokens the actor's finished firings wrote, over all its outputs: for a source, how
+    /// many of its file are used.
+    pub fn written(&self, actor: u32) -> u64
+        requires { actor < length self.now.plan.sources }
+        ensures value { result ≡ given self.now.plan actor (count self.now.now actor) }
+        ensures small { result ≤ 8192 * 4294967296 }
+    {
+        self.sums[actor as usize]
+    }
+}

@@ -1,0 +1,165 @@
+//! Printed schedules, played over and over.
+use super::*;
+use csdf_analysis::{Accepted, accept, schedule};
+use csdf_graph::{Kernel, read_graph};
+use std::alloc::{AllocError, Global};
+use std::process::Abort;
+use std::test::Fail;
+
+/// A source that makes 2 and 1 tokens in turn, and a sink that takes 3.
+const PAIR: &str = r#"actor = [
+  { name = "src", kernel = "source", phases = 2 },
+  { name = "snk", kernel = "sink" },
+]
+channel = [{ name = "x", from = "src", to = "snk", produce = [2, 1], consume = [3] }]
+"#;
+
+/// A running sum, whose state is in a channel to itself.
+const SUMS: &str = r#"actor = [
+  { name = "src", kernel = "source" },
+  { name = "acc", kernel = "sum" },
+  { name = "snk", kernel = "sink" },
+]
+channel = [
+  { name = "x", from = "src", to = "acc", produce = [1], consume = [1] },
+  { name = "s", from = "acc", to = "acc", produce = [1], consume = [1], initial = [0] },
+  { name = "y", from = "acc", to = "snk", produce = [1], consume = [1] },
+]
+"#;
+
+/// Two actors in a circle with one token in it.
+const CIRCLE: &str = r#"actor = [{ name = "a", kernel = "copy" }, { name = "b", kernel = "copy" }]
+channel = [
+  { name = "x", from = "a", to = "b", produce = [1], consume = [1], initial = [5] },
+  { name = "y", from = "b", to = "a", produce = [1], consume = [1] },
+]
+"#;
+
+/// A source that gives 2, a stage that takes 3 and gives 1, and a sink that takes 2, over as many
+/// cells as the least capacities add up to.
+const CELLS: &str = r#"cells = 6
+actor = [
+  { name = "a", kernel = "source" },
+  { name = "b", kernel = "copy" },
+  { name = "c", kernel = "sink" },
+]
+channel = [
+  { name = "x", from = "a", to = "b", produce = [2], consume = [3] },
+  { name = "y", from = "b", to = "c", produce = [1], consume = [2] },
+]
+"#;
+
+/// From 44.1 kHz to 48 kHz in three stages of one phase each.
+const RATES: &str = r#"actor = [
+  { name = "disc", kernel = "source" },
+  { name = "up", kernel = "copy" },
+  { name = "down", kernel = "copy" },
+  { name = "out", kernel = "copy" },
+  { name = "dac", kernel = "sink" },
+]
+channel = [
+  { name = "a", from = "disc", to = "up", produce = [1], consume = [3] },
+  { name = "b", from = "up", to = "down", produce = [4], consume = [7] },
+  { name = "c", from = "down", to = "out", produce = [5], consume = [7] },
+  { name = "d", from = "out", to = "dac", produce = [8], consume = [1] },
+]
+"#;
+
+/// The graph of the file, which is accepted.
+fn accepted_in(alloc: Global, text: &str) -> Result<Accepted, Fail> {
+    match accept(alloc, read_graph(alloc, text.as_bytes())?) {
+        Ok(accepted) => Ok(accepted),
+        Err((_, fault)) => Err(fault.into()),
+    }
+}
+
+/// A core with ample limits and files.
+fn core_of(rt: &impl Abort, alloc: Global, accepted: &Accepted) -> Result<Core, AllocError> {
+    let actors = accepted.graph().actors();
+    let mut supply = Vec::new(alloc);
+    for actor in actors {
+        let tokens = if actor.kernel == Kernel::Source {
+            1_000_000
+        } else {
+            0
+        };
+        supply.push(tokens)?;
+    }
+    assert_eq!(rt; supply.len(), actors.len());
+    let limits = vec![in alloc; 1_000_000; actors.len()]?;
+    let firings = None;
+    let setup = Setup {
+        accepted,
+        limits,
+        supply,
+        firings,
+    };
+    Core::new(alloc, setup)
+}
+
+/// Makes a whole firing of the actor, which writes zeros.
+fn fire(rt: &impl Abort, alloc: Global, core: &mut Core, actor: u32) -> Result<(), Fail> {
+    core.begin(actor)?;
+    let mut inputs = vec![in alloc; 0; core.need(actor)]?;
+    assert!(rt; core.need(actor) <= inputs.len());
+    core.read(actor, &mut inputs)?;
+    let outputs = vec![in alloc; 0; core.gives(actor)]?;
+    core.write(actor, &outputs)?;
+    core.finish(actor)?;
+    Ok(())
+}
+
+/// How many tokens each channel holds.
+fn lengths(alloc: Global, core: &Core) -> Result<Vec<u32>, AllocError> {
+    let mut lengths = Vec::new(alloc);
+    for channel in 0..core.channels() {
+        lengths.push(core.len(channel))?;
+    }
+    Ok(lengths)
+}
+
+/// Makes the firings of a period: no move is refused.
+fn play_period(
+    rt: &impl Abort,
+    alloc: Global,
+    core: &mut Core,
+    firings: &[u32],
+) -> Result<(), Fail> {
+    for actor in firings {
+        fire(rt, alloc, core, *actor)?;
+    }
+    Ok(())
+}
+
+/// Plays the firings of a period three times over: each time the channels hold in the end what
+/// they held at first.
+fn play_three(
+    rt: &impl Abort,
+    alloc: Global,
+    core: &mut Core,
+    firings: &[u32],
+) -> Result<(), Fail> {
+    let first = lengths(alloc, core)?;
+    for _ in 0..3 {
+        play_period(rt, alloc, core, firings)?;
+        let now = lengths(alloc, core)?;
+        assert_eq!(rt; now.as_slice(), first.as_slice());
+    }
+    Ok(())
+}
+
+/// Plays the printed schedule of the graph three times over.
+fn play_schedule(rt: &impl Abort, alloc: Global, accepted: &Accepted) -> Result<(), Fail> {
+    let firings = schedule(alloc, accepted)?;
+    play_three(rt, alloc, &mut core_of(rt, alloc, accepted)?, &firings)
+}
+
+#[test]
+fn schedules_are_played_over_and_over(rt: HostRuntime) -> Result<(), Fail> {
+    let alloc = rt.alloc();
+    for text in [PAIR, SUMS, CIRCLE, CELLS, RATES] {
+        let accepted = accepted_in(alloc, text)?;
+        play_schedule(&rt, alloc, &accepted)?;
+    }
+    Ok(())
+}

@@ -1,0 +1,133 @@
+//! Moving the tokens of a firing out of its inputs and into its outputs.
+
+ghost use Rattle.std.specs.Prelude.{◌≡◌, ◌+◌, ◌*◌, ◌<◌, ◌≤◌, ◌++◌, length, take, drop, slice_set};
+ghost use Rattle.csdf_pool.specs.Pool.{IsPartition, after_takes, after_puts};
+ghost use Rattle.csdf_core.specs.Transfers.{after_read, after_write};
+ghost use Rattle.csdf_core.specs.Rows.{need, gift};
+ghost use Rattle.csdf_core.specs.Ports.{inputs_at, outputs_at, take_at, give_at, tokens_in, tokens_at, takes_over, taken_over, EnoughOver, puts_over, raise_over};
+
+use crate::layout::Layout;
+use csdf_pool::Pool;
+
+/// How many tokens the actor's firing takes.
+pub(crate) fn need_of(layout: &Layout, actor: u32, firing: u32) -> usize
+    requires { actor < length layout.now.sources }
+    ensures value { result ≡ need actor firing layout.now.channels }
+    ensures small { result ≤ 8192 }
+{
+    let inputs = layout.inputs(actor);
+    let mut sum = 0;
+    for channel in inputs {
+        sum += layout.takes(*channel, firing) as usize;
+    }
+    sum
+}
+
+/// How many tokens the actor's firing gives.
+pub(crate) fn gift_of(layout: &Layout, actor: u32, firing: u32) -> usize
+    requires { actor < length layout.now.sources }
+    ensures value { result ≡ gift actor firing layout.now.channels }
+    ensures small { result ≤ 8192 }
+{
+    let outputs = layout.outputs(actor);
+    let mut sum = 0;
+    for channel in outputs {
+        sum += layout.gives(*channel, firing) as usize;
+    }
+    sum
+}
+
+/// Takes the oldest tokens of a channel, as many as the slice has places.
+fn take_tokens(pool: &mut Pool, channel: u32, into: &mut [i32])
+    requires channel { channel < length pool.old.chains }
+    requires enough { length into.old ≤ length (tokens_at (tokens_in pool.old) channel) }
+    ensures tokens { into.new ≡ take (length into.old) (tokens_at (tokens_in pool.old) channel) }
+    ensures left { tokens_in pool.new ≡ slice_set (tokens_in pool.old) channel (drop (length into.old) (tokens_at (tokens_in pool.old) channel)) }
+    ensures cells { pool.new ≡ after_takes pool.old channel (length into.old) }
+    ensures partition { IsPartition pool.new }
+    ensures size { pool.new.size ≡ pool.old.size }
+    ensures same { length pool.new.chains ≡ length pool.old.chains }
+{
+    pool.take_into(channel, into);
+}
+
+/// Puts tokens at the end of a channel.
+pub(crate) fn put_tokens(pool: &mut Pool, channel: u32, tokens: &[i32])
+    requires channel { channel < length pool.old.chains }
+    requires room { length tokens.now ≤ length pool.old.free }
+    ensures put { tokens_in pool.new ≡ slice_set (tokens_in pool.old) channel (tokens_at (tokens_in pool.old) channel ++ tokens.now) }
+    ensures cells { pool.new ≡ after_puts pool.old channel tokens.now }
+    ensures free { length pool.new.free + length tokens.now ≡ length pool.old.free }
+    ensures partition { IsPartition pool.new }
+    ensures size { pool.new.size ≡ pool.old.size }
+    ensures same { length pool.new.chains ≡ length pool.old.chains }
+{
+    pool.put_all(channel, tokens);
+}
+
+/// Takes the tokens of the firing out, the inputs in file order, into the front of the slice.
+pub(crate) fn take_inputs(
+    layout: &Layout,
+    pool: &mut Pool,
+    actor: u32,
+    firing: u32,
+    into: &mut [i32],
+) -> usize
+    requires actor { actor < length layout.now.sources }
+    requires same { length pool.old.chains ≡ length layout.now.channels }
+    requires enough { EnoughOver (take_at layout.now.channels firing) (inputs_at layout.now.channels actor) (tokens_in pool.old) }
+    requires room { need actor firing layout.now.channels ≤ length into.old }
+    requires partition { IsPartition pool.old }
+    ensures count { result ≡ need actor firing layout.now.channels }
+    ensures answer { into.new ≡ taken_over (take_at layout.now.channels firing) (inputs_at layout.now.channels actor) (tokens_in pool.old) ++ drop result into.old }
+    ensures left { tokens_in pool.new ≡ takes_over (take_at layout.now.channels firing) (inputs_at layout.now.channels actor) (tokens_in pool.old) }
+    ensures cells { pool.new ≡ after_read layout.now actor firing pool.old }
+    ensures partition { IsPartition pool.new }
+    ensures size { pool.new.size ≡ pool.old.size }
+    ensures same { length pool.new.chains ≡ length pool.old.chains }
+{
+    let inputs = layout.inputs(actor);
+    let mut at = 0;
+    for channel in inputs {
+        let n = layout.takes(*channel, firing) as usize;
+        take_tokens(pool, *channel, &mut into[at..at + n]);
+        at += n;
+    }
+    at
+}
+
+/// Puts the tokens of the firing in, the outputs in file order.
+pub(crate) fn put_outputs(layout: &Layout, pool: &mut Pool, actor: u32, firing: u32, tokens: &[i32])
+    requires actor { actor < length layout.now.sources }
+    requires same { length pool.old.chains ≡ length layout.now.channels }
+    requires all { gift actor firing layout.now.channels ≡ length tokens.now }
+    requires room { length tokens.now ≤ length pool.old.free }
+    requires partition { IsPartition pool.old }
+    ensures put { tokens_in pool.new ≡ puts_over (give_at layout.now.channels firing) (outputs_at layout.now.channels actor) (tokens_in pool.old) tokens.now }
+    ensures cells { pool.new ≡ after_write layout.now actor firing pool.old tokens.now }
+    ensures partition { IsPartition pool.new }
+    ensures size { pool.new.size ≡ pool.old.size }
+    ensures same { length pool.new.chains ≡ length pool.old.chains }
+{
+    let outputs = layout.outputs(actor);
+    let mut at = 0;
+    for channel in outputs {
+        let n = layout.gives(*channel, firing) as usize;
+        put_tokens(pool, *channel, &tokens[at..at + n]);
+        at += n;
+    }
+}
+
+/// Raises the peaks of the actor's outputs to their lengths.
+pub(crate) fn raise_peaks(layout: &Layout, pool: &Pool, peaks: &mut [u32], actor: u32)
+    requires actor { actor < length layout.now.sources }
+    requires same { length pool.now.chains ≡ length layout.now.channels }
+    requires peaked { length peaks.old ≡ length layout.now.channels }
+    ensures { peaks.new ≡ raise_over (outputs_at layout.now.channels actor) (tokens_in pool.now) peaks.old }
+{
+    let outputs = layout.outputs(actor);
+    for channel in outputs {
+        let c = *channel as usize;
+        peaks[c] = peaks[c].max(pool.len(*channel));
+    }
+}
