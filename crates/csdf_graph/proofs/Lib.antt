@@ -10,6 +10,7 @@ pub mod RangeFacts
 pub mod FitLemmas
 pub mod CopyLemmas
 pub mod JoinedLemmas
+pub mod PortLemmas
 pub mod RateLemmas
 pub mod DeviceLemmas
 pub mod TokenLineLemmas

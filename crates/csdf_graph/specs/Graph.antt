@@ -3,6 +3,7 @@ use Rattle.std.specs.Prelude.{ℕ, suc, Bool, ◌==◌, if◌then◌else◌, Lis
 use Rattle.csdf_graph.specs.declared.graph.Kernel.{Kernel}
 use Rattle.csdf_graph.specs.declared.graph.Actor.{Actor as ActorCode}
 use Rattle.csdf_graph.specs.declared.graph.Channel.{Channel as ChannelCode}
+use Rattle.csdf_graph.specs.declared.ports.Ports.{Ports as PortsCode}
 
 -- an actor: its firing number k, counted from 0, is in phase k modulo its number of phases
 pub record Actor : Type 0 where
@@ -51,6 +52,17 @@ inputs_of channels a = numbers_from 0 (λ c. c.to == a) channels
 
 abbrev pub outputs_of : List Channel → ℕ → List ℕ
 outputs_of channels a = numbers_from 0 (λ c. c.from == a) channels
+
+-- the numbers of an actor's channels
+pub record Ports : Type 0 where
+  pub inputs : List ℕ
+  pub outputs : List ℕ
+
+abbrev pub ports_view : PortsCode → Ports
+ports_view p = record { inputs = p.inputs.items; outputs = p.outputs.items }
+
+abbrev pub ports_of : List Channel → ℕ → Ports
+ports_of channels a = record { inputs = inputs_of channels a; outputs = outputs_of channels a }
 
 -- how many channels end at an actor, and how many begin at it
 abbrev pub input_count : List Channel → ℕ → ℕ

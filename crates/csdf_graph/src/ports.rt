@@ -1,7 +1,8 @@
 //! The channels of each actor, gathered once.
 
 ghost use Rattle.std.specs.Prelude.{◌≡◌, ◌≤◌, length, map, IfOk};
-ghost use Rattle.csdf_graph.specs.Graph.{channel_view, inputs_of, outputs_of};
+ghost use Rattle.csdf_graph.specs.Graph.{channel_view, inputs_of, outputs_of, ports_view};
+ghost use Rattle.csdf_graph.specs.Whole.{all_ports};
 
 use crate::graph::Channel;
 use std::alloc::{AllocError, Global};
@@ -16,6 +17,20 @@ pub struct Ports {
     pub outputs: Vec<u32>,
 }
 
+impl Clone for Ports {
+    ghost use Rattle.std.specs.Prelude.{◌≡◌};
+    ghost use Rattle.csdf_graph.specs.Graph.{ports_view};
+
+    ghost is_clone = { λ old new. ports_view new ≡ ports_view old };
+
+    fn clone(&self) -> Result<Ports, AllocError> {
+        Ok(Ports {
+            inputs: self.inputs.clone()?,
+            outputs: self.outputs.clone()?,
+        })
+    }
+}
+
 impl Ports {
     /// The channels of this actor. An error says that memory ran out.
     pub fn of(alloc: Global, channels: &[Channel], actor: u32) -> Result<Ports, AllocError>
@@ -27,6 +42,23 @@ impl Ports {
         let outputs = outputs_of(alloc, channels, actor)?;
         Ok(Ports { inputs, outputs })
     }
+}
+
+/// The channels of each of so many actors.
+pub(crate) fn gathered(
+    alloc: Global,
+    channels: &[Channel],
+    actors: usize,
+) -> Result<Vec<Ports>, AllocError>
+    requires few_actors { actors ≤ 64 }
+    requires few_channels { length channels.now ≤ 128 }
+    ensures { IfOk result (λ v. map ports_view v.items ≡ all_ports (map channel_view channels.now) actors) }
+{
+    let mut ports = Vec::new(alloc);
+    for actor in 0..actors {
+        ports.push(Ports::of(alloc, channels, actor as u32)?)?;
+    }
+    Ok(ports)
 }
 
 fn inputs_of(alloc: Global, channels: &[Channel], actor: u32) -> Result<Vec<u32>, AllocError>

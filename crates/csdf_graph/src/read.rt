@@ -126,7 +126,8 @@ fn judged(alloc: Global, named: Named) -> Result<Graph, GraphFault>
     if !is_connected(alloc, actors.len(), &channels)? {
         return Err(GraphFault::NotConnected);
     }
-    Ok(Graph::new(actors, channels, cells, actor_names, channel_names))
+    let graph = Graph::new(alloc, actors, channels, cells, actor_names, channel_names)?;
+    Ok(graph)
 }
 
 /// The graph of a file.

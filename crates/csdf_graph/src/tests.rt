@@ -100,6 +100,24 @@ fn reads_the_pair(rt: HostRuntime) -> Result<(), Fail> {
 }
 
 #[test]
+fn gathers_channels(rt: HostRuntime) -> Result<(), Fail> {
+    let pair = read_graph(rt.alloc(), PAIR.as_bytes())?;
+    assert_eq!(rt; pair.actors().len(), 2);
+    assert_eq!(rt; (pair.inputs(0).len(), pair.inputs(1)), (0, [0].as_slice()));
+    assert_eq!(rt;
+        (pair.outputs(0), pair.outputs(1).len()),
+        ([0].as_slice(), 0)
+    );
+    let own = read_graph(rt.alloc(), LOOP.as_bytes())?.try_copy()?;
+    assert_eq!(rt; own.actors().len(), 1);
+    assert_eq!(rt;
+        (own.inputs(0), own.outputs(0)),
+        ([0].as_slice(), [0].as_slice())
+    );
+    Ok(())
+}
+
+#[test]
 fn refuses_edits_of_actors(rt: HostRuntime) -> Result<(), Fail> {
     let actor = At::Actor(0);
     let edits = [

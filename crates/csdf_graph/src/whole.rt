@@ -1,14 +1,15 @@
 //! A graph as a whole.
 
-ghost use Rattle.std.specs.Prelude.{◌≡◌, map, string_bytes, slice_get, option_map, IfOk};
-ghost use Rattle.csdf_graph.specs.Graph.{actor_view, channel_view};
+ghost use Rattle.std.specs.Prelude.{◌≡◌, ◌<◌, ◌≤◌, map, length, string_bytes, All, IfOk};
+ghost use Rattle.csdf_graph.specs.Graph.{actor_view, channel_view, inputs_of, outputs_of, ports_of, ports_view};
 ghost use Rattle.csdf_graph.specs.WellFormed.{IsWellFormed};
 ghost use Rattle.csdf_graph.specs.Links.{number_in};
 
 use crate::graph::{Actor, Channel};
 use crate::links::number_in;
+use crate::ports::{Ports, gathered};
 use indexmap::IndexSet;
-use std::alloc::AllocError;
+use std::alloc::{AllocError, Global};
 use std::marker::Model;
 
 /// A cyclo-static dataflow graph that has passed each check of [`read_graph`](crate::read_graph).
@@ -21,40 +22,45 @@ pub struct Graph {
     cells: Option<u32>,
     actor_names: IndexSet<String>,
     channel_names: IndexSet<String>,
+    ports: Vec<Ports>,
 }
 
 impl Model for Graph {
-    ghost use Rattle.std.specs.Prelude.{map, string_bytes};
-    ghost use Rattle.csdf_graph.specs.Graph.{Graph as GraphModel, actor_view, channel_view};
-    ghost use Rattle.csdf_graph.specs.Whole.{IsKept};
+    ghost use Rattle.std.specs.Prelude.{◌≡◌, length, map, string_bytes};
+    ghost use Rattle.csdf_graph.specs.Graph.{Graph as GraphModel, actor_view, channel_view, ports_view};
+    ghost use Rattle.csdf_graph.specs.Whole.{IsKept, all_ports};
 
     ghost Value = { GraphModel };
 
     ghost view = { λ g. record { actors = map actor_view g.actors.items; channels = map channel_view g.channels.items; cells = g.cells } };
 
-    ghost invariant = { λ g. IsKept (map string_bytes g.actor_names.keys) (map string_bytes g.channel_names.keys) (record { actors = map actor_view g.actors.items; channels = map channel_view g.channels.items; cells = g.cells }) };
+    ghost invariant = { λ g. IsKept (map string_bytes g.actor_names.keys) (map string_bytes g.channel_names.keys) (record { actors = map actor_view g.actors.items; channels = map channel_view g.channels.items; cells = g.cells }) × (map ports_view g.ports.items ≡ all_ports (map channel_view g.channels.items) (length (map actor_view g.actors.items))) };
 }
 
 impl Graph {
     ghost use Rattle.csdf_graph.specs.Whole.{IsKept};
 
+    /// The graph of these parts, with the channels of each actor gathered.
     pub(crate) fn new(
+        alloc: Global,
         actors: Vec<Actor>,
         channels: Vec<Channel>,
         cells: Option<u32>,
         actor_names: IndexSet<String>,
         channel_names: IndexSet<String>,
-    ) -> Graph
+    ) -> Result<Graph, AllocError>
         requires { IsKept (map string_bytes actor_names.keys) (map string_bytes channel_names.keys) (record { actors = map actor_view actors.items; channels = map channel_view channels.items; cells = cells }) }
-        ensures { result ≡ record { actors = map actor_view actors.items; channels = map channel_view channels.items; cells = cells } }
+        ensures { IfOk result (λ graph. graph ≡ record { actors = map actor_view actors.items; channels = map channel_view channels.items; cells = cells }) }
     {
-        Graph {
+        let ports = gathered(alloc, &channels, actors.len())?;
+        Ok(Graph {
             actors,
             channels,
             cells,
             actor_names,
             channel_names,
-        }
+            ports,
+        })
     }
 
     /// The actors, in file order.
@@ -78,6 +84,35 @@ impl Graph {
         ensures { result ≡ self.now.cells }
     {
         self.cells
+    }
+
+    /// The channels of the actor.
+    fn ports_of(&self, actor: u32) -> &Ports
+        requires { actor < length self.now.actors }
+        ensures ports { ports_view result.now ≡ ports_of self.now.channels actor }
+        ensures few { length self.now.channels ≤ 128 }
+    {
+        &self.ports[actor as usize]
+    }
+
+    /// The numbers of the channels that end at the actor, in file order.
+    pub fn inputs(&self, actor: u32) -> &[u32]
+        requires { actor < length self.now.actors }
+        ensures value { result.now ≡ inputs_of self.now.channels actor }
+        ensures within { All (λ c. c < length self.now.channels) result.now }
+        ensures few { length result.now ≤ 128 }
+    {
+        &self.ports_of(actor).inputs
+    }
+
+    /// The numbers of the channels that begin at the actor, in file order.
+    pub fn outputs(&self, actor: u32) -> &[u32]
+        requires { actor < length self.now.actors }
+        ensures value { result.now ≡ outputs_of self.now.channels actor }
+        ensures within { All (λ c. c < length self.now.channels) result.now }
+        ensures few { length result.now ≤ 128 }
+    {
+        &self.ports_of(actor).outputs
     }
 
     /// The number of the actor with this name, by one look-up.
@@ -112,6 +147,14 @@ impl Graph {
         let channels = self.channels.clone()?;
         let actor_names = self.actor_names.clone()?;
         let channel_names = self.channel_names.clone()?;
-        Ok(Graph::new(actors, channels, self.cells, actor_names, channel_names))
+        let ports = self.ports.clone()?;
+        Ok(Graph {
+            actors,
+            channels,
+            cells: self.cells,
+            actor_names,
+            channel_names,
+            ports,
+        })
     }
 }

@@ -30,4 +30,4 @@ new-requires c =
 pub returns : goal.returns
 returns c =
     let len : length (map actor_view c.args.named.parts.actors.items) ≡ c.len.result = omega (arith, c.args.named.parts.actors.ok.0, length-map c.args.named.parts.actors.items actor_view) in
-    (c.new.ensures, joined_by _ c.len.result (map channel_view c.args.named.parts.channels.items) c.in_ok-is_connected.field-0 len (rw c.deref.ensures.value at c.in_ok-is_connected.ensures) c.if-not-branch.false)
+    (c.in_ok-graph.ensures, joined_by _ c.len.result (map channel_view c.args.named.parts.channels.items) c.in_ok-is_connected.field-0 len (rw c.deref.ensures.value at c.in_ok-is_connected.ensures) c.if-not-branch.false)
