@@ -1,5 +1,5 @@
 -- The script of a file: the lines of its table `script`, with their limits.
-use Rattle.std.specs.Prelude.{ℕ, ℤ, pos, codes, nat_le, List, [], ◌∷◌, length, map, Option, Some, None, option_and_then, option_map, if◌then◌else◌, string_bytes, Result}
+use Rattle.std.specs.Prelude.{◌≡◌, ◌⊎◌, ℕ, ℤ, pos, codes, nat_le, List, [], ◌∷◌, length, map, Option, Some, None, option_and_then, option_map, if◌then◌else◌, string_bytes, Result, Ok, Err}
 use Rattle.toml.specs.Data.{Members, no_members, as_table, get_member}
 use Rattle.csdf_graph.specs.declared.fault.GraphFault.{GraphFault}
 use Rattle.csdf_graph.specs.declared.fault.GraphFault.TheVariants.{NotToml, Shape, Range}
@@ -10,7 +10,8 @@ use Rattle.csdf_graph.specs.Passes as passes
 use Rattle.csdf_graph.specs.Passes.{or_fault}
 use Rattle.csdf_graph.specs.Tree.{found_or, has_only, integer_or, optional_integer_at, texts_or_none}
 use Rattle.csdf_graph.specs.Ranges.{number_within}
-use Rattle.csdf_graph.specs.GraphText.{file_of}
+use Rattle.csdf_graph.specs.Graph.{Graph}
+use Rattle.csdf_graph.specs.GraphText.{file_of, IsGraphOf}
 
 infixl 10 ◌>>=◌
 abbrev ◌>>=◌ : {A B : Type 0} → Option A → (A → Option B) → Option B
@@ -74,3 +75,7 @@ script_in file =
 -- the script of a text, or its first fault
 abbrev pub script_of : List ℕ → Result Script GraphFault
 script_of bytes = passes.◌>>=◌ (or_fault NotToml (file_of bytes)) script_in
+
+-- the first fault of a text that is to have a graph and a script: the graph's, or where there is a graph, the script's
+abbrev pub IsFirstFaultOf : List ℕ → GraphFault → Type 0
+IsFirstFaultOf bytes fault = IsGraphOf bytes (Err fault) ⊎ ((g : Graph) × IsGraphOf bytes (Ok g) × (script_of bytes ≡ Err fault))

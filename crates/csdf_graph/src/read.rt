@@ -131,7 +131,7 @@ fn judged(alloc: Global, named: Named) -> Result<Graph, GraphFault>
 }
 
 /// The graph of a file.
-fn graph_of(alloc: Global, file: &Table) -> Result<Graph, GraphFault>
+pub(crate) fn graph_of(alloc: Global, file: &Table) -> Result<Graph, GraphFault>
     ensures { Tells itself result (IsGraphIn (table_view file.now)) }
 {
     let named = named_parts(alloc, file)?;

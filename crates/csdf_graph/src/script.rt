@@ -117,7 +117,7 @@ fn script_within(alloc: Global, draft: &ScriptDraft<'_>) -> Result<Script, Misfi
 
 /// The script of a file.
 #[tactic(auto, unfolding(crate::specs::ScriptText::script_in))]
-fn script_in(alloc: Global, file: &Table) -> Result<Script, GraphFault>
+pub(crate) fn script_in(alloc: Global, file: &Table) -> Result<Script, GraphFault>
     ensures { Gives script_view result (script_in (table_view file.now)) }
 {
     let draft = match file_draft(alloc, file) {

@@ -249,3 +249,26 @@ fn reads_scripts(rt: HostRuntime) -> Result<(), Fail> {
     }
     Ok(())
 }
+
+#[test]
+fn reads_graphs_with_scripts(rt: HostRuntime) -> Result<(), Fail> {
+    let read = read_graph_and_script(rt.alloc(), PAIR.as_bytes())?;
+    assert_eq!(rt; read.graph.actors().len(), 2);
+    assert_eq!(rt; read.script.lines.len(), 12);
+    let table = [
+        ("x", GraphFault::NotToml),
+        (
+            "actor = []\n[script]\nlimit = -1\n",
+            GraphFault::Range(At::File),
+        ),
+        ("script = 1\nactor = []\n", GraphFault::Shape(At::File)),
+    ];
+    for (text, fault) in table {
+        let answer = read_graph_and_script(rt.alloc(), text.as_bytes());
+        assert_eq!(rt; answer.err(), Some(fault));
+    }
+    let text = PAIR.replace(rt.alloc(), "[script]\n", "[script]\nlimit = -1\n")?;
+    let answer = read_graph_and_script(rt.alloc(), text.as_bytes());
+    assert_eq!(rt; answer.err(), Some(GraphFault::Range(At::Script)));
+    Ok(())
+}
