@@ -5,7 +5,7 @@ use Rattle.csdf_graph.specs.declared.fault.GraphFault.{GraphFault}
 use Rattle.csdf_graph.specs.declared.fault.GraphFault.TheVariants.{NotToml, Shape, Range}
 use Rattle.csdf_graph.specs.declared.fault.At.TheVariants as at
 use Rattle.csdf_graph.specs.declared.script.Script.{Script as ScriptCode}
-use Rattle.csdf_graph.specs.declared.script.ScriptDraft.{ScriptDraft as DraftCode}
+use Rattle.csdf_graph.specs.declared.script_text.ScriptDraft.{ScriptDraft as DraftCode}
 use Rattle.csdf_graph.specs.Passes as passes
 use Rattle.csdf_graph.specs.Passes.{or_fault}
 use Rattle.csdf_graph.specs.Tree.{found_or, has_only, integer_or, optional_integer_at, texts_or_none}

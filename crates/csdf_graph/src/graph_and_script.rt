@@ -6,7 +6,8 @@ ghost use Rattle.csdf_graph.specs.ScriptText.{script_view, script_of, IsFirstFau
 
 use crate::fault::GraphFault;
 use crate::read::{file_of, graph_of};
-use crate::script::{Script, script_in};
+use crate::script::Script;
+use crate::script_text::script_in;
 use crate::whole::Graph;
 use std::alloc::Global;
 

@@ -1,5 +1,5 @@
 use Rattle.std.proofs.Common.{◌≡◌, take, map, string_bytes}
-use Rattle.csdf_graph.proofs.script.owned.Given as goal
+use Rattle.csdf_graph.proofs.script_text.owned.Given as goal
 
 abbrev pub invariant-loop-text : goal.invariant-loop-text
 invariant-loop-text l = map string_bytes l.strings.items ≡ map (λ t. t.now) (take l.text-index l.texts)

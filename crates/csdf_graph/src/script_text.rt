@@ -1,0 +1,133 @@
+//! The script of a text.
+
+ghost use Rattle.std.specs.Prelude.{◌≡◌, map, option_and_then, string_bytes, IfOk};
+ghost use Rattle.toml.specs.View.{table_view};
+ghost use Rattle.csdf_graph.specs.Passes.{Gives, Reads};
+ghost use Rattle.csdf_graph.specs.ScriptText.{script_table, script_draft, draft_view, script_view, optional_within, script_within, script_of, script_in};
+
+use crate::fault::{At, GraphFault, Misfit};
+use crate::ranges::number_within;
+use crate::read::file_of;
+use crate::script::Script;
+use crate::tree::{has_only, integer_or, optional_integer_at, texts_or_none, value_at};
+use std::alloc::{AllocError, Global};
+use toml::Table;
+
+/// A script with its numbers as they stand in the file.
+#[derive(Debug, Drop)]
+struct ScriptDraft<'a> {
+    limit: i64,
+    supply: i64,
+    firings: Option<i64>,
+    lines: Vec<&'a str>,
+}
+
+const SCRIPT_KEYS: [&str; 4] = ["limit", "supply", "firings", "moves"];
+
+#[tactic(auto, unfolding(crate::specs::ScriptText::script_draft))]
+fn draft_of(alloc: Global, table: &Table) -> Result<ScriptDraft<'_>, Misfit>
+    ensures { Reads draft_view result (script_draft (table_view table.now)) }
+{
+    if !has_only(table, &SCRIPT_KEYS) {
+        return Err(Misfit::Fault);
+    }
+    let limit = integer_or(1_000_000, table, "limit").ok_or(Misfit::Fault)?;
+    let supply = integer_or(1_000_000, table, "supply").ok_or(Misfit::Fault)?;
+    let firings = optional_integer_at(table, "firings").ok_or(Misfit::Fault)?;
+    let lines = texts_or_none(alloc, table, "moves")?.ok_or(Misfit::Fault)?;
+    Ok(ScriptDraft {
+        limit,
+        supply,
+        firings,
+        lines,
+    })
+}
+
+/// The script of a file, with its numbers as they stand there.
+#[tactic(auto, unfolding(crate::specs::ScriptText::script_draft))]
+fn file_draft(alloc: Global, file: &Table) -> Result<ScriptDraft<'_>, Misfit>
+    ensures { Reads draft_view result (option_and_then script_draft (script_table (table_view file.now))) }
+{
+    let Some(value) = value_at(file, "script") else {
+        return Ok(ScriptDraft {
+            limit: 1_000_000,
+            supply: 1_000_000,
+            firings: None,
+            lines: Vec::new(alloc),
+        });
+    };
+    match value.as_table() {
+        Some(table) => draft_of(alloc, table),
+        None => Err(Misfit::Fault),
+    }
+}
+
+/// A number that may be absent, else from 0 to `high`.
+fn optional_within(high: u32, number: Option<i64>) -> Option<Option<u32>>
+    ensures { result ≡ optional_within high number }
+{
+    match number {
+        Some(number) => number_within(0, high, number).map(Some),
+        None => Some(None),
+    }
+}
+
+/// The texts in memory of their own.
+fn owned(alloc: Global, texts: &[&str]) -> Result<Vec<String>, AllocError>
+    ensures { IfOk result (λ v. map string_bytes v.items ≡ map (λ t. t.now) texts.now) }
+{
+    let mut strings = Vec::new(alloc);
+    for text in texts {
+        strings.push(String::from_str(alloc, text)?)?;
+    }
+    Ok(strings)
+}
+
+/// The script, where its numbers and the count of its lines are within their limits.
+#[tactic(auto, unfolding(crate::specs::ScriptText::script_within))]
+fn script_within(alloc: Global, draft: &ScriptDraft<'_>) -> Result<Script, Misfit>
+    ensures { Reads script_view result (script_within (draft_view draft.now)) }
+{
+    let limit = number_within(0, 1_000_000, draft.limit).ok_or(Misfit::Fault)?;
+    let supply = number_within(0, 1_000_000, draft.supply).ok_or(Misfit::Fault)?;
+    let firings = optional_within(1_048_576_000, draft.firings).ok_or(Misfit::Fault)?;
+    if draft.lines.len() > 100_000 {
+        return Err(Misfit::Fault);
+    }
+    let lines = owned(alloc, &draft.lines)?;
+    Ok(Script {
+        limit,
+        supply,
+        firings,
+        lines,
+    })
+}
+
+/// The script of a file.
+#[tactic(auto, unfolding(crate::specs::ScriptText::script_in))]
+pub(crate) fn script_in(alloc: Global, file: &Table) -> Result<Script, GraphFault>
+    ensures { Gives script_view result (script_in (table_view file.now)) }
+{
+    let draft = match file_draft(alloc, file) {
+        Ok(draft) => draft,
+        Err(Misfit::Fault) => return Err(GraphFault::Shape(At::Script)),
+        Err(Misfit::Memory) => return Err(GraphFault::Memory),
+    };
+    match script_within(alloc, &draft) {
+        Ok(script) => Ok(script),
+        Err(Misfit::Fault) => Err(GraphFault::Range(At::Script)),
+        Err(Misfit::Memory) => Err(GraphFault::Memory),
+    }
+}
+
+/// Reads the table `script` of a graph file, and looks at nothing else of it.
+///
+/// Without such a table, `limit` and `supply` are 1,000,000 and there are no lines. The error is
+/// the first of [`GraphFault::NotToml`], [`GraphFault::Shape`] and [`GraphFault::Range`] that the
+/// text has; or [`GraphFault::Memory`], which says nothing of it.
+pub fn read_script(alloc: Global, bytes: &[u8]) -> Result<Script, GraphFault>
+    ensures { Gives script_view result (script_of bytes.now) }
+{
+    let file = file_of(alloc, bytes)?;
+    script_in(alloc, &file)
+}
