@@ -1,8 +1,9 @@
 //! Token files: one decimal number a line.
 
-ghost use Rattle.std.specs.Prelude.{◌≡◌, ◌≢◌, ◌↔◌, ◌≤◌, true, Ok, Err, length, map, IfErr, IfOk, IfSome, OnErr, OnOk};
+ghost use Rattle.std.specs.Prelude.{◌≡◌, ◌≢◌, ◌↔◌, ◌≤◌, true, false, Ok, Err, length, map, IfErr, IfOk, IfSome, OnErr, OnOk};
 ghost use Rattle.std.specs.Io.KnownBytes.{Appends, IsAtEnd};
 ghost use Rattle.std.specs.List.{after_first, before_first, position};
+ghost use Rattle.csdf_graph.specs.Device.{TakesAtMost};
 ghost use Rattle.csdf_graph.specs.TokenText.{entry_of, is_newline, told_at, token_text, tokens_in, tokens_up_to, words_from};
 
 use crate::device::{Intake, Outlet};
@@ -46,6 +47,8 @@ pub fn read_tokens<I: Intake>(alloc: Global, reader: &mut I) -> Result<Vec<i32>,
         → IfSome (I.left reader.old) (λ bytes. tokens_in bytes ≡ Err fault)) }
     ensures read { result ≡ Err TokenFault.Read ↔ (I.failed reader.new ≡ true) }
     ensures whole { OnOk result (IsAtEnd (I.left reader.new)) }
+    ensures few { I.failed reader.new ≡ false
+        → TakesAtMost 16777217 (I.left reader.old) (I.left reader.new) }
 {
     match read_bytes(alloc, reader) {
         Ok(bytes) => tokens_of(alloc, &bytes),
