@@ -1,7 +1,10 @@
 -- What is in range once its numbers were read.
-use Rattle.std.proofs.Common.{◌≡◌, ℕ, ℤ, pos, negsuc, ◌-◌, ◌≤◌, max, ◌&&◌, nat_le, List, ◌++◌, length, drop, replicate, Option, Some, None, refl, sym, ap, subst, ◌∙◌, arith}
+use Rattle.std.proofs.Common.{◌≡◌, ℕ, ℤ, pos, negsuc, ◌-◌, ◌≤◌, max, ◌&&◌, nat_le, nat_lt, ◌^◌, List, ◌++◌, length, drop, replicate, Option, Some, None, refl, sym, ap, subst, ◌∙◌, arith}
 use Rattle.std.specs.Prelude.{option_map, All, IfSome}
-use Rattle.std.proofs.lemmas.Bool.{and_parts, leb-true}
+use Rattle.std.proofs.lemmas.Bool.{and_parts, leb-true, ltb-true}
+use Rattle.std.proofs.lemmas.List.Elements.{All-append, All-replicate}
+use Rattle.std.proofs.lemmas.Int.{ints}
+use Rattle.std.specs.Int.Signed.{le_z_yes}
 use Rattle.std.proofs.Math.Seq.{drop-append_seam}
 use Rattle.std.proofs.Common.{length-append}
 use Rattle.std.proofs.lemmas.List.{length-replicate}
@@ -11,7 +14,7 @@ use Rattle.csdf_graph.specs.Tree.{all_some}
 use Rattle.csdf_graph.specs.Graph.{Actor}
 use Rattle.csdf_graph.specs.Shape.{KernelDraft, source, sink, copy, sum, fir, ActorDraft, ChannelDraft}
 use Rattle.csdf_graph.specs.Ranges.{number_within, signed_within, weights_within, kernel_within, actor_within, RangedChannel, rates_within, tokens_within, capacity_within, initial_count, cells_within, channel_within}
-use Rattle.csdf_graph.specs.WellFormed.{IsKernel, IsActor}
+use Rattle.csdf_graph.specs.WellFormed.{IsWeight, IsFilter, IsKernel, IsActor}
 use Rattle.csdf_graph.proofs.PassFacts.{some_is, bind_some, map_some, cond_some, all_some_length, all_some_all}
 
 pub number_within_bounds : (low high : ℕ) (z : ℤ) (n : ℕ) → number_within low high z ≡ Some n → (low ≤ n) × (n ≤ high)
@@ -25,19 +28,36 @@ number_within_bounds low high (negsuc m) n e = absurd cc
 pub rates_within_small : (zs : List ℤ) (ns : List ℕ) → rates_within zs ≡ Some ns → All (λ n. n ≤ 64) ns
 rates_within_small zs ns e = all_some_all (number_within 0 64) (λ n. n ≤ 64) (λ z n h. (number_within_bounds 0 64 z n h).1) zs ns e
 
-weights_within_facts : (ws zs : List ℤ) → weights_within ws ≡ Some zs → (length zs ≡ 16) × (1 ≤ length ws) × (length ws ≤ 16) × (drop (length ws) zs ≡ replicate (16 - length ws) (pos 0))
+signed_is_weight : (z w : ℤ) → signed_within 15 z ≡ Some w → IsWeight w
+signed_is_weight (pos n) w e =
+    let p = cond_some (nat_lt n (2 ^ 15)) (Some (pos n)) w e in
+    let small = ltb-true n (2 ^ 15) p.0 in
+    subst IsWeight (some_is (pos n) w p.1) (le_z_yes tt, omega (arith, ints, small))
+signed_is_weight (negsuc n) w e =
+    let p = cond_some (nat_lt n (2 ^ 15)) (Some (negsuc n)) w e in
+    let small = ltb-true n (2 ^ 15) p.0 in
+    subst IsWeight (some_is (negsuc n) w p.1) (omega (arith, ints, small), le_z_yes tt)
+
+-- weights that are read, with zeros up to 16
+filter_fits : (ws zs : List ℤ) (shift : ℕ) → weights_within ws ≡ Some zs → shift ≤ 31 → IsFilter zs (length ws) shift
 unfolding weights_within
-weights_within_facts ws zs e =
-    let p = cond_some (nat_le 1 (length ws) && nat_le (length ws) 16) (option_map (λ ys. ys ++ replicate (16 - length ws) (pos 0)) (all_some (signed_within 15) ws)) zs e in
+filter_fits ws zs shift e low =
+    let zeros = replicate (16 - length ws) (pos 0) in
+    let p = cond_some (nat_le 1 (length ws) && nat_le (length ws) 16) (option_map (λ ys. ys ++ zeros) (all_some (signed_within 15) ws)) zs e in
     let q = and_parts (nat_le 1 (length ws)) (nat_le (length ws) 16) p.0 in
     let some = leb-true 1 (length ws) q.0 in
     let few = leb-true (length ws) 16 q.1 in
-    let m = map_some (λ ys. ys ++ replicate (16 - length ws) (pos 0)) (all_some (signed_within 15) ws) zs p.1 in
+    let m = map_some (λ ys. ys ++ zeros) (all_some (signed_within 15) ws) zs p.1 in
     let len = all_some_length (signed_within 15) ws m.0 m.1 in
-    let back : drop (length ws) (m.0 ++ replicate (16 - length ws) (pos 0)) ≡ replicate (16 - length ws) (pos 0) =
-    ap (λ n. drop n (m.0 ++ replicate (16 - length ws) (pos 0))) (sym len) ∙ drop-append_seam m.0 (replicate (16 - length ws) (pos 0)) in
-    let whole : length (m.0 ++ replicate (16 - length ws) (pos 0)) ≡ 16 = omega (arith, length-append m.0 (replicate (16 - length ws) (pos 0)), length-replicate (16 - length ws) (pos 0), len, some, few) in
-    (ap length (sym m.2) ∙ whole, some, few, ap (drop (length ws)) (sym m.2) ∙ back)
+    let small = all_some_all (signed_within 15) IsWeight signed_is_weight ws m.0 m.1 in
+    subst (λ ys. IsFilter ys (length ws) shift) m.2 (record {
+      count = omega (arith, length-append m.0 zeros, length-replicate (16 - length ws) (pos 0), len, some, few);
+      some_taps = some;
+      few_taps = few;
+      small = All-append IsWeight m.0 zeros small (All-replicate IsWeight (16 - length ws) (pos 0) (le_z_yes tt, le_z_yes tt));
+      rest = ap (λ n. drop n (m.0 ++ zeros)) (sym len) ∙ drop-append_seam m.0 zeros;
+      low_shift = low;
+    })
 
 kernel_within_fits : (d : KernelDraft) (k : Kernel) → kernel_within d ≡ Some k → IsKernel k
 unfolding kernel_within
@@ -48,8 +68,7 @@ kernel_within_fits sum k e = subst IsKernel (some_is kernel.Sum k e) tt
 kernel_within_fits (fir ws s) k e =
     let w = bind_some (weights_within ws) _ k e in
     let h = bind_some (number_within 0 31 s) _ k w.2 in
-    let f = weights_within_facts ws w.0 w.1 in
-    subst IsKernel (some_is (kernel.Fir w.0 (length ws) h.0) k h.2) (f.0, f.1, f.2, f.3, (number_within_bounds 0 31 s h.0 h.1).1)
+    subst IsKernel (some_is (kernel.Fir w.0 (length ws) h.0) k h.2) (filter_fits ws w.0 h.0 w.1 (number_within_bounds 0 31 s h.0 h.1).1)
 
 -- an actor in range
 pub actor_within_fits : (d : ActorDraft) (a : Actor) → actor_within d ≡ Some a → (a.name ≡ d.name) × IsActor a

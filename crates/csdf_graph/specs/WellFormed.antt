@@ -1,5 +1,5 @@
 -- What every graph keeps: all that reading tests of names, ranges, ends, phases, rates, ports and connection.
-use Rattle.std.specs.Prelude.{◌≡◌, ◌≢◌, ℕ, ◌-◌, ◌<◌, ◌≤◌, pos, true, List, length, map, drop, replicate, sum, sum_by, All, AllPairs, IfSome, slice_index_or}
+use Rattle.std.specs.Prelude.{◌≡◌, ◌≢◌, ℕ, ◌-◌, ◌<◌, ◌≤◌, ℤ, pos, negsuc, ◌≤ℤ◌, true, List, length, map, drop, replicate, sum, sum_by, All, AllPairs, IfSome, slice_index_or}
 use Rattle.csdf_graph.specs.declared.graph.Kernel.{Kernel}
 use Rattle.csdf_graph.specs.declared.graph.Kernel.TheVariants as kernel
 use Rattle.csdf_graph.specs.Graph.{Actor, Channel, Graph, phases_of}
@@ -12,9 +12,21 @@ pub record AreNames (names : List (List ℕ)) : Type 0 where
   pub formed : All (λ name. is_name name ≡ true) names
   pub distinct : AllPairs (λ m n. m ≢ n) names
 
--- 1 to 16 weights count, the rest are 0, and the shift is at most 31
+-- from -32,768 to 32,767
+abbrev pub IsWeight : ℤ → Type 0
+IsWeight weight = (negsuc 32767 ≤ℤ weight) × (weight ≤ℤ pos 32767)
+
+-- 1 to 16 weights count, and the rest are 0
+pub record IsFilter (weights : List ℤ) (taps shift : ℕ) : Type 0 where
+  pub count : length weights ≡ 16
+  pub some_taps : 1 ≤ taps
+  pub few_taps : taps ≤ 16
+  pub small : All IsWeight weights
+  pub rest : drop taps weights ≡ replicate (16 - taps) (pos 0)
+  pub low_shift : shift ≤ 31
+
 abbrev pub IsKernel : Kernel → Type 0
-IsKernel (kernel.Fir weights taps shift) = (length weights ≡ 16) × (1 ≤ taps) × (taps ≤ 16) × (drop taps weights ≡ replicate (16 - taps) (pos 0)) × (shift ≤ 31)
+IsKernel (kernel.Fir weights taps shift) = IsFilter weights taps shift
 IsKernel kernel.Source = Unit {0}
 IsKernel kernel.Sink = Unit {0}
 IsKernel kernel.Copy = Unit {0}
