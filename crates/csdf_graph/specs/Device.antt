@@ -1,5 +1,5 @@
 -- What a device of bytes says of them.
-use Rattle.std.specs.Prelude.{◌≡◌, ℕ, ◌<◌, ◌≤◌, Bool, List, length, take, Option}
+use Rattle.std.specs.Prelude.{◌≡◌, ℕ, ◌<◌, ◌≤◌, ◌==◌, Bool, ◌||◌, List, length, take, Option}
 use Rattle.std.specs.Io.KnownBytes.{Appends, Consumes, IsAtEnd}
 
 -- a call put n of the bytes that are left at the front of the buffer: none only at their end, or
@@ -32,3 +32,7 @@ pub record Fuse (D : Type 0) : Type 0 where
   pub device : D
   pub calls : ℕ
   pub failed : Bool
+
+-- it has failed, or no call passes any more
+abbrev pub is_blown : {D : Type 0} → Fuse D → Bool
+is_blown fuse = fuse.failed || (fuse.calls == 0)

@@ -1,7 +1,7 @@
 //! A device that fails.
 
 ghost use Rattle.std.specs.Prelude.{◌≡◌, ◌↔◌, ◌+◌, ◌<◌, true, false, IsErr, IfOk};
-ghost use Rattle.csdf_graph.specs.Device.{Emits, Fetches, Fuse};
+ghost use Rattle.csdf_graph.specs.Device.{Emits, Fetches, Fuse, is_blown};
 
 use crate::device::{DeviceFailed, Intake, Outlet};
 use std::marker::Model;
@@ -33,6 +33,13 @@ impl<D> Fused<D> {
             has_failed: false,
         }
     }
+
+    /// Whether no call passes any more.
+    fn is_blown(&self) -> bool
+        ensures { result ≡ is_blown self.now }
+    {
+        self.has_failed || self.calls == 0
+    }
 }
 
 impl<I: Intake> Intake for Fused<I> {
@@ -46,17 +53,18 @@ impl<I: Intake> Intake for Fused<I> {
         ensures fetched { IfOk result
             (λ n. Fetches (I.left self.old.device) (I.left self.new.device) buffer.new n) }
         ensures spent { self.old.calls ≡ 0 → IsErr result }
+        ensures blown { is_blown self.old ≡ true → self.new ≡ record self.old { failed = true } }
         ensures passes { 0 < self.old.calls → self.old.failed ≡ false
             → IsErr result ↔ (I.failed self.new.device ≡ true) }
         ensures counts { 0 < self.old.calls → self.old.failed ≡ false
             → self.new.calls + 1 ≡ self.old.calls }
     {
-        if self.has_failed || self.calls == 0 {
-            self.has_failed = true;
-            return Err(DeviceFailed);
-        }
-        self.calls -= 1;
-        let outcome = self.device.fetch(buffer);
+        let outcome = if self.is_blown() {
+            Err(DeviceFailed)
+        } else {
+            self.calls -= 1;
+            self.device.fetch(buffer)
+        };
         self.has_failed = outcome.is_err();
         outcome
     }
@@ -73,17 +81,18 @@ impl<O: Outlet> Outlet for Fused<O> {
         ensures emitted { IfOk result
             (λ n. Emits (O.written self.old.device) (O.written self.new.device) bytes.now n) }
         ensures spent { self.old.calls ≡ 0 → IsErr result }
+        ensures blown { is_blown self.old ≡ true → self.new ≡ record self.old { failed = true } }
         ensures passes { 0 < self.old.calls → self.old.failed ≡ false
             → IsErr result ↔ (O.failed self.new.device ≡ true) }
         ensures counts { 0 < self.old.calls → self.old.failed ≡ false
             → self.new.calls + 1 ≡ self.old.calls }
     {
-        if self.has_failed || self.calls == 0 {
-            self.has_failed = true;
-            return Err(DeviceFailed);
-        }
-        self.calls -= 1;
-        let outcome = self.device.emit(bytes);
+        let outcome = if self.is_blown() {
+            Err(DeviceFailed)
+        } else {
+            self.calls -= 1;
+            self.device.emit(bytes)
+        };
         self.has_failed = outcome.is_err();
         outcome
     }
