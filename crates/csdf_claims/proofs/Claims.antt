@@ -1,9 +1,11 @@
 -- What a claim's step tells, where it was won and where it was lost, and what the end of a claim tells.
-use Rattle.std.proofs.Common.{◌≡◌, ◌≢◌, ℕ, ◌+◌, ◌*◌, ◌<◌, ◌≤◌, Bool, cond, [], ◌∷◌, ◌++◌, length, sym, ap, ◌∙◌, arith, eq-eqb, ne_eqb, length-set, length-append}
+use Rattle.std.proofs.Common.{◌≡◌, ◌≢◌, ℕ, ◌+◌, ◌*◌, ◌<◌, ◌≤◌, Bool, cond, [], ◌∷◌, ◌++◌, length, sym, ap, ◌∙◌, arith, eq-eqb, ne_eqb, length-set}
+use Rattle.std.proofs.Common.{length-append}
 use mathlib.Core.Logic.{dite}
 use native.Mathlib.Decide.{ℕ_discrete}
 use Rattle.csdf_claims.specs.declared.rule.Track.{Track}
-use Rattle.csdf_claims.specs.Board.{track_of, Holds, Finds, looked, claimed, finished_view}
+use Rattle.csdf_claims.specs.declared.rule.View.{View}
+use Rattle.csdf_claims.specs.Board.{track_of, Holds, Finds, word_after_claim, looked, claimed, finished_view}
 use Rattle.csdf_claims.specs.Steps.{Seated, after_claim}
 use Rattle.csdf_claims.proofs.Moves.{track_here}
 use Rattle.csdf_claims.proofs.Found.{found_count, found_within}
@@ -16,16 +18,45 @@ module _ (me me' : Seated) (a k n : ℕ) (now : ◌≡◌ {A = Seated} me' (afte
   lost_now miss = now ∙ ap (λ (b : Bool). (cond b (claimed me.0 a k) (looked me.0 a n), me.1)) (ne_eqb n (2 * k) miss)
 
   pub found_now : me'.0.found ≡ n
-  found_now = dite (ℕ_discrete n (2 * k)) (λ hit. ap (λ (z : Seated). z.0.found) (won_now hit) ∙ sym hit) (λ miss. ap (λ (z : Seated). z.0.found) (lost_now miss))
+  found_now = dite (ℕ_discrete n (2 * k)) (λ hit. ap (λ (z : Seated). z.0.found) (won_now hit) ∙ sym hit)
+      (λ miss. ap (λ (z : Seated). z.0.found) (lost_now miss))
 
   pub holds_now : n ≡ 2 * k → a < length me.0.tracks → Holds me'.0 a k
-  holds_now hit lt = ap (λ (z : Seated). (track_of z.0 a).held) (won_now hit) ∙ ap (λ (t : Track). t.held) (track_here me.0 a (record (track_of me.0 a) { held = k ∷ []; seen = k }) (2 * k) lt)
+  holds_now hit lt = ap (λ (z : Seated). (track_of z.0 a).held) (won_now hit)
+      ∙ ap (λ (t : Track). t.held) (track_here me.0 a (record (track_of me.0 a) { held = k ∷ []; seen = k }) (2 * k) lt)
 
 -- the place finished at most k firings before firing k
-pub count_before : (me me' : Seated) (a k : ℕ) → ◌≡◌ {A = Seated} me' (finished_view me.0 a k, me.1) → a < length me.0.tracks → Finds me'.0 a (2 * k + 2) → (length (track_of me.0 a).finished ≤ k) × (2 * k + 2 ≤ 32768002)
+pub count_before : (me me' : Seated) (a k : ℕ) → ◌≡◌ {A = Seated} me' (finished_view me.0 a k, me.1) → a < length me.0.tracks → Finds me'.0 a (2 * k + 2)
+    → (length (track_of me.0 a).finished ≤ k) × (2 * k + 2 ≤ 32768002)
 count_before me me' a k now lt f =
     let t : Track = record { held = []; finished = (track_of me.0 a).finished ++ k ∷ []; seen = k + 1 } in
     let len : length me'.0.tracks ≡ length me.0.tracks = ap (λ (z : Seated). length z.0.tracks) now ∙ length-set me.0.tracks a t in
-    let e : (track_of me'.0 a).finished ≡ (track_of me.0 a).finished ++ k ∷ [] = ap (λ (z : Seated). (track_of z.0 a).finished) now ∙ ap (λ (z : Track). z.finished) (track_here me.0 a t me.0.found lt) in
-    let n = ap length e in
-    (omega (arith, length-append (track_of me.0 a).finished (k ∷ []), found_count me'.0 a (2 * k + 2) f (omega arith)), found_within me'.0 a (2 * k + 2) f (omega arith))
+    let e : (track_of me'.0 a).finished ≡ (track_of me.0 a).finished ++ k ∷ [] =
+    ap (λ (z : Seated). (track_of z.0 a).finished) now ∙ ap (λ (z : Track). z.finished) (track_here me.0 a t me.0.found lt) in
+    let n = ap length e in (
+      omega (arith, length-append (track_of me.0 a).finished (k ∷ []), found_count me'.0 a (2 * k + 2) f (omega arith)),
+      found_within me'.0 a (2 * k + 2) f
+          (omega arith),
+    )
+
+-- what a load of the word of actor a told the place, which found n
+pub record Looked (me me' : Seated) (a n : ℕ) : Type 0 where
+  pub track : a < length me.0.tracks
+  pub before : Finds me.0 a n
+  pub now : ◌≡◌ {A = Seated} me' (looked me.0 a n, me.1)
+  pub after : Finds me'.0 a n
+
+-- what a compare-exchange for firing k of actor a told the place, which found n
+pub record Tried (me me' : Seated) (a k n : ℕ) : Type 0 where
+  pub track : a < length me.0.tracks
+  pub before : Finds me.0 a n
+  pub now : ◌≡◌ {A = Seated} me' (after_claim me.0 a k n, me.1)
+  pub after : Finds me'.0 a (word_after_claim k n)
+  pub found : me'.0.found ≡ n
+
+-- what the store that ends the claim on firing k of actor a told the place
+pub record Ended (me me' : Seated) (a k w : ℕ) (v : View) : Type 0 where
+  pub track : a < length me.0.tracks
+  pub held : Holds me.0 a k
+  pub now : ◌≡◌ {A = Seated} me' (v, me.1)
+  pub after : Finds me'.0 a w

@@ -12,10 +12,13 @@ below n (y ∷ ys) = one_if (ltb y n) + below n ys
 
 one_below : (y n : ℕ) → one_if (ltb y (suc n)) ≡ one_if (ltb y n) + one_if (eqb y n)
 one_below y n = dite (dec_lt y n)
-    (λ lt. let a : one_if (ltb y (suc n)) ≡ 1 = ap one_if (lt-ltb y (suc n) (omega arith)) in let b : one_if (ltb y n) ≡ 1 = ap one_if (lt-ltb y n lt) in let c : one_if (eqb y n) ≡ 0 = ap one_if (ne_eqb y n (λ e. absurd (omega arith))) in omega arith)
+    (λ lt. let a : one_if (ltb y (suc n)) ≡ 1 = ap one_if (lt-ltb y (suc n) (omega arith)) in let b : one_if (ltb y n) ≡ 1 = ap one_if (lt-ltb y n lt) in
+    let c : one_if (eqb y n) ≡ 0 = ap one_if (ne_eqb y n (λ e. absurd (omega arith))) in omega arith)
     (λ ge. dite (ℕ_discrete y n)
-    (λ e. let a : one_if (ltb y (suc n)) ≡ 1 = ap one_if (lt-ltb y (suc n) (omega arith)) in let b : one_if (ltb y n) ≡ 0 = ap one_if (le-ltb y n (omega arith)) in let c : one_if (eqb y n) ≡ 1 = ap one_if (eq-eqb y n e) in omega arith)
-    (λ ne. let a : one_if (ltb y (suc n)) ≡ 0 = ap one_if (le-ltb y (suc n) (omega arith)) in let b : one_if (ltb y n) ≡ 0 = ap one_if (le-ltb y n (omega arith)) in let c : one_if (eqb y n) ≡ 0 = ap one_if (ne_eqb y n ne) in omega arith))
+    (λ e. let a : one_if (ltb y (suc n)) ≡ 1 = ap one_if (lt-ltb y (suc n) (omega arith)) in
+    let b : one_if (ltb y n) ≡ 0 = ap one_if (le-ltb y n (omega arith)) in let c : one_if (eqb y n) ≡ 1 = ap one_if (eq-eqb y n e) in omega arith)
+    (λ ne. let a : one_if (ltb y (suc n)) ≡ 0 = ap one_if (le-ltb y (suc n) (omega arith)) in
+    let b : one_if (ltb y n) ≡ 0 = ap one_if (le-ltb y n (omega arith)) in let c : one_if (eqb y n) ≡ 0 = ap one_if (ne_eqb y n ne) in omega arith))
 
 below_suc : (n : ℕ) (xs : List ℕ) → below (suc n) xs ≡ below n xs + times n xs
 below_suc n [] = refl

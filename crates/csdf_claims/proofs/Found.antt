@@ -16,13 +16,24 @@ set_at (x ∷ xs) zero v u e = refl
 set_at (x ∷ xs) (suc i) v u e = set_at xs i v u e
 
 -- before a step
-pub finds_before : (actors : ℕ) (words : List ℕ) (places : List View) (i : ℕ) (v : View) (a : ℕ) → IsLawful actors words places → get_elem? places i ≡ some v → length v.tracks ≡ actors → Finds v a (word_of words a)
-finds_before actors words places i v a L at n = (words, places, record { lawful = subst (λ (k : ℕ). IsLawful k words places) (sym n) L; seat = i; here = at }, refl)
+pub finds_before : (actors : ℕ) (words : List ℕ) (places : List View) (i : ℕ) (v : View) (a : ℕ) → IsLawful actors words places → get_elem? places i ≡ some v
+    → length v.tracks ≡ actors → Finds v a (word_of words a)
+finds_before actors words places i v a L at n =
+    (words, places, record { lawful = subst (λ (k : ℕ). IsLawful k words places) (sym n) L; seat = i; here = at }, refl)
 
 -- after a step on the word of actor a
-pub finds_after : (actors : ℕ) (words : List ℕ) (places : List View) (i : ℕ) (v u : View) (a m : ℕ) → IsLawful actors (set words (a + 1) m) (set places i u) → get_elem? places i ≡ some v → length u.tracks ≡ actors → a + 1 < length words → Finds u a m
-finds_after actors words places i v u a m L at n room =
-    (set words (a + 1) m, set places i u, record { lawful = subst (λ (k : ℕ). IsLawful k (set words (a + 1) m) (set places i u)) (sym n) L; seat = i; here = set_at places i v u at }, get_or-set_same words (a + 1) m 0 room)
+pub finds_after : (actors : ℕ) (words : List ℕ) (places : List View) (i : ℕ) (v u : View) (a m : ℕ) → IsLawful actors (set words (a + 1) m) (set places i u)
+    → get_elem? places i ≡ some v → length u.tracks ≡ actors → a + 1 < length words → Finds u a m
+finds_after actors words places i v u a m L at n room = (
+  set words (a + 1) m,
+  set places i u,
+  record {
+    lawful = subst (λ (k : ℕ). IsLawful k (set words (a + 1) m) (set places i u)) (sym n) L;
+    seat = i;
+    here = set_at places i v u at;
+  },
+  get_or-set_same words (a + 1) m 0 room,
+)
 
 module _ (v : View) (words : List ℕ) (places : List View) (S : SitsAt v words places) (a : ℕ) (lt : a < length v.tracks) where
   abbrev w : ℕ
@@ -59,7 +70,8 @@ module _ (v : View) (words : List ℕ) (places : List View) (S : SitsAt v words 
 
   -- no firing was finished twice
   pub sits_once : (x : ℕ) → times x F ≤ 1
-  sits_once x = let m = sits_counts x in dite (dec_lt x (w / 2)) (λ h. let e = mine.finished x h in omega arith) (λ h. let e = mine.unfinished x (omega arith) in omega arith)
+  sits_once x = let m = sits_counts x in dite (dec_lt x (w / 2)) (λ h. let e = mine.finished x h in omega arith)
+      (λ h. let e = mine.unfinished x (omega arith) in omega arith)
 
   pub sits_none : (x : ℕ) → w / 2 ≤ x → times x F ≡ 0
   sits_none x h = let m = sits_counts x in let e = mine.unfinished x h in omega arith

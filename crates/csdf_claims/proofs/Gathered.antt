@@ -13,13 +13,15 @@ any_entry = record { finished = 0; held = None }
 
 module _ (es : List Entry) (me : Seated) (id : TableId) (r : IsRecordOf es me id) (words : List ℕ) (places : List View) (S : SitsAt me.0 words places) where
   -- where the record counts what the word says, each firing below it was finished here
-  all_below : (a : ℕ) → a < length me.0.tracks → ((d : Entry) → (get_or es a d).finished ≡ word_of words a / 2) → AreAllBelow (word_of words a / 2) (track_of me.0 a).finished
+  all_below : (a : ℕ) → a < length me.0.tracks → ((d : Entry) → (get_or es a d).finished ≡ word_of words a / 2)
+      → AreAllBelow (word_of words a / 2) (track_of me.0 a).finished
   all_below a lt is =
       let n = r.entry_count in
       let full : length (track_of me.0 a).finished ≡ word_of words a / 2 = sym (r.each a any_entry (omega arith)).finished ∙ is any_entry in
       (sits_all me.0 words places S a lt full, sits_none me.0 words places S a lt)
 
-  pub gathers : (totals : List ℕ) → ((i : ℕ) (d : Entry) → i < length es → (get_or es i d).finished ≡ word_of words i / 2) → ((i : ℕ) (d : Entry) → i < length es → get_or totals i 0 ≡ (get_or es i d).finished) → Gathers me.0 totals
+  pub gathers : (totals : List ℕ) → ((i : ℕ) (d : Entry) → i < length es → (get_or es i d).finished ≡ word_of words i / 2)
+      → ((i : ℕ) (d : Entry) → i < length es → get_or totals i 0 ≡ (get_or es i d).finished) → Gathers me.0 totals
   gathers totals is writes = (
     words,
     places,
@@ -30,7 +32,8 @@ module _ (es : List Entry) (me : Seated) (id : TableId) (r : IsRecordOf es me id
         (e, subst (λ (k : ℕ). AreAllBelow k (track_of me.0 a).finished) e (all_below a h (λ d. is a d (omega arith)))),
   )
 
-  pub lacks : (a n : ℕ) → a < length es → n ≡ word_of words a / 2 → ((d : Entry) → (get_or es a d).finished ≢ n) → ((i : ℕ) (d : Entry) → i < a → (get_or es i d).finished ≡ word_of words i / 2) → Lacks me.0 a n
+  pub lacks : (a n : ℕ) → a < length es → n ≡ word_of words a / 2 → ((d : Entry) → (get_or es a d).finished ≢ n)
+      → ((i : ℕ) (d : Entry) → i < a → (get_or es i d).finished ≡ word_of words i / 2) → Lacks me.0 a n
   lacks a n h is ne first =
       let m = r.entry_count in
       let e = (r.each a any_entry h).finished in

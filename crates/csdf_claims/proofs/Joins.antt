@@ -1,5 +1,6 @@
 -- Two places made one: the board stays lawful, and the two had nothing in common.
-use Rattle.std.proofs.Common.{◌≡◌, ◌≢◌, ℕ, zero, suc, ◌+◌, ◌/◌, ◌%◌, ◌<◌, ◌≤◌, List, [], ◌∷◌, ◌++◌, length, get_or, set, take, sym, refl, ap, ◌∙◌, subst, arith, ⊎_elim, length-append, None, Some}
+use Rattle.std.proofs.Common.{◌≡◌, ◌≢◌, ℕ, zero, suc, ◌+◌, ◌/◌, ◌%◌, ◌<◌, ◌≤◌, List, [], ◌∷◌, ◌++◌, length, get_or, set, take, sym, refl, ap, ◌∙◌, subst}
+use Rattle.std.proofs.Common.{arith, ⊎_elim, length-append, None, Some}
 use mathlib.Core.Option.{none, some}
 use lib.ListN.{get_elem?}
 use Rattle.std.specs.Prelude.{option_to_list, Option}
@@ -10,7 +11,8 @@ use Rattle.atomic_table.proofs.Lists.{at_set, set_again, set_else}
 use Rattle.csdf_claims.specs.declared.rule.Track.{Track}
 use Rattle.csdf_claims.specs.declared.rule.View.{View}
 use Rattle.csdf_claims.specs.declared.place.Entry.{Entry}
-use Rattle.csdf_claims.specs.Board.{track_of, times, claims, finishes, word_of, IsLawfulAt, IsLawful, SitsAt, Holds, HasFinished, IsHolding, joined_view, joined_track, spent_view}
+use Rattle.csdf_claims.specs.Board.{track_of, times, claims, finishes, word_of, IsLawfulAt, IsLawful, SitsAt, Holds, HasFinished, IsHolding, joined_view}
+use Rattle.csdf_claims.specs.Board.{joined_track, spent_view}
 use Rattle.csdf_claims.specs.Steps.{Seated, StandTells}
 use Rattle.csdf_claims.specs.Face.{IsEntryOf, IsRecordOf, joined_entry, first_of_two}
 use Rattle.csdf_claims.proofs.Totals.{times-append, times_one_same, total_set}
@@ -18,7 +20,8 @@ use Rattle.csdf_claims.proofs.Tracks.{track_of-joined, length-joined}
 use Rattle.csdf_claims.proofs.Moves.{Board, Law}
 use Rattle.csdf_claims.proofs.Found.{sits_once, sits_claim, sits_claim_at, sits_count, sits_within}
 
-module _ (places : List View) (i j : ℕ) (v w : View) (at : get_elem? places i ≡ some v) (apart : j ≢ i) (other : get_elem? (set places i (joined_view v w)) j ≡ some w)
+module _ (places : List View) (i j : ℕ) (v w : View) (at : get_elem? places i ≡ some v) (apart : j ≢ i)
+    (other : get_elem? (set places i (joined_view v w)) j ≡ some w)
     (a : ℕ) (both : track_of (joined_view v w) a ≡ joined_track (track_of v a) (track_of w a)) where
   abbrev Ps : List View
   Ps = set (set places i (joined_view v w)) j spent_view
@@ -28,7 +31,8 @@ module _ (places : List View) (i j : ℕ) (v w : View) (at : get_elem? places i 
       let f : View → ℕ = λ u. times x (track_of u a).held in
       let one = total_set f places i v (joined_view v w) at in
       let two = total_set f (set places i (joined_view v w)) j w spent_view other in
-      let e : times x (track_of (joined_view v w) a).held ≡ times x (track_of v a).held + times x (track_of w a).held = ap (λ (t : Track). times x t.held) both ∙ times-append x (track_of v a).held (track_of w a).held in
+      let e : times x (track_of (joined_view v w) a).held ≡ times x (track_of v a).held + times x (track_of w a).held =
+      ap (λ (t : Track). times x t.held) both ∙ times-append x (track_of v a).held (track_of w a).held in
       omega arith
 
   same_finishes : (x : ℕ) → finishes Ps a x ≡ finishes places a x
@@ -36,10 +40,12 @@ module _ (places : List View) (i j : ℕ) (v w : View) (at : get_elem? places i 
       let f : View → ℕ = λ u. times x (track_of u a).finished in
       let one = total_set f places i v (joined_view v w) at in
       let two = total_set f (set places i (joined_view v w)) j w spent_view other in
-      let e : times x (track_of (joined_view v w) a).finished ≡ times x (track_of v a).finished + times x (track_of w a).finished = ap (λ (t : Track). times x t.finished) both ∙ times-append x (track_of v a).finished (track_of w a).finished in
+      let e : times x (track_of (joined_view v w) a).finished ≡ times x (track_of v a).finished + times x (track_of w a).finished =
+      ap (λ (t : Track). times x t.finished) both ∙ times-append x (track_of v a).finished (track_of w a).finished in
       omega arith
 
-  seen_after : (k : ℕ) → ((seat : ℕ) (u : View) → get_elem? places seat ≡ some u → (track_of u a).seen ≤ k) → (seat : ℕ) (u : View) → get_elem? Ps seat ≡ some u → (track_of u a).seen ≤ k
+  seen_after : (k : ℕ) → ((seat : ℕ) (u : View) → get_elem? places seat ≡ some u → (track_of u a).seen ≤ k) → (seat : ℕ) (u : View)
+      → get_elem? Ps seat ≡ some u → (track_of u a).seen ≤ k
   seen_after k old seat u e =
       let mine = old i v at in
       let theirs = old j w (sym (set_else places i j (joined_view v w) apart) ∙ other) in
@@ -57,16 +63,19 @@ module _ (places : List View) (i j : ℕ) (v w : View) (at : get_elem? places i 
     seen = seen_after k L.seen;
   }
 
-pub joins : (actors i j : ℕ) (v w : View) → length v.tracks ≡ actors → length w.tracks ≡ actors → (s : Board) → Law actors s → get_elem? s.views i ≡ some v → j ≢ i
+pub joins : (actors i j : ℕ) (v w : View) → length v.tracks ≡ actors → length w.tracks ≡ actors → (s : Board) → Law actors s → get_elem? s.views i ≡ some v
+    → j ≢ i
     → get_elem? (set s.views i (joined_view v w)) j ≡ some w → IsLawful actors s.words (set (set s.views i (joined_view v w)) j spent_view)
 joins actors i j v w lv lw s L at apart other = record {
   count = L.count;
   spare = L.spare;
   within = L.within;
-  each = λ a h. joined_at s.views i j v w at apart other a (track_of-joined v.tracks w.tracks a (omega arith) (lw ∙ sym lv)) (word_of s.words a / 2) (word_of s.words a % 2) (L.each a h);
+  each = λ a h. joined_at s.views i j v w at apart other a (track_of-joined v.tracks w.tracks a (omega arith) (lw ∙ sym lv)) (word_of s.words a / 2)
+      (word_of s.words a % 2) (L.each a h);
 }
 
-pub stands : (actors slots id : ℕ) (me : Seated) → length me.0.tracks ≡ actors → Allows (Law actors) slots id me 0 (λ n. n) (StandTells (step slots 0 0 0 none) me)
+pub stands : (actors slots id : ℕ) (me : Seated) → length me.0.tracks ≡ actors
+    → Allows (Law actors) slots id me 0 (λ n. n) (StandTells (step slots 0 0 0 none) me)
 stands actors slots id me n s L _ at _ = (
   me.0,
   keeps,
@@ -76,7 +85,8 @@ stands actors slots id me n s L _ at _ = (
 )
 
 -- what the joined place says of the two that it was made of
-module _ (v w : View) (lens : length w.tracks ≡ length v.tracks) (words : List ℕ) (places : List View) (S : SitsAt (joined_view v w) words places) (a : ℕ) (lt : a < length v.tracks) where
+module _ (v w : View) (lens : length w.tracks ≡ length v.tracks) (words : List ℕ) (places : List View) (S : SitsAt (joined_view v w) words places) (a : ℕ)
+    (lt : a < length v.tracks) where
   abbrev u : View
   u = joined_view v w
 
@@ -88,7 +98,8 @@ module _ (v w : View) (lens : length w.tracks ≡ length v.tracks) (words : List
 
   pub no_common_firing : (x : ℕ) → HasFinished v a x → HasFinished w a x → ⊥
   no_common_firing x hv hw =
-      let e : times x (track_of u a).finished ≡ times x (track_of v a).finished + times x (track_of w a).finished = ap (λ (t : Track). times x t.finished) both ∙ times-append x (track_of v a).finished (track_of w a).finished in
+      let e : times x (track_of u a).finished ≡ times x (track_of v a).finished + times x (track_of w a).finished =
+      ap (λ (t : Track). times x t.finished) both ∙ times-append x (track_of v a).finished (track_of w a).finished in
       let o = sits_once u words places S a inside x in absurd (omega arith)
 
   held_split : (x : ℕ) → times x (track_of u a).held ≡ times x (track_of v a).held + times x (track_of w a).held
@@ -109,7 +120,8 @@ module _ (v w : View) (lens : length w.tracks ≡ length v.tracks) (words : List
 
   pub few_firings : length (track_of v a).finished + length (track_of w a).finished ≤ 16384001
   few_firings =
-      let e : length (track_of u a).finished ≡ length (track_of v a).finished + length (track_of w a).finished = ap (λ (t : Track). length t.finished) both ∙ length-append (track_of v a).finished (track_of w a).finished in
+      let e : length (track_of u a).finished ≡ length (track_of v a).finished + length (track_of w a).finished =
+      ap (λ (t : Track). length t.finished) both ∙ length-append (track_of v a).finished (track_of w a).finished in
       let n = sits_count u words places S a inside in let m = sits_within u words places S a inside in omega arith
 
 -- the entry of the two
@@ -118,10 +130,12 @@ held_by_one None y apart = refl
 held_by_one (Some k) None apart = refl
 held_by_one (Some k) (Some j) apart = absurd (apart k j refl refl)
 
-module _ (es fs new : List Entry) (me ou : Seated) (id id₂ : TableId) (r : IsRecordOf es me id) (q : IsRecordOf fs ou id₂) (lens : length ou.0.tracks ≡ length me.0.tracks)
+module _ (es fs new : List Entry) (me ou : Seated) (id id₂ : TableId) (r : IsRecordOf es me id) (q : IsRecordOf fs ou id₂)
+    (lens : length ou.0.tracks ≡ length me.0.tracks)
     (size : length new ≡ length es) (sums : (i : ℕ) (d : Entry) → i < length fs → get_or new i d ≡ joined_entry (get_or es i d) (get_or fs i d))
     (apart : (a : ℕ) → a < length me.0.tracks → IsHolding me.0 a → IsHolding ou.0 a → ⊥) where
-  both_entries : (a : ℕ) (d : Entry) → a < length es → IsEntryOf (joined_entry (get_or es a d) (get_or fs a d)) (joined_track (track_of me.0 a) (track_of ou.0 a))
+  both_entries : (a : ℕ) (d : Entry) → a < length es
+      → IsEntryOf (joined_entry (get_or es a d) (get_or fs a d)) (joined_track (track_of me.0 a) (track_of ou.0 a))
   both_entries a d h =
       let n = r.entry_count in let m = q.entry_count in
       let e = r.each a d h in let f = q.each a d (omega arith) in
@@ -129,7 +143,8 @@ module _ (es fs new : List Entry) (me ou : Seated) (id id₂ : TableId) (r : IsR
       let H : List ℕ → List ℕ → List ℕ = λ xs ys. xs ++ ys in
       record {
         finished = omega (arith, length-append (track_of me.0 a).finished (track_of ou.0 a).finished, e.finished, f.finished);
-        held = held_by_one x y (λ k j ek ej. apart a (omega arith) (k, sym e.held ∙ ap option_to_list ek) (j, sym f.held ∙ ap option_to_list ej)) ∙ (λ i. H (e.held i) (f.held i));
+        held = held_by_one x y (λ k j ek ej. apart a (omega arith) (k, sym e.held ∙ ap option_to_list ek) (j, sym f.held ∙ ap option_to_list ej))
+            ∙ (λ i. H (e.held i) (f.held i));
       }
 
   pub record_joined : IsRecordOf new (joined_view me.0 ou.0, me.1) id
@@ -139,7 +154,8 @@ module _ (es fs new : List Entry) (me ou : Seated) (id id₂ : TableId) (r : IsR
     entry_count = size ∙ r.entry_count ∙ sym (length-joined me.0.tracks ou.0.tracks lens);
     each = λ a d h. let n = r.entry_count in let m = q.entry_count in
         let t = track_of-joined me.0.tracks ou.0.tracks a (omega arith) lens in
-        subst (λ (z : Track). IsEntryOf (get_or new a d) z) (sym t) (subst (λ (z : Entry). IsEntryOf z (joined_track (track_of me.0 a) (track_of ou.0 a))) (sym (sums a d (omega arith))) (both_entries a d (omega arith)));
+        subst (λ (z : Track). IsEntryOf (get_or new a d) z) (sym t)
+        (subst (λ (z : Entry). IsEntryOf z (joined_track (track_of me.0 a) (track_of ou.0 a))) (sym (sums a d (omega arith))) (both_entries a d (omega arith)));
   }
 
 pub take_front : {A : Type 0} (xs ys : List A) (n : ℕ) → n ≡ length xs → take n (xs ++ ys) ≡ xs
@@ -149,13 +165,23 @@ take_front (x ∷ xs) ys zero e = absurd (omega arith)
 take_front (x ∷ xs) ys (suc n) e = ap (λ zs. x ∷ zs) (take_front xs ys n (omega arith))
 
 -- the steps of a join, put together
-pub sits_joined : (me me' me'' : Seated) (u : View) → ◌≡◌ {A = Seated} me' (u, me.1) → (me'' ≡ me') × ((words : List ℕ) × (places : List View) × SitsAt me'.0 words places)
+pub sits_joined : (me me' me'' : Seated) (u : View) → ◌≡◌ {A = Seated} me' (u, me.1)
+    → (me'' ≡ me') × ((words : List ℕ) × (places : List View) × SitsAt me'.0 words places)
     → (◌≡◌ {A = Seated} me'' (u, me.1)) × ((words : List ℕ) × (places : List View) × SitsAt u words places)
 sits_joined me me' me'' u e t = let s = t.1 in (t.0 ∙ e, (s.0, s.1, subst (λ (z : Seated). SitsAt z.0 s.0 s.1) e s.2))
 
+-- what the two steps of a join told: the place has both views, and sits with them at a lawful board
+pub record Joined (me ou me' : Seated) (actors : ℕ) : Type 0 where
+  pub here : length me.0.tracks ≡ actors
+  pub there : length ou.0.tracks ≡ actors
+  pub lens : length ou.0.tracks ≡ length me.0.tracks
+  pub now : ◌≡◌ {A = Seated} me' (joined_view me.0 ou.0, me.1)
+  pub sits : (words : List ℕ) × (places : List View) × SitsAt (joined_view me.0 ou.0) words places
+
 -- the sums of the two records fit
 pub sums_fit : (es fs : List Entry) (me ou : Seated) (id id₂ : TableId) → IsRecordOf es me id → IsRecordOf fs ou id₂ → length ou.0.tracks ≡ length me.0.tracks
-    → (words : List ℕ) (places : List View) → SitsAt (joined_view me.0 ou.0) words places → (i : ℕ) (d : Entry) → i < length fs → (get_or es i d).finished + (get_or fs i d).finished < 4294967296
+    → (words : List ℕ) (places : List View) → SitsAt (joined_view me.0 ou.0) words places → (i : ℕ) (d : Entry) → i < length fs
+    → (get_or es i d).finished + (get_or fs i d).finished < 4294967296
 sums_fit es fs me ou id id₂ r q lens words places S i d h =
     let n = r.entry_count in let m = q.entry_count in
     let e = (r.each i d (omega arith)).finished in let f = (q.each i d h).finished in

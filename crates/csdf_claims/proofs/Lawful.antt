@@ -1,5 +1,6 @@
 -- Each kind of step keeps the board lawful.
-use Rattle.std.proofs.Common.{◌≡◌, ◌≢◌, ℕ, ◌+◌, ◌/◌, ◌%◌, ◌<◌, ◌≤◌, List, [], ◌∷◌, ◌++◌, length, set, sym, refl, ap, ◌∙◌, subst, arith, get_or-set_same, get_or-set_other, length-set, ⊎_elim}
+use Rattle.std.proofs.Common.{◌≡◌, ◌≢◌, ℕ, ◌+◌, ◌/◌, ◌%◌, ◌<◌, ◌≤◌, List, [], ◌∷◌, ◌++◌, length, set, sym, refl, ap, ◌∙◌, subst, arith, get_or-set_same}
+use Rattle.std.proofs.Common.{get_or-set_other, length-set, ⊎_elim}
 use mathlib.Core.Logic.{dite}
 use mathlib.Core.Option.{some}
 use native.Mathlib.Decide.{ℕ_discrete}
@@ -44,8 +45,10 @@ module _ (places : List View) (i : ℕ) (v u : View) (at : get_elem? places i �
   -- a claim on an idle actor
   pub won : (k : ℕ) → IsLawfulAt places a k 0 → H u ≡ k ∷ [] → F u ≡ F v → (track_of u a).seen ≤ k → IsLawfulAt Ps a k 1
   won k L eh ef s = record {
-    held = let c = claims_change k in let e : times k (H u) ≡ 1 = ap (times k) eh ∙ times_one_same k k refl in let h = L.held in let m = total_at (λ w. times k (track_of w a).held) places i v at in omega arith;
-    held_elsewhere = λ x ne. let c = claims_change x in let e : times x (H u) ≡ 0 = ap (times x) eh ∙ times_one_other x k ne in let h = L.held_elsewhere x ne in omega arith;
+    held = let c = claims_change k in let e : times k (H u) ≡ 1 = ap (times k) eh ∙ times_one_same k k refl in let h = L.held in
+        let m = total_at (λ w. times k (track_of w a).held) places i v at in omega arith;
+    held_elsewhere = λ x ne. let c = claims_change x in let e : times x (H u) ≡ 0 = ap (times x) eh ∙ times_one_other x k ne in
+        let h = L.held_elsewhere x ne in omega arith;
     finished = λ x lt. let c = finishes_change x in let e : times x (F u) ≡ times x (F v) = ap (times x) ef in let h = L.finished x lt in omega arith;
     unfinished = λ x le. let c = finishes_change x in let e : times x (F u) ≡ times x (F v) = ap (times x) ef in let h = L.unfinished x le in omega arith;
     seen = seen_change k L.seen s;
@@ -63,14 +66,18 @@ module _ (places : List View) (i : ℕ) (v u : View) (at : get_elem? places i �
   -- the firing that was held is finished
   pub ended : (k : ℕ) → IsLawfulAt places a k 1 → H v ≡ k ∷ [] → H u ≡ [] → F u ≡ F v ++ k ∷ [] → (track_of u a).seen ≤ k + 1 → IsLawfulAt Ps a (k + 1) 0
   ended k L hv eh ef s = record {
-    held = let c = claims_change (k + 1) in let e : times (k + 1) (H u) ≡ 0 = ap (times (k + 1)) eh in let h = L.held_elsewhere (k + 1) (λ q. absurd (omega arith)) in omega arith;
+    held = let c = claims_change (k + 1) in let e : times (k + 1) (H u) ≡ 0 = ap (times (k + 1)) eh in
+        let h = L.held_elsewhere (k + 1) (λ q. absurd (omega arith)) in omega arith;
     held_elsewhere = λ x _. let c = claims_change x in let e : times x (H u) ≡ 0 = ap (times x) eh in dite (ℕ_discrete x k)
-        (λ q. let h : claims places a x ≡ 1 = subst (λ (z : ℕ). claims places a z ≡ 1) (sym q) L.held in let o : times x (H v) ≡ 1 = ap (times x) hv ∙ times_one_same x k q in omega arith)
+        (λ q. let h : claims places a x ≡ 1 = subst (λ (z : ℕ). claims places a z ≡ 1) (sym q) L.held in
+        let o : times x (H v) ≡ 1 = ap (times x) hv ∙ times_one_same x k q in omega arith)
         (λ ne. let h = L.held_elsewhere x ne in omega arith);
-    finished = λ x lt. let c = finishes_change x in let e : times x (F u) ≡ times x (F v) + times x (k ∷ []) = ap (times x) ef ∙ times-append x (F v) (k ∷ []) in dite (ℕ_discrete x k)
+    finished = λ x lt. let c = finishes_change x in
+        let e : times x (F u) ≡ times x (F v) + times x (k ∷ []) = ap (times x) ef ∙ times-append x (F v) (k ∷ []) in dite (ℕ_discrete x k)
         (λ q. let h = L.unfinished x (omega arith) in let o = times_one_same x k q in omega arith)
         (λ ne. let h = L.finished x (omega arith) in let o = times_one_other x k ne in omega arith);
-    unfinished = λ x le. let c = finishes_change x in let e : times x (F u) ≡ times x (F v) + times x (k ∷ []) = ap (times x) ef ∙ times-append x (F v) (k ∷ []) in
+    unfinished = λ x le. let c = finishes_change x in
+        let e : times x (F u) ≡ times x (F v) + times x (k ∷ []) = ap (times x) ef ∙ times-append x (F v) (k ∷ []) in
         let h = L.unfinished x (omega arith) in let o = times_one_other x k (λ q. absurd (omega arith)) in omega arith;
     seen = seen_change (k + 1) (λ seat w e. let h = L.seen seat w e in omega arith) s;
   }
@@ -78,7 +85,8 @@ module _ (places : List View) (i : ℕ) (v u : View) (at : get_elem? places i �
   -- the claim is given up
   pub given_up : (k : ℕ) → IsLawfulAt places a k 1 → H v ≡ k ∷ [] → H u ≡ [] → F u ≡ F v → (track_of u a).seen ≤ k → IsLawfulAt Ps a k 0
   given_up k L hv eh ef s = record {
-    held = let c = claims_change k in let e : times k (H u) ≡ 0 = ap (times k) eh in let h = L.held in let o : times k (H v) ≡ 1 = ap (times k) hv ∙ times_one_same k k refl in omega arith;
+    held = let c = claims_change k in let e : times k (H u) ≡ 0 = ap (times k) eh in let h = L.held in
+        let o : times k (H v) ≡ 1 = ap (times k) hv ∙ times_one_same k k refl in omega arith;
     held_elsewhere = λ x ne. let c = claims_change x in let e : times x (H u) ≡ 0 = ap (times x) eh in let h = L.held_elsewhere x ne in omega arith;
     finished = λ x lt. let c = finishes_change x in let e : times x (F u) ≡ times x (F v) = ap (times x) ef in let h = L.finished x lt in omega arith;
     unfinished = λ x le. let c = finishes_change x in let e : times x (F u) ≡ times x (F v) = ap (times x) ef in let h = L.unfinished x le in omega arith;
@@ -86,12 +94,15 @@ module _ (places : List View) (i : ℕ) (v u : View) (at : get_elem? places i �
   }
 
 -- a step on the word of actor a, at which the place i gets the view u, keeps the board lawful where it does so for a
-pub steps : (actors : ℕ) (words : List ℕ) (places : List View) (i : ℕ) (v u : View) (a m k b : ℕ) → IsLawful actors words places → get_elem? places i ≡ some v → a < actors
-    → m ≤ 32768002 → m / 2 ≡ k → m % 2 ≡ b → IsLawfulAt (set places i u) a k b → ((c : ℕ) → c ≢ a → track_of u c ≡ track_of v c) → IsLawful actors (set words (a + 1) m) (set places i u)
+pub steps : (actors : ℕ) (words : List ℕ) (places : List View) (i : ℕ) (v u : View) (a m k b : ℕ) → IsLawful actors words places
+    → get_elem? places i ≡ some v → a < actors
+    → m ≤ 32768002 → m / 2 ≡ k → m % 2 ≡ b → IsLawfulAt (set places i u) a k b → ((c : ℕ) → c ≢ a → track_of u c ≡ track_of v c)
+    → IsLawful actors (set words (a + 1) m) (set places i u)
 steps actors words places i v u a m k b L at lt most ek eb La other =
     let room : a + 1 < length words = (let n = L.count in omega arith) in
     let same : word_of (set words (a + 1) m) a ≡ m = get_or-set_same words (a + 1) m 0 room in
-    let apart : (c : ℕ) → c ≢ a → word_of (set words (a + 1) m) c ≡ word_of words c = λ c ne. get_or-set_other words (a + 1) (c + 1) m 0 (λ e. ne (omega arith)) in
+    let apart : (c : ℕ) → c ≢ a → word_of (set words (a + 1) m) c ≡ word_of words c =
+    λ c ne. get_or-set_other words (a + 1) (c + 1) m 0 (λ e. ne (omega arith)) in
     record {
       count = length-set words (a + 1) m ∙ L.count;
       spare = get_or-set_other words (a + 1) 0 m 0 (λ e. absurd (omega arith)) ∙ L.spare;
@@ -105,5 +116,6 @@ steps actors words places i v u a m k b L at lt most ek eb La other =
           (λ ne. let is = apart c ne in let t = other c ne in let old = L.each c h in
           let Q : ℕ × ℕ → Type 0 = λ z. IsLawfulAt (set places i u) c z.0 z.1 in
           subst Q (λ j. (sym (ap (λ (z : ℕ). z / 2) is) j, sym (ap (λ (z : ℕ). z % 2) is) j))
-          (kept places i v u at c _ _ old (ap (λ (t' : Track). t'.held) t) (ap (λ (t' : Track). t'.finished) t) (let s = old.seen i v at in let e = ap (λ (t' : Track). t'.seen) t in omega arith)));
+          (kept places i v u at c _ _ old (ap (λ (t' : Track). t'.held) t) (ap (λ (t' : Track). t'.finished) t)
+          (let s = old.seen i v at in let e = ap (λ (t' : Track). t'.seen) t in omega arith)));
     }

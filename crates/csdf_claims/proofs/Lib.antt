@@ -3,6 +3,7 @@ pub mod Counting
 pub mod Tracks
 pub mod Lawful
 pub mod Found
+pub mod Keeps
 pub mod Moves
 pub mod Records
 pub mod Claims
@@ -10,5 +11,5 @@ pub mod Openings
 pub mod Lists
 pub mod Joins
 pub mod Gathered
-pub mod Laws
+pub mod EachPlace
 pub mod Examples

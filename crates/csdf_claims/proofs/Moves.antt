@@ -1,5 +1,6 @@
 -- Each step of a place keeps the rule of the table, and tells what it is said to tell.
-use Rattle.std.proofs.Common.{◌≡◌, ◌≢◌, ℕ, ◌+◌, ◌*◌, ◌/◌, ◌%◌, ◌<◌, ◌≤◌, Bool, true, false, eqb, cond, [], ◌∷◌, ◌++◌, length, set, sym, refl, ap, ◌∙◌, subst, arith, eq-eqb, ne_eqb, get_or-set_same, get_or-set_other, length-set}
+use Rattle.std.proofs.Common.{◌≡◌, ◌≢◌, ℕ, ◌+◌, ◌*◌, ◌/◌, ◌%◌, ◌<◌, ◌≤◌, Bool, true, false, eqb, cond, [], ◌∷◌, ◌++◌, length, set, sym, refl, ap, ◌∙◌, subst}
+use Rattle.std.proofs.Common.{arith, eq-eqb, ne_eqb, get_or-set_same, get_or-set_other, length-set}
 use mathlib.Core.Logic.{dite}
 use mathlib.Core.Option.{none, some}
 use native.Mathlib.Decide.{ℕ_discrete}
@@ -48,11 +49,13 @@ module _ (actors slots id : ℕ) (me : Seated) (a : ℕ) (size : length me.0.tra
     looks_lawful : Law actors (stepped s (a + 1) w id me.1 (looked me.0 a w) keeps)
     looks_lawful = let t = track_here me.0 a (record (track_of me.0 a) { seen = w / 2 }) w inside in
         steps actors s.words s.views id me.0 (looked me.0 a w) a w (w / 2) (w % 2) L at lt (L.within a lt) refl refl
-        (kept s.views id me.0 (looked me.0 a w) at a (w / 2) (w % 2) (L.each a lt) (ap (λ (z : Track). z.held) t) (ap (λ (z : Track). z.finished) t) (let e = ap (λ (z : Track). z.seen) t in omega arith))
+        (kept s.views id me.0 (looked me.0 a w) at a (w / 2) (w % 2) (L.each a lt) (ap (λ (z : Track). z.held) t) (ap (λ (z : Track). z.finished) t)
+        (let e = ap (λ (z : Track). z.seen) t in omega arith))
         (track_there me.0 a (record (track_of me.0 a) { seen = w / 2 }) w)
 
     looks_after : Finds (looked me.0 a w) a w
-    looks_after = finds_after actors s.words s.views id me.0 (looked me.0 a w) a w looks_lawful at (length-set me.0.tracks a (record (track_of me.0 a) { seen = w / 2 }) ∙ size) room
+    looks_after = finds_after actors s.words s.views id me.0 (looked me.0 a w) a w looks_lawful at
+        (length-set me.0.tracks a (record (track_of me.0 a) { seen = w / 2 }) ∙ size) room
 
     looks_before : Finds me.0 a w
     looks_before = finds_before actors s.words s.views id me.0 a L at size
@@ -68,7 +71,8 @@ module _ (actors slots id : ℕ) (me : Seated) (a : ℕ) (size : length me.0.tra
           let even : w % 2 ≡ 0 = omega arith in
           let old : IsLawfulAt s.views a k 0 = subst (λ (z : ℕ × ℕ). IsLawfulAt s.views a z.0 z.1) (λ i. (half i, even i)) (L.each a lt) in
           steps actors s.words s.views id me.0 (claimed me.0 a k) a (2 * k + 1) k 1 L at lt (omega arith) (omega arith) (omega arith)
-          (won s.views id me.0 (claimed me.0 a k) at a k old (ap (λ (z : Track). z.held) t) (ap (λ (z : Track). z.finished) t) (let e = ap (λ (z : Track). z.seen) t in omega arith))
+          (won s.views id me.0 (claimed me.0 a k) at a k old (ap (λ (z : Track). z.held) t) (ap (λ (z : Track). z.finished) t)
+          (let e = ap (λ (z : Track). z.seen) t in omega arith))
           (track_there me.0 a mine (2 * k))
 
       wins_after : Finds (claimed me.0 a k) a (2 * k + 1)
@@ -89,7 +93,8 @@ module _ (actors slots id : ℕ) (me : Seated) (a : ℕ) (size : length me.0.tra
       ends_lawful =
           let t = track_here me.0 a over me.0.found inside in let o = odd in let most = L.within a lt in
           steps actors s.words s.views id me.0 (finished_view me.0 a k) a (2 * k + 2) (k + 1) 0 L at lt (omega arith) (omega arith) (omega arith)
-          (ended s.views id me.0 (finished_view me.0 a k) at a k at_k has (ap (λ (z : Track). z.held) t) (ap (λ (z : Track). z.finished) t) (let e = ap (λ (z : Track). z.seen) t in omega arith))
+          (ended s.views id me.0 (finished_view me.0 a k) at a k at_k has (ap (λ (z : Track). z.held) t) (ap (λ (z : Track). z.finished) t)
+          (let e = ap (λ (z : Track). z.seen) t in omega arith))
           (track_there me.0 a over me.0.found)
 
       ends_after : Finds (finished_view me.0 a k) a (2 * k + 2)
@@ -102,7 +107,8 @@ module _ (actors slots id : ℕ) (me : Seated) (a : ℕ) (size : length me.0.tra
       gives_lawful =
           let t = track_here me.0 a free me.0.found inside in let o = odd in let most = L.within a lt in let was = at_k.seen id me.0 at in
           steps actors s.words s.views id me.0 (handed_back me.0 a) a (2 * k) k 0 L at lt (omega arith) (omega arith) (omega arith)
-          (given_up s.views id me.0 (handed_back me.0 a) at a k at_k has (ap (λ (z : Track). z.held) t) (ap (λ (z : Track). z.finished) t) (let e = ap (λ (z : Track). z.seen) t in omega arith))
+          (given_up s.views id me.0 (handed_back me.0 a) at a k at_k has (ap (λ (z : Track). z.held) t) (ap (λ (z : Track). z.finished) t)
+          (let e = ap (λ (z : Track). z.seen) t in omega arith))
           (track_there me.0 a free me.0.found)
 
       gives_after : Finds (handed_back me.0 a) a (2 * k)
@@ -119,7 +125,8 @@ module _ (actors slots id : ℕ) (me : Seated) (a : ℕ) (size : length me.0.tra
         subst P e (looks_before s L at, refl, looks_after s L at),
   )
 
-  pub claims_firing : (k : ℕ) → k ≤ 16384000 → Allows (Law actors) slots id me (a + 1) (λ n. either (eqb n (2 * k)) (2 * k + 1) n) (ClaimTells (step slots (a + 1) (2 * k) (2 * k + 1) none) me)
+  pub claims_firing : (k : ℕ) → k ≤ 16384000
+      → Allows (Law actors) slots id me (a + 1) (λ n. either (eqb n (2 * k)) (2 * k + 1) n) (ClaimTells (step slots (a + 1) (2 * k) (2 * k + 1) none) me)
   claims_firing k small s L _ at _ = let w : ℕ = word_of s.words a in dite (ℕ_discrete w (2 * k))
       (λ hit. let yes : true ≡ eqb w (2 * k) = sym (eq-eqb w (2 * k) hit) in (
         claimed me.0 a k,
@@ -127,7 +134,8 @@ module _ (actors slots id : ℕ) (me : Seated) (a : ℕ) (size : length me.0.tra
         tt,
         subst (λ (b : Bool). Law actors (stepped s (a + 1) (either b (2 * k + 1) w) id me.1 (claimed me.0 a k) keeps)) yes (wins_lawful s L at k hit small),
         λ c j is _ same. let e : a ≡ c = omega arith in let d : k ≡ j = omega arith in
-            let P : ℕ × ℕ → Type 0 = λ z. Finds me.0 z.0 w × (◌≡◌ {A = Seated} (claimed me.0 a k, me.1) (after_claim me.0 z.0 z.1 w, me.1)) × Finds (claimed me.0 a k) z.0 (cond (eqb w (2 * z.1)) (2 * z.1 + 1) w) in
+            let P : ℕ × ℕ → Type 0 = λ z. Finds me.0 z.0 w × (◌≡◌ {A = Seated} (claimed me.0 a k, me.1) (after_claim me.0 z.0 z.1 w, me.1))
+            × Finds (claimed me.0 a k) z.0 (cond (eqb w (2 * z.1)) (2 * z.1 + 1) w) in
             subst P (λ i. (e i, d i)) (
               looks_before s L at,
               ap (λ (b : Bool). (cond b (claimed me.0 a k) (looked me.0 a w), me.1)) yes,
@@ -140,7 +148,8 @@ module _ (actors slots id : ℕ) (me : Seated) (a : ℕ) (size : length me.0.tra
         tt,
         subst (λ (b : Bool). Law actors (stepped s (a + 1) (either b (2 * k + 1) w) id me.1 (looked me.0 a w) keeps)) no_hit (looks_lawful s L at),
         λ c j is _ same. let e : a ≡ c = omega arith in let d : k ≡ j = omega arith in
-            let P : ℕ × ℕ → Type 0 = λ z. Finds me.0 z.0 w × (◌≡◌ {A = Seated} (looked me.0 a w, me.1) (after_claim me.0 z.0 z.1 w, me.1)) × Finds (looked me.0 a w) z.0 (cond (eqb w (2 * z.1)) (2 * z.1 + 1) w) in
+            let P : ℕ × ℕ → Type 0 = λ z. Finds me.0 z.0 w × (◌≡◌ {A = Seated} (looked me.0 a w, me.1) (after_claim me.0 z.0 z.1 w, me.1))
+            × Finds (looked me.0 a w) z.0 (cond (eqb w (2 * z.1)) (2 * z.1 + 1) w) in
             subst P (λ i. (e i, d i)) (
               looks_before s L at,
               ap (λ (b : Bool). (cond b (claimed me.0 a k) (looked me.0 a w), me.1)) no_hit,
@@ -148,28 +157,34 @@ module _ (actors slots id : ℕ) (me : Seated) (a : ℕ) (size : length me.0.tra
             ),
       ))
 
-  pub finishes_firing : (k : ℕ) → Holds me.0 a k → Allows (Law actors) slots id me (a + 1) (λ _. 2 * k + 2) (λ _. FinishTells (step slots (a + 1) (2 * k + 2) 0 none) me (2 * k + 2))
+  pub finishes_firing : (k : ℕ) → Holds me.0 a k
+      → Allows (Law actors) slots id me (a + 1) (λ _. 2 * k + 2) (λ _. FinishTells (step slots (a + 1) (2 * k + 2) 0 none) me (2 * k + 2))
   finishes_firing k has s L _ at _ = (
     finished_view me.0 a k,
     keeps,
     tt,
     ends_lawful s L at k has,
     λ c j is _ has'. let e : a ≡ c = omega arith in
-        let P : ℕ → Type 0 = λ b. (j : ℕ) → Holds me.0 b j → (◌≡◌ {A = Seated} (finished_view me.0 a k, me.1) (finished_view me.0 b j, me.1)) × Finds (finished_view me.0 a k) b (2 * j + 2) in
+        let P : ℕ → Type 0 = λ b. (j : ℕ) → Holds me.0 b j → (◌≡◌ {A = Seated} (finished_view me.0 a k, me.1) (finished_view me.0 b j, me.1))
+        × Finds (finished_view me.0 a k) b (2 * j + 2) in
         let base : P a = λ j' h. let d : k ≡ j' = head_of (sym has ∙ h) in
-        subst (λ (z : ℕ). (◌≡◌ {A = Seated} (finished_view me.0 a k, me.1) (finished_view me.0 a z, me.1)) × Finds (finished_view me.0 a k) a (2 * z + 2)) d (refl, ends_after s L at k has) in
+        subst (λ (z : ℕ). (◌≡◌ {A = Seated} (finished_view me.0 a k, me.1) (finished_view me.0 a z, me.1)) × Finds (finished_view me.0 a k) a (2 * z + 2)) d
+        (refl, ends_after s L at k has) in
         subst P e base j has',
   )
 
-  pub gives_up : (k : ℕ) → Holds me.0 a k → Allows (Law actors) slots id me (a + 1) (λ _. 2 * k) (λ _. GiveUpTells (step slots (a + 1) (2 * k) 0 none) me (2 * k))
+  pub gives_up : (k : ℕ) → Holds me.0 a k
+      → Allows (Law actors) slots id me (a + 1) (λ _. 2 * k) (λ _. GiveUpTells (step slots (a + 1) (2 * k) 0 none) me (2 * k))
   gives_up k has s L _ at _ = (
     handed_back me.0 a,
     keeps,
     tt,
     gives_lawful s L at k has,
     λ c j is _ has'. let e : a ≡ c = omega arith in
-        let P : ℕ → Type 0 = λ b. (j : ℕ) → Holds me.0 b j → (◌≡◌ {A = Seated} (handed_back me.0 a, me.1) (handed_back me.0 b, me.1)) × Finds (handed_back me.0 a) b (2 * j) in
+        let P : ℕ → Type 0 = λ b. (j : ℕ) → Holds me.0 b j → (◌≡◌ {A = Seated} (handed_back me.0 a, me.1) (handed_back me.0 b, me.1))
+        × Finds (handed_back me.0 a) b (2 * j) in
         let base : P a = λ j' h. let d : k ≡ j' = head_of (sym has ∙ h) in
-        subst (λ (z : ℕ). (◌≡◌ {A = Seated} (handed_back me.0 a, me.1) (handed_back me.0 a, me.1)) × Finds (handed_back me.0 a) a (2 * z)) d (refl, gives_after s L at k has) in
+        subst (λ (z : ℕ). (◌≡◌ {A = Seated} (handed_back me.0 a, me.1) (handed_back me.0 a, me.1)) × Finds (handed_back me.0 a) a (2 * z)) d
+        (refl, gives_after s L at k has) in
         subst P e base j has',
   )

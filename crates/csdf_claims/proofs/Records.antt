@@ -1,5 +1,6 @@
 -- The record of a place says what its view says, before a step and after it.
-use Rattle.std.proofs.Common.{◌≡◌, ℕ, ◌+◌, ◌*◌, ◌/◌, ◌%◌, ◌<◌, Bool, true, eqb, cond, List, [], length, get_or, set, sym, ap, ◌∙◌, subst, arith, eq-eqb, ne_eqb, get_or-set_same, get_or-set_other, length-set}
+use Rattle.std.proofs.Common.{◌≡◌, ℕ, ◌+◌, ◌*◌, ◌/◌, ◌%◌, ◌<◌, Bool, true, eqb, cond, List, [], length, get_or, set, sym, ap, ◌∙◌, subst, arith, eq-eqb}
+use Rattle.std.proofs.Common.{ne_eqb, get_or-set_same, get_or-set_other, length-set}
 use mathlib.Core.Logic.{dite}
 use native.Mathlib.Decide.{ℕ_discrete}
 use Rattle.std.specs.Prelude.{option_to_list, Some, None}
@@ -15,12 +16,14 @@ use Rattle.csdf_claims.specs.declared.board.Board.TheInside as Board
 use Rattle.csdf_claims.proofs.Moves.{changed, track_here, track_there}
 
 -- a place has as many tracks as its board has actors
-pub size_of : (es : List Entry) (me : Seated) (id board : TableId) (actors : ℕ) → IsRecordOf es me id → id ≡ board → board.words ≡ actors + 1 → length me.0.tracks ≡ actors
+pub size_of : (es : List Entry) (me : Seated) (id board : TableId) (actors : ℕ) → IsRecordOf es me id → id ≡ board → board.words ≡ actors + 1
+    → length me.0.tracks ≡ actors
 size_of es me id board actors r e w = let t = r.tracks in let s : id.words ≡ board.words = ap (λ (z : TableId). z.words) e in omega arith
 
 -- what a call knows of its board and place
 pub seated : (p : Place.Inside) (b : Board.Inside) (P : PlaceFace) (B : BoardFace)
-    → ◌≡◌ {A = PlaceFace} (record { board = p.seat.table_id; view = p.seat.me.0 }) P → ◌≡◌ {A = BoardFace} (record { id = b.table.shared.table_id; actors = b.table.shared.key }) B
+    → ◌≡◌ {A = PlaceFace} (record { board = p.seat.table_id; view = p.seat.me.0 }) P
+    → ◌≡◌ {A = BoardFace} (record { id = b.table.shared.table_id; actors = b.table.shared.key }) B
     → IsRecordOf p.entries.items p.seat.me p.seat.table_id → b.table.shared.table_id.words ≡ b.table.shared.key + 1 → P.board ≡ B.id
     → (p.seat.table_id ≡ b.table.shared.table_id) × (length p.seat.me.0.tracks ≡ b.table.shared.key) × (0 < b.table.shared.table_id.words)
 seated p b P B pv bv r w e =
@@ -36,23 +39,30 @@ pub record Ready (me : Seated) (id board : TableId) (actors a : ℕ) : Type 0 wh
   pub word : a + 1 < board.words
 
 pub ready : (p : Place.Inside) (b : Board.Inside) (P : PlaceFace) (B : BoardFace) (a : ℕ)
-    → ◌≡◌ {A = PlaceFace} (record { board = p.seat.table_id; view = p.seat.me.0 }) P → ◌≡◌ {A = BoardFace} (record { id = b.table.shared.table_id; actors = b.table.shared.key }) B
+    → ◌≡◌ {A = PlaceFace} (record { board = p.seat.table_id; view = p.seat.me.0 }) P
+    → ◌≡◌ {A = BoardFace} (record { id = b.table.shared.table_id; actors = b.table.shared.key }) B
     → IsRecordOf p.entries.items p.seat.me p.seat.table_id → b.table.shared.table_id.words ≡ b.table.shared.key + 1
     → P.board ≡ B.id → a < B.actors → Ready p.seat.me p.seat.table_id b.table.shared.table_id b.table.shared.key a
 ready p b P B a pv bv r w e h =
     let same : p.seat.table_id ≡ b.table.shared.table_id = ap (λ (z : PlaceFace). z.board) pv ∙ e ∙ sym (ap (λ (z : BoardFace). z.id) bv) in
-    let size : length p.seat.me.0.tracks ≡ b.table.shared.key = size_of p.entries.items p.seat.me p.seat.table_id b.table.shared.table_id b.table.shared.key r same w in
+    let size : length p.seat.me.0.tracks ≡ b.table.shared.key =
+    size_of p.entries.items p.seat.me p.seat.table_id b.table.shared.table_id b.table.shared.key r same w in
     let acts : b.table.shared.key ≡ B.actors = ap (λ (z : BoardFace). z.actors) bv in
     record { same = same; size = size; actor = omega arith; track = omega arith; word = omega arith }
 
 -- the record's entry says which firing is held
-pub entry_held : (es : List Entry) (me : Seated) (id : TableId) (a k : ℕ) (e : Entry) → IsRecordOf es me id → a < length me.0.tracks → e ≡ get_or es a e → e.held ≡ Some k → Holds me.0 a k
-entry_held es me id a k e r lt is held = let n = r.entry_count in sym (r.each a e (omega arith)).held ∙ ap (λ (z : Entry). option_to_list z.held) (sym is) ∙ ap option_to_list held
+pub entry_held : (es : List Entry) (me : Seated) (id : TableId) (a k : ℕ) (e : Entry) → IsRecordOf es me id → a < length me.0.tracks → e ≡ get_or es a e
+    → e.held ≡ Some k → Holds me.0 a k
+entry_held es me id a k e r lt is held = let n = r.entry_count in
+    sym (r.each a e (omega arith)).held ∙ ap (λ (z : Entry). option_to_list z.held) (sym is) ∙ ap option_to_list held
 
-pub entry_none : (es : List Entry) (me : Seated) (id : TableId) (a : ℕ) (e : Entry) → IsRecordOf es me id → a < length me.0.tracks → e ≡ get_or es a e → e.held ≡ None → (track_of me.0 a).held ≡ []
-entry_none es me id a e r lt is held = let n = r.entry_count in sym (r.each a e (omega arith)).held ∙ ap (λ (z : Entry). option_to_list z.held) (sym is) ∙ ap option_to_list held
+pub entry_none : (es : List Entry) (me : Seated) (id : TableId) (a : ℕ) (e : Entry) → IsRecordOf es me id → a < length me.0.tracks → e ≡ get_or es a e
+    → e.held ≡ None → (track_of me.0 a).held ≡ []
+entry_none es me id a e r lt is held = let n = r.entry_count in
+    sym (r.each a e (omega arith)).held ∙ ap (λ (z : Entry). option_to_list z.held) (sym is) ∙ ap option_to_list held
 
-pub entry_finished : (es : List Entry) (me : Seated) (id : TableId) (a : ℕ) (e : Entry) → IsRecordOf es me id → a < length me.0.tracks → e ≡ get_or es a e → e.finished ≡ length (track_of me.0 a).finished
+pub entry_finished : (es : List Entry) (me : Seated) (id : TableId) (a : ℕ) (e : Entry) → IsRecordOf es me id → a < length me.0.tracks → e ≡ get_or es a e
+    → e.finished ≡ length (track_of me.0 a).finished
 entry_finished es me id a e r lt is = let n = r.entry_count in ap (λ (z : Entry). z.finished) is ∙ (r.each a e (omega arith)).finished
 
 module _ (es : List Entry) (me me' : Seated) (id id' : TableId) (a : ℕ) (t : Track) (found : ℕ)
@@ -83,9 +93,11 @@ module _ (es : List Entry) (me me' : Seated) (id id' : TableId) (a : ℕ) (t : T
     each = λ c d h. dite (ℕ_discrete c a)
         (λ q. let n = r.entry_count in let room : a < length es = omega arith in
         let P : ℕ → Type 0 = λ b. IsEntryOf (get_or (set es a e) b d) (track_of u b) in
-        subst P (sym q) (subst (λ (z : Track). IsEntryOf (get_or (set es a e) a d) z) (sym (track_here me.0 a t found lt)) (subst (λ (z : Entry). IsEntryOf z t) (sym (get_or-set_same es a e d room)) is_of)))
+        subst P (sym q) (subst (λ (z : Track). IsEntryOf (get_or (set es a e) a d) z) (sym (track_here me.0 a t found lt))
+        (subst (λ (z : Entry). IsEntryOf z t) (sym (get_or-set_same es a e d room)) is_of)))
         (λ ne. let l = length-set es a e in let old = r.each c d (omega arith) in
-        subst (λ (z : Track). IsEntryOf (get_or (set es a e) c d) z) (sym (track_there me.0 a t found c ne)) (subst (λ (z : Entry). IsEntryOf z (track_of me.0 c)) (sym (get_or-set_other es a c e d ne)) old));
+        subst (λ (z : Track). IsEntryOf (get_or (set es a e) c d) z) (sym (track_there me.0 a t found c ne))
+        (subst (λ (z : Entry). IsEntryOf z (track_of me.0 c)) (sym (get_or-set_other es a c e d ne)) old));
   }
 
   moved_to : (fs : List Entry) → IsRecordOf fs (u, me.1) id → IsRecordOf fs me' id'

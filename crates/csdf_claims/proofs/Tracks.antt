@@ -16,7 +16,8 @@ track_of-opening zero a = refl
 track_of-opening (suc n) zero = refl
 track_of-opening (suc n) (suc a) = track_of-opening n a
 
-pub track_of-joined : (ts us : List Track) (a : ℕ) → a < length ts → length us ≡ length ts → get_or (joined_tracks ts us) a blank ≡ joined_track (get_or ts a blank) (get_or us a blank)
+pub track_of-joined : (ts us : List Track) (a : ℕ) → a < length ts → length us ≡ length ts
+    → get_or (joined_tracks ts us) a blank ≡ joined_track (get_or ts a blank) (get_or us a blank)
 track_of-joined [] us a h e = absurd (omega arith)
 track_of-joined (t ∷ ts) [] a h e = absurd (omega arith)
 track_of-joined (t ∷ ts) (u ∷ us) zero h e = refl

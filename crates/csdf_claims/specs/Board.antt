@@ -1,6 +1,7 @@
 -- The board as plain data: a word for each actor, and what each place knows. Firings count from 0.
 -- A word 2k says that the actor is idle at firing k, and 2k + 1 that some place holds it at k.
-use Rattle.std.specs.Prelude.{◌≡◌, ◌≢◌, ℕ, ◌+◌, ◌*◌, ◌/◌, ◌%◌, ◌<◌, ◌≤◌, ◌==◌, Bool, true, false, List, [], ◌∷◌, ◌++◌, map, max, length, replicate, slice_index, slice_index_or, slice_set, if◌then◌else◌}
+use Rattle.std.specs.Prelude.{◌≡◌, ◌≢◌, ℕ, ◌+◌, ◌*◌, ◌/◌, ◌%◌, ◌<◌, ◌≤◌, ◌==◌, Bool, true, false, List, [], ◌∷◌, ◌++◌, map, max, length, replicate}
+use Rattle.std.specs.Prelude.{slice_index, slice_index_or, slice_set, if◌then◌else◌}
 use mathlib.Core.Option.{some}
 use lib.ListN.{get_elem?}
 use Rattle.csdf_claims.specs.declared.rule.Track.{Track}
@@ -79,6 +80,18 @@ IsHolding v a = (k : ℕ) × Holds v a k
 abbrev pub HasFinished : View → ℕ → ℕ → Type 0
 HasFinished v a x = 0 < times x (track_of v a).finished
 
+-- what the place v holds and has finished, w holds and has finished too
+abbrev pub KeepsAll : View → View → Type 0
+KeepsAll v w = (a k : ℕ) → (Holds v a k → Holds w a k) × (HasFinished v a k → HasFinished w a k)
+
+-- of each actor w holds and has finished what v does, and no more
+abbrev pub KeepsJust : View → View → Type 0
+KeepsJust v w = (a : ℕ) → ((track_of w a).held ≡ (track_of v a).held) × ((track_of w a).finished ≡ (track_of v a).finished)
+
+-- the place holds and has finished nothing
+abbrev pub IsBlank : View → Type 0
+IsBlank v = (a k : ℕ) → ¬ Holds v a k × ¬ HasFinished v a k
+
 -- the numbers of the list are 0 to n - 1, each once
 abbrev pub AreAllBelow : ℕ → List ℕ → Type 0
 AreAllBelow n xs = ((x : ℕ) → x < n → times x xs ≡ 1) × ((x : ℕ) → n ≤ x → times x xs ≡ 0)
@@ -99,11 +112,13 @@ Lacks v a n =
     × (a < length v.tracks) × (word_of words a / 2 ≡ n) × (length (track_of v a).finished < n)
     × ((b : ℕ) → b < a → AreAllBelow (word_of words b / 2) (track_of v b).finished)
 
--- on a lawful board that has this one place each actor's word is 0
+-- on some lawful board that has the place v alone the word of actor a is w
+abbrev pub FindsAlone : View → ℕ → ℕ → Type 0
+FindsAlone v a w = (words : List ℕ) × IsLawful (length v.tracks) words (v ∷ []) × (word_of words a ≡ w)
+
+-- while the place is alone it finds each actor idle at firing 0, and in no other way
 abbrev pub IsNew : View → Type 0
-IsNew v =
-    (words : List ℕ) → IsLawful (length v.tracks) words (v ∷ [])
-    → (a : ℕ) → a < length v.tracks → word_of words a ≡ 0
+IsNew v = (a : ℕ) → a < length v.tracks → FindsAlone v a 0 × ((w : ℕ) → FindsAlone v a w → w ≡ 0)
 
 -- the word that a claim on firing k leaves where it found w
 abbrev pub word_after_claim : ℕ → ℕ → ℕ

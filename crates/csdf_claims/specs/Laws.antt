@@ -1,9 +1,9 @@
 -- What it means for a board to be lawful, place by place.
-use Rattle.std.specs.Prelude.{◌≡◌, ℕ, ◌/◌, ◌<◌, List, [], ◌∷◌}
+use Rattle.std.specs.Prelude.{◌≡◌, ℕ, ◌/◌, ◌<◌, ◌≤◌, List, [], ◌∷◌}
 use mathlib.Core.Option.{some}
 use lib.ListN.{get_elem?}
 use Rattle.csdf_claims.specs.declared.rule.View.{View}
-use Rattle.csdf_claims.specs.Board.{IsLawful, IsHolding, HasFinished, word_of}
+use Rattle.csdf_claims.specs.Board.{IsLawful, IsHolding, HasFinished, word_of, track_of, times}
 
 -- two places that hold an actor are one place
 abbrev pub OneHolds : Type 0
@@ -20,6 +20,13 @@ OneFinished =
     → (a x : ℕ) → a < actors
     → (i j : ℕ) (v w : View) → get_elem? places i ≡ some v
     → get_elem? places j ≡ some w → HasFinished v a x → HasFinished w a x → i ≡ j
+
+-- no place finished a firing twice
+abbrev pub FinishedOnce : Type 0
+FinishedOnce =
+    (actors : ℕ) (words : List ℕ) (places : List View) → IsLawful actors words places
+    → (a x : ℕ) → a < actors
+    → (i : ℕ) (v : View) → get_elem? places i ≡ some v → times x (track_of v a).finished ≤ 1
 
 -- the firings below the word's are those that some place finished
 abbrev pub FinishedBelow : Type 0

@@ -4,6 +4,7 @@ ghost use Rattle.std.specs.Prelude.{if◌then◌else◌, length, slice_index, sl
 ghost use Rattle.std.specs.Prelude.{IfOk, IfErr, OnErr, MatchResult, MatchOption, IfSome};
 ghost use Rattle.std.specs.Mem.Slots.{slots_items, slots_len, IsFull};
 ghost use Rattle.csdf_claims.specs.Board.{track_of, word_of, SitsAt, Finds, Holds, IsHolding, HasFinished};
+ghost use Rattle.csdf_claims.specs.Board.{KeepsAll, KeepsJust, IsBlank};
 ghost use Rattle.csdf_claims.specs.Board.{Gathers, Lacks, IsNew, word_after_claim, opening_view, looked};
 ghost use Rattle.csdf_claims.specs.Board.{claimed, finished_view, handed_back, newcomer_view, joined_view};
 ghost use Rattle.csdf_claims.specs.Face.{LostBy, joined_entry, CountsTo};
@@ -23,6 +24,7 @@ use std::marker::Model;
 #[derive(Drop)]
 pub struct Board {
     table: Table<(), View, u32, Law, Global>,
+    actors: u32,
 }
 
 impl Model for Board {
@@ -34,7 +36,7 @@ impl Model for Board {
     ghost view = { λ b. record { id = b.table.shared.table_id; actors = b.table.shared.key } };
 
     ghost invariant = { λ b. (b.table.shared.table_id.words ≡ b.table.shared.key + 1)
-        × (b.table.shared.table_id.slots ≡ 0) × (b.table.shared.key ≤ 64) };
+        × (b.table.shared.table_id.slots ≡ 0) × (b.table.shared.key ≤ 64) × (b.actors ≡ b.table.shared.key) };
 }
 
 /// Why a claim was lost.
@@ -64,7 +66,15 @@ impl Board {
         let zeros = [0; 65];
         let words = &zeros[..actors as usize + 1];
         let (table, seat) = open_table(alloc, words, actors)?;
-        Ok((Board { table }, Place { entries, seat }))
+        Ok((Board { table, actors }, Place { entries, seat }))
+    }
+
+    /// How many actors the board has.
+    pub fn actors(&self) -> u32
+        ensures value { result ≡ self.now.actors }
+        ensures few { result ≤ 64 }
+    {
+        self.actors
     }
 
     /// Claims a firing of an actor, by one compare-exchange. A claim is won where the actor was idle at that firing.
@@ -78,6 +88,8 @@ impl Board {
         ensures won { IfOk result (λ _. place.new.view ≡ claimed place.old.view actor firing) }
         ensures lost { IfErr result (λ _. place.new.view ≡ looked place.old.view actor place.new.view.found) }
         ensures holds { IfOk result (λ _. Holds place.new.view actor firing) }
+        ensures keeps { KeepsAll place.old.view place.new.view }
+        ensures no_more { OnErr result (KeepsJust place.old.view place.new.view) }
         ensures found { Finds place.old.view actor place.new.view.found }
         ensures left { Finds place.new.view actor (word_after_claim firing place.new.view.found) }
         ensures seen { (track_of place.old.view actor).seen ≤ place.new.view.found / 2 }
@@ -145,6 +157,8 @@ impl Board {
         requires actor { actor < self.now.actors }
         ensures board { place.new.board ≡ place.old.board }
         ensures view { place.new.view ≡ looked place.old.view actor place.new.view.found }
+        ensures keeps { KeepsAll place.old.view place.new.view }
+        ensures no_more { KeepsJust place.old.view place.new.view }
         ensures answer { place.new.view.found ≡ 2 * result.0 + (if result.1 then 1 else 0) }
         ensures found { Finds place.old.view actor place.new.view.found }
         ensures left { Finds place.new.view actor place.new.view.found }
@@ -164,7 +178,9 @@ impl Board {
         requires { place.old.board ≡ self.now.id }
         ensures board { IfOk result (λ new. new.board ≡ place.old.board) }
         ensures view { IfOk result (λ new. new.view ≡ newcomer_view place.old.view) }
+        ensures blank { IfOk result (λ new. IsBlank new.view) }
         ensures same { place.new ≡ place.old }
+        ensures keeps { KeepsAll place.old.view place.new.view }
     {
         let entries = blank_entries(alloc, place.entries.len())?;
         let seat = self.table.shared.split_seat::<Beside>(&mut place.seat);
@@ -202,7 +218,7 @@ impl Board {
         ensures missing { IfErr result (λ m. Lacks place.view m.0 m.1) }
         ensures same { OnErr result (totals.new ≡ totals.old) }
     {
-        let Board { table } = self;
+        let Board { table, actors: _ } = self;
         let Place { entries, seat } = place;
         let closed = table.close_with(seat);
         let missing = first_missing(&closed, entries.as_slice());

@@ -6,11 +6,13 @@
 #![tactic(auto)]
 
 mod board;
+mod laws;
 mod place;
 mod rule;
 #[cfg(test)]
 mod tests;
 
 pub use board::{Board, Lost, Missing};
+pub use laws::{finished_below, finished_once, one_finished, one_holds};
 pub use place::Place;
 pub use rule::{Track, View};

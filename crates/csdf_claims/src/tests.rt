@@ -1,6 +1,6 @@
 ghost use Rattle.std.specs.Prelude.{◌≡◌, ◌<◌, ◌≤◌, [], ◌∷◌, IfOk};
-ghost use Rattle.csdf_claims.specs.Board.{Holds, IsLawful};
-ghost use Rattle.csdf_claims.specs.Laws.{OneHolds, OneFinished, FinishedBelow, first_done, second_held};
+ghost use Rattle.csdf_claims.specs.Board.{Holds, IsLawful, KeepsAll};
+ghost use Rattle.csdf_claims.specs.Laws.{first_done, second_held};
 
 use crate::{Board, Lost, Missing, Place};
 use std::alloc::{AllocError, Global};
@@ -9,13 +9,6 @@ use std::sync::Wait;
 use std::test::Fail;
 use std::thread;
 use std::thread::Threads;
-
-// What a lawful board means, place by place.
-fn each_has_one_place()
-    ensures holds { OneHolds }
-    ensures finished { OneFinished }
-    ensures below { FinishedBelow }
-{}
 
 // With the first firing finished in one place and the second one held in another the word is 3. With 2 in its place,
 // with a second holder or without the place that finished the first one the board isn't lawful.
@@ -28,7 +21,6 @@ fn lawful_by_example()
 
 #[test]
 fn the_definition_means_what_it_says() {
-    each_has_one_place();
     lawful_by_example();
 }
 
@@ -55,6 +47,29 @@ fn win<R: Abort>(rt: &R, board: &Board, place: &mut Place, actor: u32, firing: u
     let Ok(()) = won else {
         panic!(rt; "lost ({actor}, {firing})")
     };
+}
+
+// What a place holds and has finished stays while it tries another actor and has a place made beside it.
+fn try_another(alloc: Global, board: &Board, place: &mut Place, other: u32)
+    requires place { place.old.board ≡ board.now.id }
+    requires other { other < board.now.actors }
+    ensures board { place.new.board ≡ place.old.board }
+    ensures keeps { KeepsAll place.old.view place.new.view }
+{
+    let _ = board.try_claim(place, other, 0);
+    let _ = board.split(alloc, place);
+}
+
+// And where it looks at another actor it has no more than before, and can finish what it holds.
+fn look_and_finish(board: &Board, place: &mut Place, held: (u32, u32), other: u32)
+    requires place { place.old.board ≡ board.now.id }
+    requires actor { held.0 < board.now.actors }
+    requires other { other < board.now.actors }
+    requires holds { Holds place.old.view held.0 held.1 }
+    ensures board { place.new.board ≡ place.old.board }
+{
+    let _ = board.peek(place, other);
+    board.done(place, held.0);
 }
 
 // The first firing of the one actor: `p` claims it, `q` can't, `p` finishes it, and `q` sees that.
@@ -97,6 +112,18 @@ fn two_places_take_turns(rt: HostRuntime) -> Result<(), Fail> {
     board.done(&mut q, 0);
     assert_eq!(rt; board.try_claim(&mut p, 0, 1), Err(Lost::Moved(2)));
     win(&rt, &board, &mut p, 0, 2);
+    Ok(())
+}
+
+#[test]
+fn a_place_keeps_what_it_holds(rt: HostRuntime) -> Result<(), Fail> {
+    let (board, mut p) = Board::new(rt.alloc(), 2)?;
+    assert_eq!(rt; board.actors(), 2);
+    try_another(rt.alloc(), &board, &mut p, 0);
+    win(&rt, &board, &mut p, 1, 0);
+    look_and_finish(&board, &mut p, (1, 0), 0);
+    assert_eq!(rt; board.peek(&mut p, 0), (0, true));
+    assert_eq!(rt; board.peek(&mut p, 1), (1, false));
     Ok(())
 }
 

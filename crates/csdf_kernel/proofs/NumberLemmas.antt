@@ -25,7 +25,8 @@ unfolding convolution
 convolution_none weights xs place = ap total (places_none (λ j. token_at weights j *ℤ token_at xs (place + j)))
 
 -- one more tap
-pub convolution_more : (weights xs : List ℤ) (place taps : ℕ) → convolution weights (taps + 1) xs place ≡ convolution weights taps xs place +ℤ (token_at weights taps *ℤ token_at xs (place + taps))
+pub convolution_more : (weights xs : List ℤ) (place taps : ℕ)
+    → convolution weights (taps + 1) xs place ≡ convolution weights taps xs place +ℤ (token_at weights taps *ℤ token_at xs (place + taps))
 unfolding convolution
 convolution_more weights xs place taps =
     let f : ℕ → ℤ = λ j. token_at weights j *ℤ token_at xs (place + j) in

@@ -25,11 +25,13 @@ length_channels token (c ∷ cs) =
     omega (arith, length-append (places token c) (flat_map (places token) cs), length_places token c, length_channels token cs, sum_by-cons (λ x. x) c cs)
 
 -- one more channel
-pub channels_more : (token : ℕ → ℤ) (counts : List ℕ) (i : ℕ) → i < length counts → flat_map (places token) (take (i + 1) counts) ≡ flat_map (places token) (take i counts) ++ places token (get_or counts i 0)
+pub channels_more : (token : ℕ → ℤ) (counts : List ℕ) (i : ℕ) → i < length counts
+    → flat_map (places token) (take (i + 1) counts) ≡ flat_map (places token) (take i counts) ++ places token (get_or counts i 0)
 channels_more token counts i h = grind (arith, common_steps)
 
 -- the channels so far leave room for the next
-pub channels_fit : (token : ℕ → ℤ) (counts : List ℕ) (i : ℕ) → i < length counts → length (flat_map (places token) (take i counts)) + get_or counts i 0 ≤ sum counts
+pub channels_fit : (token : ℕ → ℤ) (counts : List ℕ) (i : ℕ) → i < length counts
+    → length (flat_map (places token) (take i counts)) + get_or counts i 0 ≤ sum counts
 channels_fit token counts i h =
     omega (arith, length-flat_map-take (places token) counts i 0 h, length_places token (get_or counts i 0), length_channels token counts)
 

@@ -1,5 +1,6 @@
 -- The value of a kernel: the tokens that one firing writes, from its counts and the tokens that it read alone.
--- The kernels are nodes of synchronous dataflow graphs (Lee and Messerschmitt 1987), the filter is a finite impulse response by direct convolution (Oppenheim and Schafer, Discrete-Time Signal Processing).
+-- The kernels are nodes of synchronous dataflow graphs (Lee and Messerschmitt 1987), the filter is a finite impulse response by
+-- direct convolution (Oppenheim and Schafer, Discrete-Time Signal Processing).
 use Rattle.std.specs.Prelude.{ℕ, ◌+◌, ◌%◌, ◌^◌, ◌≤◌, List, length, map, fold, sum, flat_map, replicate, slice_index_or, ℤ, pos, ◌+ℤ◌, ◌*ℤ◌}
 use Rattle.std.specs.List.{range_with_len}
 use Rattle.std.specs.Int.{w32, saturate_signed, int_div_euclid}

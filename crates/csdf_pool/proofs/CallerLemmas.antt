@@ -1,5 +1,6 @@
 -- What holds of every pool whose cells are shared out, for the proofs of callers.
-use Rattle.std.proofs.Common.{◌∙◌, ap, sym, arith, ◌++◌, ℤ, ◌≤◌, take, drop, zip, length-take-le, ◌≡◌, ℕ, ◌+◌, ◌<◌, List, [], ◌∷◌, length, get_or, map, sum_by, nat_lt, if◌then◌else◌, refl, subst, length-append}
+use Rattle.std.proofs.Common.{◌∙◌, ap, sym, arith, ◌++◌, ℤ, ◌≤◌, take, drop, zip, length-take-le, ◌≡◌, ℕ, ◌+◌, ◌<◌, List, [], ◌∷◌, length, get_or, map}
+use Rattle.std.proofs.Common.{sum_by, nat_lt, if◌then◌else◌, refl, subst, length-append}
 use Rattle.std.proofs.lemmas.List.{length-map, map-append, drop-map}
 use Rattle.std.proofs.lemmas.Slice.Zip.{seconds-zip}
 use Rattle.std.proofs.lemmas.List.Sums.{sum_by-cons}

@@ -1,5 +1,6 @@
 -- Going along linked cells, one at a time, and reading or writing their tokens.
-use Rattle.std.proofs.Common.{◌≡◌, ℕ, suc, ◌+◌, ◌-◌, ◌<◌, ℤ, pos, List, [], ◌∷◌, ◌++◌, length, get_or, take, drop, map, set, ap, ap₂, refl, arith, ◌∙◌, sym, subst, get_or-drop, get_or-set_other, get_or-set_same, drop-drop, take-append-drop, All}
+use Rattle.std.proofs.Common.{◌≡◌, ℕ, suc, ◌+◌, ◌-◌, ◌<◌, ℤ, pos, List, [], ◌∷◌, ◌++◌, length, get_or, take, drop, map, set, ap, ap₂, refl, arith, ◌∙◌, sym}
+use Rattle.std.proofs.Common.{subst, get_or-drop, get_or-set_other, get_or-set_same, drop-drop, take-append-drop, All}
 use Rattle.std.proofs.lemmas.List.{take_more, map-append}
 use Rattle.csdf_pool.specs.Cells.{times, EachOnce}
 use Rattle.csdf_pool.specs.Chains.{linked_from}
@@ -90,5 +91,6 @@ module _ (links : List ℕ) (first n i next : ℕ) (below : i < n) (rest : linke
   none_before cell none =
       omega (arith, none, ap (times cell) take_after, times-append cell (take i (linked_from links first n)) (next ∷ []))
 
-  pub read_more : (table : List ℤ) → map (token_at table) (take (i + 1) (linked_from links first n)) ≡ map (token_at table) (take i (linked_from links first n)) ++ token_at table next ∷ []
+  pub read_more : (table : List ℤ)
+      → map (token_at table) (take (i + 1) (linked_from links first n)) ≡ map (token_at table) (take i (linked_from links first n)) ++ token_at table next ∷ []
   read_more table = ap (map (token_at table)) take_after ∙ map-append (token_at table) (take i (linked_from links first n)) (next ∷ [])

@@ -1,5 +1,6 @@
 -- A segment joined to the end of a chain by setting the link of the chain's last cell.
-use Rattle.std.proofs.Common.{◌≡◌, ◌≢◌, ℕ, suc, ◌+◌, ◌-◌, ◌<◌, ◌≤◌, List, [], ◌∷◌, ◌++◌, length, get_or, take, drop, set, ap, ap₂, arith, ◌∙◌, sym, subst, All, length-append, length-set, get_or-set_other, get_or-set_same, take-append-drop}
+use Rattle.std.proofs.Common.{◌≡◌, ◌≢◌, ℕ, suc, ◌+◌, ◌-◌, ◌<◌, ◌≤◌, List, [], ◌∷◌, ◌++◌, length, get_or, take, drop, set, ap, ap₂, arith, ◌∙◌, sym, subst}
+use Rattle.std.proofs.Common.{All, length-append, length-set, get_or-set_other, get_or-set_same, take-append-drop}
 use Rattle.std.proofs.lemmas.List.Elements.{All-append}
 use Rattle.std.proofs.lemmas.List.{get_or-append-add, get_or-take, take_more}
 use Rattle.csdf_pool.specs.declared.ends.Ends.{Ends}
@@ -10,7 +11,8 @@ use Rattle.csdf_pool.proofs.Totals.{length-EachOnce}
 use Rattle.csdf_pool.proofs.Walks.{take-linked_from, drop-linked_from, linked_from-same_front}
 use Rattle.csdf_pool.proofs.ChainLemmas.{length-cells_of, cell_in_table, cells_of-same}
 
-module _ (links : List ℕ) (chain segment : Ends) (chain_is : IsChain links chain) (segment_is : IsChain links segment) (once : EachOnce (cells_of links segment ++ cells_of links chain)) where
+module _ (links : List ℕ) (chain segment : Ends) (chain_is : IsChain links chain) (segment_is : IsChain links segment)
+    (once : EachOnce (cells_of links segment ++ cells_of links chain)) where
   apart : (cell : ℕ) → times cell (cells_of links segment) + times cell (cells_of links chain) ≤ 1
   apart cell = omega (arith, once cell, times-append cell (cells_of links segment) (cells_of links chain))
 
@@ -20,7 +22,8 @@ module _ (links : List ℕ) (chain segment : Ends) (chain_is : IsChain links cha
       let P : ℕ → Type 0 = λ c. c < length links in
       omega (
         arith,
-        length-EachOnce (length links) (cells_of links segment ++ cells_of links chain) once (All-append P (cells_of links segment) (cells_of links chain) segment_is.within chain_is.within),
+        length-EachOnce (length links) (cells_of links segment ++ cells_of links chain) once
+            (All-append P (cells_of links segment) (cells_of links chain) segment_is.within chain_is.within),
         length-append (cells_of links segment) (cells_of links chain),
         length-cells_of links segment,
         length-cells_of links chain,
@@ -31,7 +34,8 @@ module _ (links : List ℕ) (chain segment : Ends) (chain_is : IsChain links cha
     end_in_table = subst (λ c. c < length links) (chain_is.ended some) (cell_in_table links chain (chain.length - 1) chain_is (omega arith))
 
     end_stands : 0 < times chain.end (cells_of links chain)
-    end_stands = subst (λ c. 0 < times c (cells_of links chain)) (chain_is.ended some) (times_at (cells_of links chain) (chain.length - 1) (omega (arith, length-cells_of links chain)))
+    end_stands = subst (λ c. 0 < times c (cells_of links chain)) (chain_is.ended some)
+        (times_at (cells_of links chain) (chain.length - 1) (omega (arith, length-cells_of links chain)))
 
     -- the last cell is not among those before it
     end_only_last : (m : ℕ) → chain.length ≡ suc m → times chain.end (linked_from links chain.front m) ≡ 0
@@ -92,7 +96,8 @@ module _ (links : List ℕ) (chain segment : Ends) (chain_is : IsChain links cha
         ∙ segment_cells in
         sym (take-append-drop (suc m) whole) ∙ ap₂ ◌++◌ front back
 
-    pub cells_of-joined : linked_from (set links chain.end segment.front) chain.front (chain.length + segment.length) ≡ cells_of links chain ++ cells_of links segment
+    pub cells_of-joined : linked_from (set links chain.end segment.front) chain.front (chain.length + segment.length)
+        ≡ cells_of links chain ++ cells_of links segment
     unfolding table
     cells_of-joined =
         let size : chain.length ≡ suc (chain.length - 1) = omega arith in
@@ -100,11 +105,13 @@ module _ (links : List ℕ) (chain segment : Ends) (chain_is : IsChain links cha
         ∙ joined_cells (chain.length - 1) size
         ∙ ap (λ k. linked_from links chain.front k ++ cells_of links segment) (sym size)
 
-    pub IsChain-joined : 0 < segment.length → IsChain (set links chain.end segment.front) (record { front = chain.front; end = segment.end; length = chain.length + segment.length })
+    pub IsChain-joined : 0 < segment.length
+        → IsChain (set links chain.end segment.front) (record { front = chain.front; end = segment.end; length = chain.length + segment.length })
     IsChain-joined segment_some = record {
       within =
           let P : ℕ → List ℕ → Type 0 = λ n xs. All (λ c. c < n) xs in
-          subst (λ n. P n (linked_from (set links chain.end segment.front) chain.front (chain.length + segment.length))) (sym (length-set links chain.end segment.front))
+          subst (λ n. P n (linked_from (set links chain.end segment.front) chain.front (chain.length + segment.length)))
+          (sym (length-set links chain.end segment.front))
           (subst (P (length links)) (sym cells_of-joined)
           (All-append (λ c. c < length links) (cells_of links chain) (cells_of links segment) chain_is.within segment_is.within));
       ended = λ _.

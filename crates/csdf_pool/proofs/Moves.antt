@@ -28,22 +28,32 @@ free_fits links tokens chains free sound =
       length-cells_of links free,
     )
 
-module _ (links : List ℕ) (tokens : List ℤ) (chains : List Ends) (free : Ends) (sound : IsSound links tokens chains free) (chain : ℕ) (known : chain < length chains) where
+module _ (links : List ℕ) (tokens : List ℤ) (chains : List Ends) (free : Ends) (sound : IsSound links tokens chains free) (chain : ℕ)
+    (known : chain < length chains) where
   -- a chain has no more cells than the table
   pub chain_fits : (get_or chains chain no_cells).length ≤ length links
   chain_fits =
       let ends = get_or chains chain no_cells in
       omega (
         arith,
-        length-EachOnce (length links) (cells_of links ends) (λ cell. omega (arith, chain_apart links tokens chains free sound chain known cell)) (sound.each_chain chain known).within,
+        length-EachOnce (length links) (cells_of links ends) (λ cell. omega (arith, chain_apart links tokens chains free sound chain known cell))
+            (sound.each_chain chain known).within,
         length-cells_of links ends,
       )
 
   pub free_apart : EachOnce (cells_of links free ++ cells_of links (get_or chains chain no_cells))
-  free_apart cell = omega (arith, chain_apart links tokens chains free sound chain known cell, times-append cell (cells_of links free) (cells_of links (get_or chains chain no_cells)))
+  free_apart cell = omega (
+    arith,
+    chain_apart links tokens chains free sound chain known cell,
+    times-append cell (cells_of links free) (cells_of links (get_or chains chain no_cells)),
+  )
 
   pub ends_apart : EachOnce (cells_of links (get_or chains chain no_cells) ++ cells_of links free)
-  ends_apart cell = omega (arith, chain_apart links tokens chains free sound chain known cell, times-append cell (cells_of links (get_or chains chain no_cells)) (cells_of links free))
+  ends_apart cell = omega (
+    arith,
+    chain_apart links tokens chains free sound chain known cell,
+    times-append cell (cells_of links (get_or chains chain no_cells)) (cells_of links free),
+  )
 
   module _ (new_links : List ℕ) (new_ends new_free : Ends) (n : ℕ) (same_links : length new_links ≡ length links) where
     module _
@@ -60,13 +70,17 @@ module _ (links : List ℕ) (tokens : List ℤ) (chains : List Ends) (free : End
         first : take n (cells_of links free) ≡ linked_from links free.front n
         first = take-linked_from links free.front n free.length size
 
-        other_links : (cell : ℕ) → times cell (cells_of links (get_or chains chain no_cells)) + times cell (cells_of links free) ≡ 0 → get_or new_links cell 0 ≡ get_or links cell 0
+        other_links : (cell : ℕ) → times cell (cells_of links (get_or chains chain no_cells)) + times cell (cells_of links free) ≡ 0
+            → get_or new_links cell 0 ≡ get_or links cell 0
         other_links cell none = moves.others cell (omega (arith, none, times-append cell (cells_of links free) (cells_of links (get_or chains chain no_cells))))
 
-        other_tokens : (cell : ℕ) → times cell (cells_of links (get_or chains chain no_cells)) + times cell (cells_of links free) ≡ 0 → token_at new_tokens cell ≡ token_at tokens cell
+        other_tokens : (cell : ℕ) → times cell (cells_of links (get_or chains chain no_cells)) + times cell (cells_of links free) ≡ 0
+            → token_at new_tokens cell ≡ token_at tokens cell
         other_tokens cell none = kept cell (omega (arith, none, split cell n (cells_of links free), ap (times cell) first))
 
-        same_cells : (cell : ℕ) → times cell (cells_of new_links new_ends) + times cell (cells_of new_links new_free) ≡ times cell (cells_of links (get_or chains chain no_cells)) + times cell (cells_of links free)
+        same_cells : (cell : ℕ)
+            → times cell (cells_of new_links new_ends) + times cell (cells_of new_links new_free)
+            ≡ times cell (cells_of links (get_or chains chain no_cells)) + times cell (cells_of links free)
         same_cells cell =
             omega (
               arith,
@@ -77,7 +91,8 @@ module _ (links : List ℕ) (tokens : List ℤ) (chains : List Ends) (free : End
             )
 
         pub IsSound-put : IsSound new_links new_tokens (set chains chain new_ends) new_free
-        IsSound-put = IsSound-after links tokens chains free sound chain known new_links new_tokens new_ends new_free same_links same_tokens moves.to_chain moves.from_chain other_links other_tokens same_cells
+        IsSound-put = IsSound-after links tokens chains free sound chain known new_links new_tokens new_ends new_free same_links same_tokens
+            moves.to_chain moves.from_chain other_links other_tokens same_cells
 
         held_after : held_in new_links new_tokens new_ends ≡ held_in links tokens (get_or chains chain no_cells) ++ zip (take n (cells_of links free)) values
         held_after =
@@ -88,21 +103,32 @@ module _ (links : List ℕ) (tokens : List ℤ) (chains : List Ends) (free : End
             ∙ map-append pair own came
             ∙ ap₂ ◌++◌
             (map-same pair (λ cell. (cell, token_at tokens cell)) own (λ cell stands.
-            ap (λ t. (cell, t)) (kept cell (omega (arith, stands, chain_apart links tokens chains free sound chain known cell, split cell n (cells_of links free), ap (times cell) first)))))
+            ap (λ t. (cell, t)) (kept cell (omega (
+              arith,
+              stands,
+              chain_apart links tokens chains free sound chain known cell,
+              split cell n (cells_of links free),
+              ap (times cell) first,
+            )))))
             (pairs_are (token_at new_tokens) came ∙ ap (zip came) (ap (map (token_at new_tokens)) first ∙ filled))
 
         pub chains_put : map (held_in new_links new_tokens) (set chains chain new_ends)
             ≡ set (map (held_in links tokens) chains) chain (chain_of (shared_of links tokens chains free) chain ++ zip (take n (cells_of links free)) values)
         chains_put =
-            chains_after links tokens chains free sound chain known new_links new_tokens new_ends new_free same_links same_tokens moves.to_chain moves.from_chain other_links other_tokens same_cells
+            chains_after links tokens chains free sound chain known new_links new_tokens new_ends new_free same_links same_tokens
+            moves.to_chain moves.from_chain other_links other_tokens same_cells
             ∙ ap (set (map (held_in links tokens) chains) chain)
             (held_after ∙ ap (λ held. held ++ zip (take n (cells_of links free)) values) (sym (chain_of-shared_of links tokens chains free chain)))
 
     module _ (moves : MovesCells links new_links (get_or chains chain no_cells) new_ends free new_free n) where
-      other_links_taken : (cell : ℕ) → times cell (cells_of links (get_or chains chain no_cells)) + times cell (cells_of links free) ≡ 0 → get_or new_links cell 0 ≡ get_or links cell 0
-      other_links_taken cell none = moves.others cell (omega (arith, none, times-append cell (cells_of links (get_or chains chain no_cells)) (cells_of links free)))
+      other_links_taken : (cell : ℕ) → times cell (cells_of links (get_or chains chain no_cells)) + times cell (cells_of links free) ≡ 0
+          → get_or new_links cell 0 ≡ get_or links cell 0
+      other_links_taken cell none = moves.others cell
+          (omega (arith, none, times-append cell (cells_of links (get_or chains chain no_cells)) (cells_of links free)))
 
-      same_cells_taken : (cell : ℕ) → times cell (cells_of new_links new_ends) + times cell (cells_of new_links new_free) ≡ times cell (cells_of links (get_or chains chain no_cells)) + times cell (cells_of links free)
+      same_cells_taken : (cell : ℕ)
+          → times cell (cells_of new_links new_ends) + times cell (cells_of new_links new_free)
+          ≡ times cell (cells_of links (get_or chains chain no_cells)) + times cell (cells_of links free)
       same_cells_taken cell =
           omega (
             arith,
@@ -113,13 +139,15 @@ module _ (links : List ℕ) (tokens : List ℤ) (chains : List Ends) (free : End
           )
 
       pub IsSound-taken : IsSound new_links tokens (set chains chain new_ends) new_free
-      IsSound-taken = IsSound-after links tokens chains free sound chain known new_links tokens new_ends new_free same_links refl moves.from_chain moves.to_chain other_links_taken (λ _ _. refl) same_cells_taken
+      IsSound-taken = IsSound-after links tokens chains free sound chain known new_links tokens new_ends new_free same_links refl
+          moves.from_chain moves.to_chain other_links_taken (λ _ _. refl) same_cells_taken
 
       pub chains_taken : map (held_in new_links tokens) (set chains chain new_ends)
           ≡ set (map (held_in links tokens) chains) chain (drop n (chain_of (shared_of links tokens chains free) chain))
       chains_taken =
           let pair : ℕ → Held = λ cell. (cell, token_at tokens cell) in
-          chains_after links tokens chains free sound chain known new_links tokens new_ends new_free same_links refl moves.from_chain moves.to_chain other_links_taken (λ _ _. refl) same_cells_taken
+          chains_after links tokens chains free sound chain known new_links tokens new_ends new_free same_links refl
+          moves.from_chain moves.to_chain other_links_taken (λ _ _. refl) same_cells_taken
           ∙ ap (set (map (held_in links tokens) chains) chain)
           (ap (map pair) moves.left
           ∙ sym (drop-map pair n (cells_of links (get_or chains chain no_cells)))
@@ -135,7 +163,8 @@ module _ (links : List ℕ) (tokens : List ℤ) (chains : List Ends) (free : End
 
   -- the tokens of the first cells are those of the chain's front
   pub tokens_taken : (n : ℕ) → n ≤ (get_or chains chain no_cells).length →
-      map (token_at tokens) (linked_from links (get_or chains chain no_cells).front n) ≡ held_tokens (take n (chain_of (shared_of links tokens chains free) chain))
+      map (token_at tokens) (linked_from links (get_or chains chain no_cells).front n)
+      ≡ held_tokens (take n (chain_of (shared_of links tokens chains free) chain))
   tokens_taken n size =
       let ends = get_or chains chain no_cells in
       ap (map (token_at tokens)) (sym (take-linked_from links ends.front n ends.length size))

@@ -1,5 +1,6 @@
 -- Many puts or takes at once do what so many single ones do.
-use Rattle.std.proofs.Common.{◌≡◌, ℕ, zero, suc, ◌<◌, ◌≤◌, ℤ, List, [], ◌∷◌, ◌++◌, length, get_or, take, drop, set, zip, ap, ap₂, refl, arith, ◌∙◌, sym, append_assoc, append-nil, set-set, length-set, get_or-set_same}
+use Rattle.std.proofs.Common.{◌≡◌, ℕ, zero, suc, ◌<◌, ◌≤◌, ℤ, List, [], ◌∷◌, ◌++◌, length, get_or, take, drop, set, zip, ap, ap₂, refl, arith, ◌∙◌, sym}
+use Rattle.std.proofs.Common.{append_assoc, append-nil, set-set, length-set, get_or-set_same}
 use Rattle.std.proofs.lemmas.List.{set-get_or, map-append}
 use Rattle.csdf_pool.specs.Pool.{Held, Shared, held_cells, after_puts, after_takes}
 
@@ -22,7 +23,8 @@ module _ (size : ℕ) (chain : ℕ) where
       after_puts (record { size = size; chains = chains; free = free }) chain tokens
       ≡ record { size = size; chains = set chains chain (get_or chains chain [] ++ zip (take (length tokens) free) tokens); free = drop (length tokens) free }
   puts_are chains free [] known room =
-      ap (λ cs. record { size = size; chains = cs; free = free }) (sym (ap (set chains chain) (append-nil (get_or chains chain [])) ∙ set-get_or chains chain []))
+      ap (λ cs. record { size = size; chains = cs; free = free })
+      (sym (ap (set chains chain) (append-nil (get_or chains chain [])) ∙ set-get_or chains chain []))
   puts_are chains [] (token ∷ tokens) known room = absurd (omega (arith, room))
   puts_are chains (cell ∷ free) (token ∷ tokens) known room =
       let held : List Held = get_or chains chain [] ++ (cell, token) ∷ [] in

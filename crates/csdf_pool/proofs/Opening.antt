@@ -1,5 +1,6 @@
 -- A new pool: every cell free in ascending order, every chain empty.
-use Rattle.std.proofs.Common.{◌≡◌, ℕ, zero, suc, ◌+◌, ◌-◌, ◌<◌, ◌≤◌, ℤ, List, [], ◌∷◌, ◌++◌, length, get_or, map, replicate, nat_lt, if◌then◌else◌, ap, ap₂, refl, arith, ◌∙◌, sym, subst, inl, inr}
+use Rattle.std.proofs.Common.{◌≡◌, ℕ, zero, suc, ◌+◌, ◌-◌, ◌<◌, ◌≤◌, ℤ, List, [], ◌∷◌, ◌++◌, length, get_or, map, replicate, nat_lt, if◌then◌else◌, ap, ap₂}
+use Rattle.std.proofs.Common.{refl, arith, ◌∙◌, sym, subst, inl, inr}
 use Rattle.std.proofs.lemmas.List.{length-replicate, get_or-replicate}
 use Rattle.std.proofs.lemmas.List.FromFn.{length-range_with_len, get_or-range_with_len}
 use Rattle.std.proofs.lemmas.Bool.{cases_lt}
@@ -90,7 +91,8 @@ module _ (size count : ℕ) (tokens : List ℤ) (size_fits : size ≤ 8388480) (
         free_chain = record {
           within = λ k d below.
               let in_range : k < size = omega (arith, below, ap length cells, length-range_with_len 0 size) in
-              subst (λ c. c < length links) (sym (ap (λ xs. get_or xs k d) cells ∙ get_or-range_with_len 0 size k d in_range)) (omega (arith, in_range, length-links));
+              subst (λ c. c < length links) (sym (ap (λ xs. get_or xs k d) cells ∙ get_or-range_with_len 0 size k d in_range))
+              (omega (arith, in_range, length-links));
           ended = λ some. ap (λ xs. get_or xs (size - 1) 0) cells ∙ get_or-range_with_len 0 size (size - 1) 0 (omega (arith, some)) ∙ omega arith;
         };
         partition = λ cell.

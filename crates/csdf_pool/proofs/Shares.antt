@@ -1,6 +1,7 @@
 -- Cells that pass between a chain and the free list: the other chains stay, and the cells stay
 -- shared out.
-use Rattle.std.proofs.Common.{◌≡◌, ◌≢◌, ℕ, ◌+◌, ◌<◌, ◌≤◌, ℤ, List, [], ◌∷◌, ◌++◌, length, get_or, map, set, nat_lt, if◌then◌else◌, ap, ap₂, refl, arith, ◌∙◌, sym, subst, inl, inr, length-set, get_or-set_other, get_or-set_same}
+use Rattle.std.proofs.Common.{◌≡◌, ◌≢◌, ℕ, ◌+◌, ◌<◌, ◌≤◌, ℤ, List, [], ◌∷◌, ◌++◌, length, get_or, map, set, nat_lt, if◌then◌else◌, ap, ap₂, refl, arith, ◌∙◌}
+use Rattle.std.proofs.Common.{sym, subst, inl, inr, length-set, get_or-set_other, get_or-set_same}
 use Rattle.std.proofs.Math.ListN.{get_or-map}
 use Rattle.std.proofs.lemmas.List.{length-map}
 use Rattle.std.proofs.lemmas.Bool.{cases_eq}
@@ -71,12 +72,14 @@ module _ (links : List ℕ) (tokens : List ℤ) (chains : List Ends) (free : End
 
     -- nor have another chain and these two
     others_apart : (cell i : ℕ) → i < length chains → i ≢ chain →
-        times cell (cells_of links (get_or chains i no_cells)) + (times cell (cells_of links (get_or chains chain no_cells)) + times cell (cells_of links free)) ≤ 1
+        times cell (cells_of links (get_or chains i no_cells)) +
+        (times cell (cells_of links (get_or chains chain no_cells)) + times cell (cells_of links free)) ≤ 1
     others_apart cell i below other =
         omega (
           arith,
           once cell,
-          times-concat-two cell (lists links chains) i chain (omega (arith, below, length-lists links chains)) (omega (arith, known, length-lists links chains)) other,
+          times-concat-two cell (lists links chains) i chain (omega (arith, below, length-lists links chains))
+              (omega (arith, known, length-lists links chains)) other,
           ap (times cell) (get_or-lists links chains i),
           ap (times cell) (get_or-lists links chains chain),
         )
@@ -87,9 +90,12 @@ module _ (links : List ℕ) (tokens : List ℤ) (chains : List Ends) (free : End
         (same_tokens : length new_tokens ≡ length tokens)
         (ends_chain : IsChain new_links new_ends)
         (free_chain : IsChain new_links new_free)
-        (other_links : (cell : ℕ) → times cell (cells_of links (get_or chains chain no_cells)) + times cell (cells_of links free) ≡ 0 → get_or new_links cell 0 ≡ get_or links cell 0)
-        (other_tokens : (cell : ℕ) → times cell (cells_of links (get_or chains chain no_cells)) + times cell (cells_of links free) ≡ 0 → token_at new_tokens cell ≡ token_at tokens cell)
-        (same_cells : (cell : ℕ) → times cell (cells_of new_links new_ends) + times cell (cells_of new_links new_free) ≡ times cell (cells_of links (get_or chains chain no_cells)) + times cell (cells_of links free))
+        (other_links : (cell : ℕ) → times cell (cells_of links (get_or chains chain no_cells)) + times cell (cells_of links free) ≡ 0
+        → get_or new_links cell 0 ≡ get_or links cell 0)
+        (other_tokens : (cell : ℕ) → times cell (cells_of links (get_or chains chain no_cells)) + times cell (cells_of links free) ≡ 0
+        → token_at new_tokens cell ≡ token_at tokens cell)
+        (same_cells : (cell : ℕ) → times cell (cells_of new_links new_ends) + times cell (cells_of new_links new_free)
+        ≡ times cell (cells_of links (get_or chains chain no_cells)) + times cell (cells_of links free))
       where
         -- another chain's cells are as they were
         other_cells : (i : ℕ) → i < length chains → i ≢ chain → cells_of new_links (get_or chains i no_cells) ≡ cells_of links (get_or chains i no_cells)
@@ -97,23 +103,27 @@ module _ (links : List ℕ) (tokens : List ℤ) (chains : List Ends) (free : End
             cells_of-same links new_links (get_or chains i no_cells) (λ cell stands. other_links cell (omega (arith, stands, others_apart cell i below other)))
 
         -- and so are its tokens
-        other_held : (i : ℕ) → i < length chains → i ≢ chain → held_in new_links new_tokens (get_or chains i no_cells) ≡ held_in links tokens (get_or chains i no_cells)
+        other_held : (i : ℕ) → i < length chains → i ≢ chain
+            → held_in new_links new_tokens (get_or chains i no_cells) ≡ held_in links tokens (get_or chains i no_cells)
         other_held i below other =
             ap (map (λ cell. (cell, token_at new_tokens cell))) (other_cells i below other)
             ∙ map-same (λ cell. (cell, token_at new_tokens cell)) (λ cell. (cell, token_at tokens cell)) (cells_of links (get_or chains i no_cells))
             (λ cell stands. ap (λ t. (cell, t)) (other_tokens cell (omega (arith, stands, others_apart cell i below other))))
 
         -- the chains are the old ones, with the one that changed in its place
-        pub chains_after : map (held_in new_links new_tokens) (set chains chain new_ends) ≡ set (map (held_in links tokens) chains) chain (held_in new_links new_tokens new_ends)
+        pub chains_after : map (held_in new_links new_tokens) (set chains chain new_ends)
+            ≡ set (map (held_in links tokens) chains) chain (held_in new_links new_tokens new_ends)
         chains_after = map-set_but (held_in links tokens) (held_in new_links new_tokens) chains chain new_ends no_cells other_held
 
         lists_after : lists new_links (set chains chain new_ends) ≡ set (lists links chains) chain (cells_of new_links new_ends)
         unfolding lists
         lists_after = map-set_but (cells_of links) (cells_of new_links) chains chain new_ends no_cells other_cells
 
-        partition_after : (cell : ℕ) → times cell (all_cells (shared_of new_links new_tokens (set chains chain new_ends) new_free)) ≡ (if nat_lt cell (length new_links) then 1 else 0)
+        partition_after : (cell : ℕ)
+            → times cell (all_cells (shared_of new_links new_tokens (set chains chain new_ends) new_free)) ≡ (if nat_lt cell (length new_links) then 1 else 0)
         partition_after cell =
-            let total : times cell (all_cells (shared_of new_links new_tokens (set chains chain new_ends) new_free)) ≡ times cell (all_cells (shared_of links tokens chains free)) =
+            let total : times cell (all_cells (shared_of new_links new_tokens (set chains chain new_ends) new_free))
+            ≡ times cell (all_cells (shared_of links tokens chains free)) =
             omega (
               arith,
               times-all_cells cell new_links new_tokens (set chains chain new_ends) new_free,

@@ -31,7 +31,8 @@ linked_from-same_front old new cell zero h = refl
 linked_from-same_front old new cell (suc n) h =
     let next : get_or new cell 0 ≡ get_or old cell 0 = h cell (omega (arith, times-cons_same cell (linked_from old (get_or old cell 0) n))) in
     let rest : linked_from new (get_or old cell 0) (suc n) ≡ linked_from old (get_or old cell 0) (suc n) =
-    linked_from-same_front old new (get_or old cell 0) n (λ c stands. h c (omega (arith, stands, times-cons-le c cell (linked_from old (get_or old cell 0) n)))) in
+    linked_from-same_front old new (get_or old cell 0) n
+    (λ c stands. h c (omega (arith, stands, times-cons-le c cell (linked_from old (get_or old cell 0) n)))) in
     ap (λ c. cell ∷ linked_from new c (suc n)) next ∙ ap (λ xs. cell ∷ xs) rest
 
 -- links that agree on the cells give the same cells

@@ -1,6 +1,7 @@
 //! The pool: chains and a free list through one table of links.
 
-ghost use Rattle.std.specs.Prelude.{◌≡◌, ℕ, ◌+◌, ◌<◌, ◌≤◌, ◌↔◌, ◌++◌, [], length, take, drop, zip, slice_set, slice_get, replicate, IfOk, IfNone, IsErr, OnOk, OnErr, OnSome, sum_by};
+ghost use Rattle.std.specs.Prelude.{◌≡◌, ℕ, ◌+◌, ◌<◌, ◌≤◌, ◌↔◌, ◌++◌, [], length, take, drop, zip, slice_set, slice_get, replicate};
+ghost use Rattle.std.specs.Prelude.{IfOk, IfNone, IsErr, OnOk, OnErr, OnSome, sum_by};
 ghost use Rattle.std.specs.List.{range_with_len};
 ghost use Rattle.csdf_pool.specs.Pool.{chain_of, held_cells, held_tokens, IsPartition, after_put, after_puts, after_take, after_takes};
 

@@ -4,4 +4,5 @@ use Rattle.csdf_kernel.proofs.channels.push_copies.Given as goal
 
 abbrev pub invariant-loop-count : goal.invariant-loop-count
 invariant-loop-count l =
-    (l.outputs.items ≡ l.initial.outputs.items ++ flat_map (places (copy_token l.inputs)) (take l.count-index l.counts)) × (l.outputs.capacity ≡ l.initial.outputs.capacity)
+    (l.outputs.items ≡ l.initial.outputs.items ++ flat_map (places (copy_token l.inputs)) (take l.count-index l.counts))
+    × (l.outputs.capacity ≡ l.initial.outputs.capacity)

@@ -31,7 +31,14 @@ returns-clause-from c =
     let to = cells_of links c.args.to.now in
     let rest = cells_of links c.rest_of-rest.result in
     cells_of-same links (links_of c.joined.new.pen) c.rest_of-rest.result (λ cell stands.
-    c.joined.ensures.others cell (omega (arith, stands, c.requires.apart cell, times-append cell from to, split cell c.args.n from, ap (times cell) c.rest_of-rest.ensures.cells)))
+    c.joined.ensures.others cell (omega (
+      arith,
+      stands,
+      c.requires.apart cell,
+      times-append cell from to,
+      split cell c.args.n from,
+      ap (times cell) c.rest_of-rest.ensures.cells,
+    )))
     ∙ c.rest_of-rest.ensures.cells
 
 pub returns-clause-to : goal.returns-clause-to

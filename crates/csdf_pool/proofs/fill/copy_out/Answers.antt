@@ -9,11 +9,13 @@ use Rattle.csdf_pool.proofs.fill.copy_out.Goals as goal
 
 pub bounds-table-last : goal.bounds-table-last
 bounds-table-last c =
-    next_in c.args.links.now c.args.first (length c.args.tokens.now) c.loop-token.token-index c.loop-token.next (omega arith) c.loop-token.invariant.rest (length c.args.table.now) c.requires.in_table
+    next_in c.args.links.now c.args.first (length c.args.tokens.now) c.loop-token.token-index c.loop-token.next (omega arith) c.loop-token.invariant.rest
+    (length c.args.table.now) c.requires.in_table
 
 pub bounds-links-last : goal.bounds-links-last
 bounds-links-last c =
-    next_in c.args.links.now c.args.first (length c.args.tokens.now) c.loop-token.token-index c.loop-token.next (omega arith) c.loop-token.invariant.rest (length c.args.links.now) c.requires.in_links
+    next_in c.args.links.now c.args.first (length c.args.tokens.now) c.loop-token.token-index c.loop-token.next (omega arith) c.loop-token.invariant.rest
+    (length c.args.links.now) c.requires.in_links
 
 pub loop-token-preserved : goal.loop-token-preserved
 loop-token-preserved c =

@@ -1,4 +1,5 @@
-use Rattle.std.proofs.Common.{◌≡◌, ◌<◌, ◌≤◌, ℕ, ℤ, pos, List, ◌++◌, ◌∷◌, [], length, get_or, take, take_all, map, ap, sym, ◌∙◌, arith, subst, rules, to_z-of_z, w32}
+use Rattle.std.proofs.Common.{◌≡◌, ◌<◌, ◌≤◌, ℕ, ℤ, pos, List, ◌++◌, ◌∷◌, [], length, get_or, take, take_all, map, ap, sym, ◌∙◌, arith, subst, rules}
+use Rattle.std.proofs.Common.{to_z-of_z, w32}
 use mir.Val.{SFits}
 use Rattle.std.proofs.lemmas.List.{take_more}
 use Rattle.csdf_pool.specs.Cells.{times}
@@ -11,11 +12,13 @@ use Rattle.csdf_pool.proofs.fill.fill.Goals as goal
 pub bounds-table-last : goal.bounds-table-last
 bounds-table-last c =
     subst (λ size. c.loop-token.next < size) (sym c.loop-token.auto.table)
-    (next_in c.args.links.now c.args.first (length c.args.tokens.now) c.loop-token.token-index c.loop-token.next (omega arith) c.loop-token.invariant.rest (length c.args.table.now) c.requires.in_table)
+    (next_in c.args.links.now c.args.first (length c.args.tokens.now) c.loop-token.token-index c.loop-token.next (omega arith) c.loop-token.invariant.rest
+    (length c.args.table.now) c.requires.in_table)
 
 pub bounds-links-last : goal.bounds-links-last
 bounds-links-last c =
-    next_in c.args.links.now c.args.first (length c.args.tokens.now) c.loop-token.token-index c.loop-token.next (omega arith) c.loop-token.invariant.rest (length c.args.links.now) c.requires.in_links
+    next_in c.args.links.now c.args.first (length c.args.tokens.now) c.loop-token.token-index c.loop-token.next (omega arith) c.loop-token.invariant.rest
+    (length c.args.links.now) c.requires.in_links
 
 pub loop-token-preserved : goal.loop-token-preserved
 loop-token-preserved c =
@@ -33,7 +36,8 @@ loop-token-preserved c =
       last_is = λ _. next_is links c.args.first n i next below rest ∙ ap (λ k. get_or (linked_from links c.args.first n) k 0) (omega arith);
       written =
           written_more links c.args.first n i next below rest c.requires.once c.loop-token.table _ (take i c.args.tokens.now)
-          (subst (λ size. next < size) (sym c.loop-token.auto.table) (next_in links c.args.first n i next below rest (length c.args.table.now) c.requires.in_table))
+          (subst (λ size. next < size) (sym c.loop-token.auto.table)
+          (next_in links c.args.first n i next below rest (length c.args.table.now) c.requires.in_table))
           c.loop-token.invariant.written
           ∙ ap (λ t. take i c.args.tokens.now ++ t ∷ []) (to_z-of_z fits)
           ∙ sym (take_more c.args.tokens.now i (pos 0) below);

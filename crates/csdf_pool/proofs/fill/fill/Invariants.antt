@@ -10,5 +10,6 @@ invariant-loop-token l = record {
   rest : linked_from l.links l.next (length l.tokens - l.token-index) ≡ drop l.token-index (linked_from l.links l.first (length l.tokens));
   last_is : 0 < l.token-index → l.last ≡ get_or (linked_from l.links l.first (length l.tokens)) (l.token-index - 1) 0;
   written : map (token_at l.table) (take l.token-index (linked_from l.links l.first (length l.tokens))) ≡ take l.token-index l.tokens;
-  others : (cell : ℕ) → times cell (take l.token-index (linked_from l.links l.first (length l.tokens))) ≡ 0 → token_at l.table cell ≡ token_at l.initial.table cell;
+  others : (cell : ℕ) → times cell (take l.token-index (linked_from l.links l.first (length l.tokens))) ≡ 0
+      → token_at l.table cell ≡ token_at l.initial.table cell;
 }

@@ -6,10 +6,15 @@ use Rattle.csdf_pool.proofs.CallerLemmas.{sizes_add_up}
 use Rattle.csdf_pool.proofs.pool.Pool.free_len.Goals as goal
 
 pub overflow_cast-result : goal.overflow_cast-result
-overflow_cast-result c = omega (arith, c.self.invariant.size_fits, free_fits c.self.inside.links.items c.self.inside.tokens.items c.self.inside.chains.items c.self.inside.free c.self.invariant)
+overflow_cast-result c =
+    let inside = c.self.inside in
+    let fits = free_fits inside.links.items inside.tokens.items inside.chains.items inside.free c.self.invariant in
+    omega (arith, c.self.invariant.size_fits, fits)
 
 pub returns-clause-free : goal.returns-clause-free
-returns-clause-free c = sym (length-free c.self.inside.links.items c.self.inside.tokens.items c.self.inside.chains.items c.self.inside.free c.args.self.now c.self.view_is)
+returns-clause-free c =
+    let inside = c.self.inside in
+    sym (length-free inside.links.items inside.tokens.items inside.chains.items inside.free c.args.self.now c.self.view_is)
 
 pub returns-clause-accounted : goal.returns-clause-accounted
 returns-clause-accounted c =

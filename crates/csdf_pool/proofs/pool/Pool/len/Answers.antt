@@ -13,7 +13,8 @@ overflow_cast-result c =
     omega (arith, c.requires, length-chains inside.links.items inside.tokens.items inside.chains.items inside.free c.args.self.now c.self.view_is) in
     let ends : c.index.result.now ≡ get_or inside.chains.items c.args.chain no_cells =
     c.index.ensures ∙ get_or-default inside.chains.items c.args.chain c.index.result.now no_cells known in
-    omega (arith, c.self.invariant.size_fits, chain_fits inside.links.items inside.tokens.items inside.chains.items inside.free c.self.invariant c.args.chain known, ap (λ (e : Ends). e.length) ends)
+    let fits = chain_fits inside.links.items inside.tokens.items inside.chains.items inside.free c.self.invariant c.args.chain known in
+    omega (arith, c.self.invariant.size_fits, fits, ap (λ (e : Ends). e.length) ends)
 
 pub returns : goal.returns
 returns c =
@@ -22,4 +23,5 @@ returns c =
     omega (arith, c.requires, length-chains inside.links.items inside.tokens.items inside.chains.items inside.free c.args.self.now c.self.view_is) in
     let ends : c.index.result.now ≡ get_or inside.chains.items c.args.chain no_cells =
     c.index.ensures ∙ get_or-default inside.chains.items c.args.chain c.index.result.now no_cells known in
-    ap (λ (e : Ends). e.length) ends ∙ sym (length-chain inside.links.items inside.tokens.items inside.chains.items inside.free c.args.self.now c.self.view_is c.args.chain)
+    ap (λ (e : Ends). e.length) ends
+    ∙ sym (length-chain inside.links.items inside.tokens.items inside.chains.items inside.free c.args.self.now c.self.view_is c.args.chain)

@@ -15,7 +15,8 @@ invariant_of-result c =
     let length-tokens : length tokens ≡ c.args.cells = sym c.in_ok-tokens.tokens.ok.0 ∙ c.in_ok-tokens.ensures.len in
     let free : Ends = record { front = 0; end = c.saturating_sub.result; length = c.args.cells } in
     subst₂ (λ l e. IsSound l tokens e free) (sym links) (sym ends)
-    (subst (λ (end : ℕ). IsSound (range_with_len 1 c.args.cells) tokens (replicate c.args.chains no_cells) (record { front = 0; end = end; length = c.args.cells }))
+    (subst (λ (end : ℕ). IsSound (range_with_len 1 c.args.cells) tokens (replicate c.args.chains no_cells)
+    (record { front = 0; end = end; length = c.args.cells }))
     (sym c.saturating_sub.ensures)
     (IsSound-opening c.args.cells c.args.chains tokens c.requires.few_cells length-tokens))
 

@@ -12,4 +12,5 @@ take_into-requires-clause-enough c =
     omega (arith, c.requires, length-chains inside.links.items inside.tokens.items inside.chains.items inside.free c.args.self.now c.self.view_is) in
     let ends : c.index.result.now ≡ get_or inside.chains.items c.args.chain no_cells =
     c.index.ensures ∙ get_or-default inside.chains.items c.args.chain c.index.result.now no_cells known in
-    omega (arith, ap (λ (e : Ends). e.length) ends, length-chain inside.links.items inside.tokens.items inside.chains.items inside.free c.args.self.now c.self.view_is c.args.chain)
+    let shown = length-chain inside.links.items inside.tokens.items inside.chains.items inside.free c.args.self.now c.self.view_is c.args.chain in
+    omega (arith, ap (λ (e : Ends). e.length) ends, shown)

@@ -7,34 +7,62 @@ use Rattle.csdf_pool.specs.Pool.{Shared, chain_of, held_cells, held_tokens}
 use Rattle.csdf_pool.proofs.OneByOne.{same_pools, takes_are}
 use Rattle.csdf_pool.proofs.Segments.{segment_within, segment_end}
 use Rattle.csdf_pool.proofs.Moves.{chain_fits, ends_apart, IsSound-taken, chains_taken, free_taken, tokens_taken}
-use Rattle.csdf_pool.proofs.Tables.{written_back, get_or-default, some_of}
-use Rattle.csdf_pool.proofs.Views.{length-chains, length-chain}
+use Rattle.csdf_pool.proofs.Tables.{written_back, some_of}
+use Rattle.csdf_pool.proofs.Views.{Chosen, to_take}
 use Rattle.csdf_pool.proofs.pool.Pool.take_into.Goals as goal
 
 pub overflow_cast-n : goal.overflow_cast-n
 overflow_cast-n c =
     let inside = c.self.inside in
+    let t = to_take inside.links.items inside.tokens.items inside.chains.items inside.free c.args.self.now c.self.view_is c.args.chain
+    (length c.args.tokens.now) c.index.result.now c.requires.chain c.requires.enough c.index.ensures in
+    let fits = chain_fits inside.links.items inside.tokens.items inside.chains.items inside.free c.self.invariant c.args.chain t.known in
+    omega (arith, t.size, c.self.invariant.size_fits, fits)
+
+-- what the call knows of the chain, before the tokens are copied, before the cells move and at the end
+at_copy : (c : goal.After-copy_out-arg-1)
+    → Chosen c.self.inside.chains.items c.args.chain c.index.result.now (get_or c.self.inside.chains.items c.args.chain no_cells) (length c.args.tokens.now)
+at_copy c =
+    let inside = c.self.inside in
+    to_take inside.links.items inside.tokens.items inside.chains.items inside.free c.args.self.now c.self.view_is c.args.chain
+    (length c.args.tokens.now) c.index.result.now c.requires.chain c.requires.enough c.index.ensures
+
+at_move : (c : goal.After-move_cells-arg-1)
+    → Chosen c.self.inside.chains.items c.args.chain c.index.result.now (get_or c.self.inside.chains.items c.args.chain no_cells) (length c.args.tokens.now)
+at_move c =
+    let inside = c.self.inside in
+    to_take inside.links.items inside.tokens.items inside.chains.items inside.free c.args.self.now c.self.view_is c.args.chain
+    (length c.args.tokens.now) c.index.result.now c.requires.chain c.requires.enough c.index.ensures
+
+at_end : (c : goal.After-self-2-1)
+    → Chosen c.self.inside.chains.items c.args.chain c.index.result.now (get_or c.self.inside.chains.items c.args.chain no_cells) (length c.args.tokens.now)
+at_end c =
+    let inside = c.self.inside in
+    to_take inside.links.items inside.tokens.items inside.chains.items inside.free c.args.self.now c.self.view_is c.args.chain
+    (length c.args.tokens.now) c.index.result.now c.requires.chain c.requires.enough c.index.ensures
+
+-- the cells that moved, and the links as the pool has them then
+moves : (c : goal.After-self-2-1)
+    → MovesCells c.self.inside.links.items c.move_cells.new.links (get_or c.self.inside.chains.items c.args.chain no_cells) c.move_cells.new.from
+    c.self.inside.free c.move_cells.new.to (length c.args.tokens.now)
+moves c =
     let n = length c.args.tokens.now in
-    let known : c.args.chain < length inside.chains.items =
-    omega (arith, c.requires.chain, length-chains inside.links.items inside.tokens.items inside.chains.items inside.free c.args.self.now c.self.view_is) in
-    let ends : c.index.result.now ≡ get_or inside.chains.items c.args.chain no_cells =
-    c.index.ensures ∙ get_or-default inside.chains.items c.args.chain c.index.result.now no_cells known in
-    let size : n ≤ (get_or inside.chains.items c.args.chain no_cells).length =
-    omega (arith, c.requires.enough, length-chain inside.links.items inside.tokens.items inside.chains.items inside.free c.args.self.now c.self.view_is c.args.chain) in
-    omega (arith, size, c.self.invariant.size_fits, chain_fits inside.links.items inside.tokens.items inside.chains.items inside.free c.self.invariant c.args.chain known)
+    subst₂ (λ l e. MovesCells l c.move_cells.new.links e c.move_cells.new.from c.self.inside.free c.move_cells.new.to n)
+    c.deref_mut.ensures.value (at_end c).is c.move_cells.ensures
+
+new_links : (c : goal.After-self-2-1)
+    → take c.self.inside.links.len (c.move_cells.new.links ++ drop (length c.move_cells.new.links) c.self.inside.links.items) ≡ c.move_cells.new.links
+new_links c =
+    written_back c.self.inside.links.len c.move_cells.new.links (drop (length c.move_cells.new.links) c.self.inside.links.items)
+    (c.move_cells.auto.links ∙ c.deref_mut.ensures.len)
 
 pub copy_out-last-requires-clause-in_links : goal.copy_out-last-requires-clause-in_links
 copy_out-last-requires-clause-in_links c =
+    let t = at_copy c in
     let inside = c.self.inside in
     let n = length c.args.tokens.now in
-    let known : c.args.chain < length inside.chains.items =
-    omega (arith, c.requires.chain, length-chains inside.links.items inside.tokens.items inside.chains.items inside.free c.args.self.now c.self.view_is) in
-    let ends : c.index.result.now ≡ get_or inside.chains.items c.args.chain no_cells =
-    c.index.ensures ∙ get_or-default inside.chains.items c.args.chain c.index.result.now no_cells known in
-    let size : n ≤ (get_or inside.chains.items c.args.chain no_cells).length =
-    omega (arith, c.requires.enough, length-chain inside.links.items inside.tokens.items inside.chains.items inside.free c.args.self.now c.self.view_is c.args.chain) in
-    subst₂ (λ l (e : Ends). All (λ cell. cell < length l) (linked_from l e.front n)) (sym c.deref.ensures.value) (sym ends)
-    (segment_within inside.links.items (get_or inside.chains.items c.args.chain no_cells) n size (c.self.invariant.each_chain c.args.chain known))
+    subst₂ (λ l (e : Ends). All (λ cell. cell < length l) (linked_from l e.front n)) (sym c.deref.ensures.value) (sym t.is)
+    (segment_within inside.links.items (get_or inside.chains.items c.args.chain no_cells) n t.size (c.self.invariant.each_chain c.args.chain t.known))
 
 pub copy_out-last-requires-clause-in_table : goal.copy_out-last-requires-clause-in_table
 copy_out-last-requires-clause-in_table c =
@@ -45,125 +73,74 @@ copy_out-last-requires-clause-in_table c =
 
 pub move_cells-requires-clause-from_chain : goal.move_cells-requires-clause-from_chain
 move_cells-requires-clause-from_chain c =
+    let t = at_move c in
     let inside = c.self.inside in
     let n = length c.args.tokens.now in
-    let known : c.args.chain < length inside.chains.items =
-    omega (arith, c.requires.chain, length-chains inside.links.items inside.tokens.items inside.chains.items inside.free c.args.self.now c.self.view_is) in
-    let ends : c.index.result.now ≡ get_or inside.chains.items c.args.chain no_cells =
-    c.index.ensures ∙ get_or-default inside.chains.items c.args.chain c.index.result.now no_cells known in
-    let size : n ≤ (get_or inside.chains.items c.args.chain no_cells).length =
-    omega (arith, c.requires.enough, length-chain inside.links.items inside.tokens.items inside.chains.items inside.free c.args.self.now c.self.view_is c.args.chain) in
-    subst₂ IsChain (sym c.deref_mut.ensures.value) (sym ends) (c.self.invariant.each_chain c.args.chain known)
+    subst₂ IsChain (sym c.deref_mut.ensures.value) (sym t.is) (c.self.invariant.each_chain c.args.chain t.known)
 
 pub move_cells-requires-clause-apart : goal.move_cells-requires-clause-apart
 move_cells-requires-clause-apart c =
+    let t = at_move c in
     let inside = c.self.inside in
     let n = length c.args.tokens.now in
-    let known : c.args.chain < length inside.chains.items =
-    omega (arith, c.requires.chain, length-chains inside.links.items inside.tokens.items inside.chains.items inside.free c.args.self.now c.self.view_is) in
-    let ends : c.index.result.now ≡ get_or inside.chains.items c.args.chain no_cells =
-    c.index.ensures ∙ get_or-default inside.chains.items c.args.chain c.index.result.now no_cells known in
-    let size : n ≤ (get_or inside.chains.items c.args.chain no_cells).length =
-    omega (arith, c.requires.enough, length-chain inside.links.items inside.tokens.items inside.chains.items inside.free c.args.self.now c.self.view_is c.args.chain) in
-    subst₂ (λ l e. EachOnce (cells_of l e ++ cells_of l inside.free)) (sym c.deref_mut.ensures.value) (sym ends)
-    (ends_apart inside.links.items inside.tokens.items inside.chains.items inside.free c.self.invariant c.args.chain known)
+    subst₂ (λ l e. EachOnce (cells_of l e ++ cells_of l inside.free)) (sym c.deref_mut.ensures.value) (sym t.is)
+    (ends_apart inside.links.items inside.tokens.items inside.chains.items inside.free c.self.invariant c.args.chain t.known)
 
 pub move_cells-requires-clause-enough : goal.move_cells-requires-clause-enough
 move_cells-requires-clause-enough c =
+    let t = at_move c in
     let inside = c.self.inside in
     let n = length c.args.tokens.now in
-    let known : c.args.chain < length inside.chains.items =
-    omega (arith, c.requires.chain, length-chains inside.links.items inside.tokens.items inside.chains.items inside.free c.args.self.now c.self.view_is) in
-    let ends : c.index.result.now ≡ get_or inside.chains.items c.args.chain no_cells =
-    c.index.ensures ∙ get_or-default inside.chains.items c.args.chain c.index.result.now no_cells known in
-    let size : n ≤ (get_or inside.chains.items c.args.chain no_cells).length =
-    omega (arith, c.requires.enough, length-chain inside.links.items inside.tokens.items inside.chains.items inside.free c.args.self.now c.self.view_is c.args.chain) in
-    subst (λ (e : Ends). n ≤ e.length) (sym ends) size
+    subst (λ (e : Ends). n ≤ e.length) (sym t.is) t.size
 
 pub move_cells-requires-clause-last : goal.move_cells-requires-clause-last
 move_cells-requires-clause-last c =
+    let t = at_move c in
     let inside = c.self.inside in
     let n = length c.args.tokens.now in
-    let known : c.args.chain < length inside.chains.items =
-    omega (arith, c.requires.chain, length-chains inside.links.items inside.tokens.items inside.chains.items inside.free c.args.self.now c.self.view_is) in
-    let ends : c.index.result.now ≡ get_or inside.chains.items c.args.chain no_cells =
-    c.index.ensures ∙ get_or-default inside.chains.items c.args.chain c.index.result.now no_cells known in
-    let size : n ≤ (get_or inside.chains.items c.args.chain no_cells).length =
-    omega (arith, c.requires.enough, length-chain inside.links.items inside.tokens.items inside.chains.items inside.free c.args.self.now c.self.view_is c.args.chain) in
     c.copy_out-last.ensures.last
     ∙ ap (λ l. get_or (linked_from l c.index.result.now.front n) (n - 1) 0) (c.deref.ensures.value ∙ sym c.deref_mut.ensures.value)
-    ∙ segment_end c.deref_mut.result.now c.index.result.now n (subst (λ (e : Ends). n ≤ e.length) (sym ends) size) (some_of n c.is_empty.result c.is_empty.ensures c.if-is_empty.false)
+    ∙ segment_end c.deref_mut.result.now c.index.result.now n (subst (λ (e : Ends). n ≤ e.length) (sym t.is) t.size)
+    (some_of n c.is_empty.result c.is_empty.ensures c.if-is_empty.false)
 
 pub invariant_of-self : goal.invariant_of-self
 invariant_of-self c =
+    let t = at_end c in
     let inside = c.self.inside in
     let n = length c.args.tokens.now in
-    let known : c.args.chain < length inside.chains.items =
-    omega (arith, c.requires.chain, length-chains inside.links.items inside.tokens.items inside.chains.items inside.free c.args.self.now c.self.view_is) in
-    let ends : c.index.result.now ≡ get_or inside.chains.items c.args.chain no_cells =
-    c.index.ensures ∙ get_or-default inside.chains.items c.args.chain c.index.result.now no_cells known in
-    let size : n ≤ (get_or inside.chains.items c.args.chain no_cells).length =
-    omega (arith, c.requires.enough, length-chain inside.links.items inside.tokens.items inside.chains.items inside.free c.args.self.now c.self.view_is c.args.chain) in
-    let moves : MovesCells inside.links.items c.move_cells.new.links (get_or inside.chains.items c.args.chain no_cells) c.move_cells.new.from inside.free c.move_cells.new.to n =
-    subst₂ (λ l e. MovesCells l c.move_cells.new.links e c.move_cells.new.from inside.free c.move_cells.new.to n) c.deref_mut.ensures.value ends c.move_cells.ensures in
-    let new_links : take inside.links.len (c.move_cells.new.links ++ drop (length c.move_cells.new.links) inside.links.items) ≡ c.move_cells.new.links =
-    written_back inside.links.len c.move_cells.new.links (drop (length c.move_cells.new.links) inside.links.items) (c.move_cells.auto.links ∙ c.deref_mut.ensures.len) in
-    subst (λ l. IsSound l inside.tokens.items (set inside.chains.items c.args.chain c.move_cells.new.from) c.move_cells.new.to) (sym new_links)
-    (IsSound-taken inside.links.items inside.tokens.items inside.chains.items inside.free c.self.invariant c.args.chain known
-    c.move_cells.new.links c.move_cells.new.from c.move_cells.new.to n (c.move_cells.auto.links ∙ ap length c.deref_mut.ensures.value) moves)
+    subst (λ l. IsSound l inside.tokens.items (set inside.chains.items c.args.chain c.move_cells.new.from) c.move_cells.new.to) (sym (new_links c))
+    (IsSound-taken inside.links.items inside.tokens.items inside.chains.items inside.free c.self.invariant c.args.chain t.known
+    c.move_cells.new.links c.move_cells.new.from c.move_cells.new.to n (c.move_cells.auto.links ∙ ap length c.deref_mut.ensures.value) (moves c))
 
 pub returns-clause-tokens : goal.returns-clause-tokens
 returns-clause-tokens c =
+    let t = at_end c in
     let inside = c.self.inside in
     let n = length c.args.tokens.now in
-    let known : c.args.chain < length inside.chains.items =
-    omega (arith, c.requires.chain, length-chains inside.links.items inside.tokens.items inside.chains.items inside.free c.args.self.now c.self.view_is) in
-    let ends : c.index.result.now ≡ get_or inside.chains.items c.args.chain no_cells =
-    c.index.ensures ∙ get_or-default inside.chains.items c.args.chain c.index.result.now no_cells known in
-    let size : n ≤ (get_or inside.chains.items c.args.chain no_cells).length =
-    omega (arith, c.requires.enough, length-chain inside.links.items inside.tokens.items inside.chains.items inside.free c.args.self.now c.self.view_is c.args.chain) in
     c.copy_out-last.ensures.tokens
-    ∙ ap₂ (λ l (e : Ends). map (token_at c.deref-2.result.now) (linked_from l e.front n)) c.deref.ensures.value ends
+    ∙ ap₂ (λ l (e : Ends). map (token_at c.deref-2.result.now) (linked_from l e.front n)) c.deref.ensures.value t.is
     ∙ ap (λ t. map (token_at t) (linked_from inside.links.items (get_or inside.chains.items c.args.chain no_cells).front n)) c.deref-2.ensures.value
-    ∙ tokens_taken inside.links.items inside.tokens.items inside.chains.items inside.free c.self.invariant c.args.chain known n size
+    ∙ tokens_taken inside.links.items inside.tokens.items inside.chains.items inside.free c.self.invariant c.args.chain t.known n t.size
     ∙ ap (λ (pool : Shared). held_tokens (take n (chain_of pool c.args.chain))) c.self.view_is
 
 pub returns-clause-chains : goal.returns-clause-chains
 returns-clause-chains c =
+    let t = at_end c in
     let inside = c.self.inside in
     let n = length c.args.tokens.now in
-    let known : c.args.chain < length inside.chains.items =
-    omega (arith, c.requires.chain, length-chains inside.links.items inside.tokens.items inside.chains.items inside.free c.args.self.now c.self.view_is) in
-    let ends : c.index.result.now ≡ get_or inside.chains.items c.args.chain no_cells =
-    c.index.ensures ∙ get_or-default inside.chains.items c.args.chain c.index.result.now no_cells known in
-    let size : n ≤ (get_or inside.chains.items c.args.chain no_cells).length =
-    omega (arith, c.requires.enough, length-chain inside.links.items inside.tokens.items inside.chains.items inside.free c.args.self.now c.self.view_is c.args.chain) in
-    let moves : MovesCells inside.links.items c.move_cells.new.links (get_or inside.chains.items c.args.chain no_cells) c.move_cells.new.from inside.free c.move_cells.new.to n =
-    subst₂ (λ l e. MovesCells l c.move_cells.new.links e c.move_cells.new.from inside.free c.move_cells.new.to n) c.deref_mut.ensures.value ends c.move_cells.ensures in
-    let new_links : take inside.links.len (c.move_cells.new.links ++ drop (length c.move_cells.new.links) inside.links.items) ≡ c.move_cells.new.links =
-    written_back inside.links.len c.move_cells.new.links (drop (length c.move_cells.new.links) inside.links.items) (c.move_cells.auto.links ∙ c.deref_mut.ensures.len) in
-    ap (λ l. map (held_in l inside.tokens.items) (set inside.chains.items c.args.chain c.move_cells.new.from)) new_links
-    ∙ chains_taken inside.links.items inside.tokens.items inside.chains.items inside.free c.self.invariant c.args.chain known
-    c.move_cells.new.links c.move_cells.new.from c.move_cells.new.to n (c.move_cells.auto.links ∙ ap length c.deref_mut.ensures.value) moves
+    ap (λ l. map (held_in l inside.tokens.items) (set inside.chains.items c.args.chain c.move_cells.new.from)) (new_links c)
+    ∙ chains_taken inside.links.items inside.tokens.items inside.chains.items inside.free c.self.invariant c.args.chain t.known
+    c.move_cells.new.links c.move_cells.new.from c.move_cells.new.to n (c.move_cells.auto.links ∙ ap length c.deref_mut.ensures.value) (moves c)
     ∙ ap (λ (pool : Shared). set pool.chains c.args.chain (drop n (chain_of pool c.args.chain))) c.self.view_is
 
 pub returns-clause-free : goal.returns-clause-free
 returns-clause-free c =
+    let t = at_end c in
     let inside = c.self.inside in
     let n = length c.args.tokens.now in
-    let known : c.args.chain < length inside.chains.items =
-    omega (arith, c.requires.chain, length-chains inside.links.items inside.tokens.items inside.chains.items inside.free c.args.self.now c.self.view_is) in
-    let ends : c.index.result.now ≡ get_or inside.chains.items c.args.chain no_cells =
-    c.index.ensures ∙ get_or-default inside.chains.items c.args.chain c.index.result.now no_cells known in
-    let size : n ≤ (get_or inside.chains.items c.args.chain no_cells).length =
-    omega (arith, c.requires.enough, length-chain inside.links.items inside.tokens.items inside.chains.items inside.free c.args.self.now c.self.view_is c.args.chain) in
-    let moves : MovesCells inside.links.items c.move_cells.new.links (get_or inside.chains.items c.args.chain no_cells) c.move_cells.new.from inside.free c.move_cells.new.to n =
-    subst₂ (λ l e. MovesCells l c.move_cells.new.links e c.move_cells.new.from inside.free c.move_cells.new.to n) c.deref_mut.ensures.value ends c.move_cells.ensures in
-    let new_links : take inside.links.len (c.move_cells.new.links ++ drop (length c.move_cells.new.links) inside.links.items) ≡ c.move_cells.new.links =
-    written_back inside.links.len c.move_cells.new.links (drop (length c.move_cells.new.links) inside.links.items) (c.move_cells.auto.links ∙ c.deref_mut.ensures.len) in
-    ap (λ l. cells_of l c.move_cells.new.to) new_links
-    ∙ free_taken inside.links.items inside.tokens.items inside.chains.items inside.free c.self.invariant c.args.chain known
-    c.move_cells.new.links c.move_cells.new.from c.move_cells.new.to n (c.move_cells.auto.links ∙ ap length c.deref_mut.ensures.value) moves
+    ap (λ l. cells_of l c.move_cells.new.to) (new_links c)
+    ∙ free_taken inside.links.items inside.tokens.items inside.chains.items inside.free c.self.invariant c.args.chain t.known
+    c.move_cells.new.links c.move_cells.new.from c.move_cells.new.to n (c.move_cells.auto.links ∙ ap length c.deref_mut.ensures.value) (moves c)
     ∙ ap (λ (pool : Shared). pool.free ++ held_cells (take n (chain_of pool c.args.chain))) c.self.view_is
 
 pub returns-clause-shared_out : goal.returns-clause-shared_out
@@ -173,19 +150,13 @@ pub returns-clause-one_by_one : goal.returns-clause-one_by_one
 returns-clause-one_by_one c =
     let inside = c.self.inside in
     let n = length c.args.tokens.now in
-    let known : c.args.chain < length inside.chains.items =
-    omega (arith, c.requires.chain, length-chains inside.links.items inside.tokens.items inside.chains.items inside.free c.args.self.now c.self.view_is) in
-    let ends : c.index.result.now ≡ get_or inside.chains.items c.args.chain no_cells =
-    c.index.ensures ∙ get_or-default inside.chains.items c.args.chain c.index.result.now no_cells known in
-    let size : n ≤ (get_or inside.chains.items c.args.chain no_cells).length =
-    omega (arith, c.requires.enough, length-chain inside.links.items inside.tokens.items inside.chains.items inside.free c.args.self.now c.self.view_is c.args.chain) in
-    let moves : MovesCells inside.links.items c.move_cells.new.links (get_or inside.chains.items c.args.chain no_cells) c.move_cells.new.from inside.free c.move_cells.new.to n =
-    subst₂ (λ l e. MovesCells l c.move_cells.new.links e c.move_cells.new.from inside.free c.move_cells.new.to n) c.deref_mut.ensures.value ends c.move_cells.ensures in
-    let new_links : take inside.links.len (c.move_cells.new.links ++ drop (length c.move_cells.new.links) inside.links.items) ≡ c.move_cells.new.links =
-    written_back inside.links.len c.move_cells.new.links (drop (length c.move_cells.new.links) inside.links.items) (c.move_cells.auto.links ∙ c.deref_mut.ensures.len) in
     let pool = c.args.self.now in
-    same_pools _ (record { size = pool.size; chains = set pool.chains c.args.chain (drop n (chain_of pool c.args.chain)); free = pool.free ++ held_cells (take n (chain_of pool c.args.chain)) })
-    (ap length new_links ∙ c.move_cells.auto.links ∙ ap length c.deref_mut.ensures.value ∙ ap (λ (shown : Shared). shown.size) c.self.view_is)
+    same_pools _ (record {
+      size = pool.size;
+      chains = set pool.chains c.args.chain (drop n (chain_of pool c.args.chain));
+      free = pool.free ++ held_cells (take n (chain_of pool c.args.chain));
+    })
+    (ap length (new_links c) ∙ c.move_cells.auto.links ∙ ap length c.deref_mut.ensures.value ∙ ap (λ (shown : Shared). shown.size) c.self.view_is)
     (returns-clause-chains c)
     (returns-clause-free c)
     ∙ sym (takes_are pool.size c.args.chain pool.chains pool.free n c.requires.chain)

@@ -6,11 +6,12 @@ use native.Mathlib.Decide.{ℕ_discrete, dec_lt}
 use lib.ListN.{get_elem?}
 use Rattle.csdf_claims.specs.declared.rule.View.{View}
 use Rattle.csdf_claims.specs.Board.{track_of, times, total, word_of}
-use Rattle.csdf_claims.specs.Laws.{OneHolds, OneFinished, FinishedBelow}
+use Rattle.csdf_claims.specs.Laws.{OneHolds, OneFinished, FinishedOnce, FinishedBelow}
 use Rattle.csdf_claims.proofs.Totals.{total_at, times_one_same}
 use Rattle.csdf_claims.proofs.Lawful.{holder}
 
-two_at : (f : View → ℕ) (places : List View) (i j : ℕ) (v w : View) → i ≢ j → get_elem? places i ≡ some v → get_elem? places j ≡ some w → f v + f w ≤ total f places
+two_at : (f : View → ℕ) (places : List View) (i j : ℕ) (v w : View) → i ≢ j → get_elem? places i ≡ some v → get_elem? places j ≡ some w
+    → f v + f w ≤ total f places
 two_at f [] i j v w ne e e' = absurd (some-ne-none v (sym e))
 two_at f (x ∷ xs) zero zero v w ne e e' = absurd (ne refl)
 two_at f (x ∷ xs) zero (suc j) v w ne e e' = let is : f x ≡ f v = ap f (some-injective x v e) in let r = total_at f xs j w e' in omega arith
@@ -40,6 +41,12 @@ one_finished actors words places L a x lt i j v w e e' hv hw = dite (ℕ_discret
     let l = L.each a lt in let n : ℕ = word_of words a in
     let two = two_at (λ u. times x (track_of u a).finished) places i j v w ne e e' in
     dite (dec_lt x (n / 2)) (λ h. let o = l.finished x h in absurd (omega arith)) (λ h. let o = l.unfinished x (omega arith) in absurd (omega arith)))
+
+pub finished_once : FinishedOnce
+finished_once actors words places L a x lt i v e =
+    let l = L.each a lt in let n : ℕ = word_of words a in
+    let m = total_at (λ u. times x (track_of u a).finished) places i v e in
+    dite (dec_lt x (n / 2)) (λ h. let o = l.finished x h in omega arith) (λ h. let o = l.unfinished x (omega arith) in omega arith)
 
 pub finished_below : FinishedBelow
 finished_below actors words places L a x lt =
