@@ -1,16 +1,15 @@
 -- What the limits of a graph say of a run, and the channels of each actor.
-use Rattle.std.proofs.Common.{◌≡◌, ℕ, zero, suc, ◌+◌, ◌<◌, ◌≤◌, inl, inr, Bool, true, false, cond, List, [], ◌∷◌, ◌++◌, length, get_or, refl, sym, ap, subst, ◌∙◌, arith}
+use Rattle.std.proofs.Common.{◌≡◌, ℕ, zero, suc, ◌+◌, ◌<◌, ◌≤◌, ◌==◌, Bool, true, false, cond, List, [], ◌∷◌, ◌++◌, length, get_or, refl, sym, ap, subst, ◌∙◌, arith}
 use Rattle.std.specs.Prelude.{All, slice_get, Some}
-use Rattle.std.proofs.Math.Seq.{get_or-append_seam}
 use Rattle.std.proofs.lemmas.List.{get_or_append_left, get_or_default, length_push}
+use Rattle.std.proofs.lemmas.Bool.{eqb-true}
 use Rattle.std.proofs.lemmas.Option.{slice_get_within, get_or_from_slice_get}
-use Rattle.csdf_graph.specs.Graph.{Channel, numbers_from}
+use Rattle.csdf_graph.specs.Graph.{Channel, numbers_from, inputs_of, outputs_of}
 use Rattle.csdf_graph.specs.Rates.{produced}
-use Rattle.csdf_graph.specs.declared.ports.Ports.{Ports}
 use Rattle.csdf_analysis.specs.Repetition.{full_capacity}
 use Rattle.csdf_analysis.specs.Laws.{IsWithinAll}
-use Rattle.csdf_analysis.specs.Fitting.{IsBetween, IsFit, ArePorts, AreGathered}
-use Rattle.csdf_analysis.proofs.CountLemmas.{same_or_not, total_mono}
+use Rattle.csdf_analysis.specs.Fitting.{IsBetween, IsFit}
+use Rattle.csdf_analysis.proofs.CountLemmas.{total_mono}
 
 -- ---- one channel
 
@@ -25,21 +24,6 @@ put_small channels q n i c fit is within =
     let room : full_capacity q c ≤ 65535 = at (λ d. full_capacity q d ≤ 65535) channels i c fit.room is in
     let more : produced c (get_or n c.from 0) ≤ produced c (get_or q c.from 0) = total_mono c.produce (get_or n c.from 0) (get_or q c.from 0) (within c.from) in
     omega arith
-
--- ---- gathering
-
-pub gathered_more : (channels : List Channel) (ports next : List Ports) (n : ℕ) (p : Ports) → next ≡ ports ++ p ∷ [] → ArePorts channels n p → AreGathered channels n ports → AreGathered channels (n + 1) next
-gathered_more channels ports next n p pushed is are =
-    let len : length next ≡ length ports + 1 = ap length pushed ∙ length_push ports p in
-    record {
-      count = (let before = are.count in omega arith);
-      each = λ a d lt. elim (same_or_not a n) [
-        | inl last ↦ subst (λ x. ArePorts channels a x) (sym (ap (λ xs. get_or xs a d) pushed ∙ ap (λ k. get_or (ports ++ p ∷ []) k d) (last ∙ sym are.count) ∙ get_or-append_seam ports p [] d)) (subst (λ k. ArePorts channels k p) (sym last) is)
-        | inr other ↦
-            let before : a < n = omega (arith, other) in
-            subst (λ x. ArePorts channels a x) (sym (ap (λ xs. get_or xs a d) pushed ∙ get_or_append_left ports (p ∷ []) d a (let count = are.count in omega arith))) (are.each a d before)
-      ];
-    }
 
 -- ---- the numbers of some of the channels
 
@@ -97,3 +81,40 @@ numbers_within own channels = λ k d lt.
     let same : get_or (numbers_from 0 own channels) k d ≡ get_or (numbers_from 0 own channels) k 0 = get_or_default (numbers_from 0 own channels) k d 0 lt in
     let within = slice_get_within channels (get_or (numbers_from 0 own channels) k 0) at.0 at.1 in
     omega arith)
+
+-- a channel whose number stands in the list is such a channel
+pub own_end : (own : Channel → Bool) (channels : List Channel) (numbers : List ℕ) (k : ℕ) (c : Channel) → numbers ≡ numbers_from 0 own channels → k < length numbers → slice_get channels (get_or numbers k 0) ≡ Some c → own c ≡ true
+own_end own channels numbers k c is lt at =
+    let mine = own_at own channels k (let e = ap length is in omega arith) in
+    let number : slice_get channels (get_or numbers k 0) ≡ Some (mine.0) = ap (λ ks. slice_get channels (get_or ks k 0)) is ∙ mine.1 in
+    let same : mine.0 ≡ c = cc in
+    ap own (sym same) ∙ mine.2
+
+-- the numbers ascend
+ascending : (own : Channel → Bool) (i : ℕ) (channels : List Channel) (j k : ℕ) → j < k → k < length (numbers_from i own channels) → get_or (numbers_from i own channels) j 0 < get_or (numbers_from i own channels) k 0
+ascending own i [] j k less lt = absurd (omega arith)
+ascending own i (c ∷ channels) j k less lt =
+    by (own c) (λ m few. (let from = own_from own (suc i) channels m few in let e = from.2 in omega arith)) (λ l m lower few. ascending own (suc i) channels l m lower few) j k less lt
+  where
+    by : (b : Bool) → ((m : ℕ) → m < length (numbers_from (suc i) own channels) → suc i ≤ get_or (numbers_from (suc i) own channels) m 0)
+        → ((l m : ℕ) → l < m → m < length (numbers_from (suc i) own channels) → get_or (numbers_from (suc i) own channels) l 0 < get_or (numbers_from (suc i) own channels) m 0)
+        → (l m : ℕ) → l < m → m < length (cond b (i ∷ numbers_from (suc i) own channels) (numbers_from (suc i) own channels))
+        → get_or (cond b (i ∷ numbers_from (suc i) own channels) (numbers_from (suc i) own channels)) l 0 < get_or (cond b (i ∷ numbers_from (suc i) own channels) (numbers_from (suc i) own channels)) m 0
+    by true above rest l zero lower few = absurd (omega arith)
+    by true above rest zero (suc m) lower few = (let h = above m (omega arith) in omega arith)
+    by true above rest (suc l) (suc m) lower few = rest l m (omega arith) (omega arith)
+    by false above rest l m lower few = rest l m lower few
+
+-- no number stands there twice
+pub numbers_apart : (own : Channel → Bool) (channels : List Channel) (numbers : List ℕ) (j k : ℕ) → numbers ≡ numbers_from 0 own channels → j < k → k < length numbers → get_or numbers j 0 ≡ get_or numbers k 0 → ⊥
+numbers_apart own channels numbers j k is less lt same =
+    let up = ascending own 0 channels j k less (let e = ap length is in omega arith) in
+    let first = ap (λ ks. get_or ks j 0) is in
+    let second = ap (λ ks. get_or ks k 0) is in
+    absurd (omega arith)
+
+pub input_end : (channels : List Channel) (numbers : List ℕ) (a k : ℕ) (c : Channel) → numbers ≡ inputs_of channels a → k < length numbers → slice_get channels (get_or numbers k 0) ≡ Some c → c.to ≡ a
+input_end channels numbers a k c is lt at = eqb-true c.to a (own_end (λ d. d.to == a) channels numbers k c is lt at)
+
+pub output_end : (channels : List Channel) (numbers : List ℕ) (a k : ℕ) (c : Channel) → numbers ≡ outputs_of channels a → k < length numbers → slice_get channels (get_or numbers k 0) ≡ Some c → c.from ≡ a
+output_end channels numbers a k c is lt at = eqb-true c.from a (own_end (λ d. d.from == a) channels numbers k c is lt at)

@@ -6,6 +6,7 @@ pub mod BoundLemmas
 pub mod CountLemmas
 pub mod PeriodLemmas
 pub mod RoomLemmas
+pub mod FiringLemmas
 pub mod FitLemmas
 pub mod RunLemmas
 pub mod SearchLemmas

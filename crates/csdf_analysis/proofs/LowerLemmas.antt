@@ -178,6 +178,15 @@ pub seen_channel : (items : List ChannelCode) (channels : List Channel) (i : ℕ
 seen_channel items channels i x same lt is =
     ap (λ cs. slice_get cs i) (sym same) ∙ slice_get_read (map channel_view items) (length items) i (channel_view x) (sym (length-map items channel_view)) lt (sym (channel_at items i x is))
 
+-- its ends are actors
+pub seen_ends : (g : Graph) (items : List ChannelCode) (i : ℕ) (x : ChannelCode) → IsWellFormed g → map channel_view items ≡ g.channels → i < length g.channels → x ≡ get_or items i x → (slice_get g.channels i ≡ Some (channel_view x)) × (x.from < length g.actors) × (x.to < length g.actors)
+seen_ends g items i x whole same lt is =
+    let len = length-map items channel_view in
+    let count = ap length same in
+    let seen = seen_channel items g.channels i x same (omega (arith, len, count, lt)) is in
+    let ends = at (IsChannel g.actors) g.channels i (channel_view x) whole.fitting.channels seen in
+    (seen, ends.from, ends.to)
+
 pub none_of : (o : Option ℕ) (b : Bool) → is_some o ≡ not b → b ≡ true → o ≡ None
 none_of None b is holds = refl
 none_of (Some x) b is holds = absurd (true≢false (is ∙ ap not holds))

@@ -1,20 +1,21 @@
 -- Where a run stands, before and after a firing.
-use Rattle.std.proofs.Common.{◌≡◌, ℕ, ◌+◌, ◌-◌, ◌*◌, ◌<◌, ◌≤◌, ◌==◌, inl, inr, cond, List, length, replicate, get_or, sum, sym, ap, subst, ◌∙◌, arith}
+use Rattle.std.proofs.Common.{◌≡◌, ℕ, ◌+◌, ◌-◌, ◌*◌, ◌%◌, ◌<◌, ◌≤◌, ◌==◌, inl, inr, cond, List, length, replicate, get_or, sum, refl, sym, ap, subst, ◌∙◌, arith}
 use Rattle.std.specs.Prelude.{slice_get, Some}
 use Rattle.std.proofs.lemmas.List.Sums.{get_or-le-sum_by}
 use Rattle.std.proofs.lemmas.List.{length-replicate}
+use Rattle.std.proofs.Math.Nat.{zero-mod}
 use Rattle.std.proofs.lemmas.List.Folds.{sum_by-replicate}
-use Rattle.std.proofs.lemmas.Bool.{eqb-true, eq-eqb}
-use Rattle.csdf_graph.specs.Graph.{Channel, inputs_of, outputs_of}
+use Rattle.std.proofs.lemmas.Bool.{eqb-true, eq-eqb, ne_eqb}
+use Rattle.csdf_graph.specs.Graph.{Actor, Channel, inputs_of, outputs_of, phases_of}
 use Rattle.csdf_graph.specs.Rates.{produced, consumed, production, consumption}
 use Rattle.csdf_analysis.specs.Period.{held, own_consumption, held_after, fired, no_firings, IsReached, HoldInitial, CompletesPeriod, CanGo}
 use Rattle.csdf_analysis.specs.Laws.{IsWithinAll}
-use Rattle.csdf_analysis.specs.Fitting.{IsFit}
-use Rattle.csdf_analysis.specs.Running.{HasTokens, HasRoom, IsRight, AreHeld, IsAt, IsStalled}
-use Rattle.csdf_analysis.proofs.BoundLemmas.{rate_within}
-use Rattle.csdf_analysis.proofs.CountLemmas.{same_or_not, less_or_not, fired_other, fired_length, fired_within, fired_sum, sum_within, all_same}
+use Rattle.csdf_analysis.specs.Fitting.{IsFit, IsPhased}
+use Rattle.csdf_analysis.specs.Running.{HasTokens, HasRoom, AreHeld, AreInPhase, IsAt, IsStalled}
+use Rattle.csdf_analysis.proofs.CountLemmas.{same_or_not, less_or_not, fired_length, fired_within, fired_sum, sum_within, all_same, none_at}
 use Rattle.csdf_analysis.proofs.PeriodLemmas.{reached_fed, reached_more, reached_first, from_none, goes_on}
-use Rattle.csdf_analysis.proofs.FitLemmas.{between_at, put_small, own_at, stands_at}
+use Rattle.csdf_analysis.proofs.FitLemmas.{put_small, own_at, stands_at, input_end}
+use Rattle.csdf_analysis.proofs.FiringLemmas.{takes_in_phase, takes_now, gives_now}
 
 pub firings_within : (channels : List Channel) (q bounds counts lengths : List ℕ) (firings : ℕ) → IsAt channels q bounds counts lengths firings → firings ≤ sum q
 firings_within channels q bounds counts lengths firings at =
@@ -43,40 +44,46 @@ firings_left channels q bounds counts lengths firings a at go =
 same_channel : (channels : List Channel) (i : ℕ) (c d : Channel) → slice_get channels i ≡ Some c → slice_get channels i ≡ Some d → c ≡ d
 same_channel channels i c d p q = cc
 
-pub filled_is : (channels : List Channel) (n lengths : List ℕ) (i : ℕ) (v c : Channel) (firing len own left put : ℕ) → slice_get channels i ≡ Some v → AreHeld channels n lengths → firing ≡ get_or n v.from 0 → len ≡ get_or lengths i 0
-    → own ≡ cond (v.to == v.from) (consumption v firing) 0 → left ≡ len - own → put ≡ production v firing → slice_get channels i ≡ Some c → left + put ≡ held_after c.from n c
-filled_is channels n lengths i v c firing len own left put at held count length_is own_is left_is put_is is =
+pub filled_is : (actors : List Actor) (channels : List Channel) (q n lengths : List ℕ) (i : ℕ) (v c : Channel) (phase len own left put : ℕ) → IsPhased actors channels q → slice_get channels i ≡ Some v → AreHeld channels n lengths → phase ≡ get_or n v.from 0 % phases_of actors v.from
+    → len ≡ get_or lengths i 0 → own ≡ cond (v.to == v.from) (get_or v.consume phase 0) 0 → left ≡ len - own → put ≡ get_or v.produce phase 0 → slice_get channels i ≡ Some c → left + put ≡ held_after c.from n c
+filled_is actors channels q n lengths i v c phase len own left put phased at held now length_is own_is left_is put_is is =
     subst (λ d. left + put ≡ held_after d.from n d) (same_channel channels i v c at is)
     (let had = held i v at in
-    let taken : own ≡ own_consumption v.from n v = own_is ∙ ap (λ k. cond (v.to == v.from) (consumption v k) 0) count in
-    let given : put ≡ production v (get_or n v.from 0) = put_is ∙ ap (production v) count in
+    let given : put ≡ production v (get_or n v.from 0) = put_is ∙ sym (gives_now actors channels q n v.from phase i v phased now at refl) in
+    let taken : own ≡ own_consumption v.from n v = elim (same_or_not v.to v.from) [
+      | inl to ↦
+          own_is ∙ ap (λ b. cond b (get_or v.consume phase 0) 0) (eq-eqb v.to v.from to)
+          ∙ sym (takes_now actors channels q n v.from phase i v phased now at to)
+          ∙ sym (ap (λ b. cond b (consumption v (get_or n v.from 0)) 0) (eq-eqb v.to v.from to))
+      | inr other ↦ own_is ∙ ap (λ b. cond b (get_or v.consume phase 0) 0) (ne_eqb v.to v.from other) ∙ sym (ap (λ b. cond b (consumption v (get_or n v.from 0)) 0) (ne_eqb v.to v.from other))
+    ] in
     omega arith)
 
-pub filled_small : (channels : List Channel) (q n lengths : List ℕ) (i : ℕ) (v : Channel) (firing len put : ℕ) → IsFit channels q → IsWithinAll n q → slice_get channels i ≡ Some v → AreHeld channels n lengths → len ≡ get_or lengths i 0
-    → put ≡ production v firing → len + put ≤ 65599
-filled_small channels q n lengths i v firing len put fit within at held length_is put_is =
+pub filled_small : (channels : List Channel) (q n lengths : List ℕ) (i : ℕ) (v : Channel) (len put : ℕ) → IsFit channels q → IsWithinAll n q → slice_get channels i ≡ Some v → AreHeld channels n lengths → len ≡ get_or lengths i 0 → put ≤ 64 → len + put ≤ 65599
+filled_small channels q n lengths i v len put fit within at held length_is small =
     let had = held i v at in
     let most = put_small channels q n i v fit at within in
-    let small = rate_within v.produce firing (between_at channels q i v fit at).small in
     omega arith
 
-pub tokens_all : (channels : List Channel) (n numbers : List ℕ) (a firing m : ℕ) → numbers ≡ inputs_of channels a → firing ≡ get_or n a 0 → length numbers ≤ m
-    → ((k : ℕ) → k < m → (c : Channel) → slice_get channels (get_or numbers k 0) ≡ Some c → consumption c firing ≤ held c n) → HasTokens channels n a
-tokens_all channels n numbers a firing m is count le each i c at to =
+-- the test of one channel
+pub holds_is : (actors : List Actor) (channels : List Channel) (q n lengths : List ℕ) (i phase take len : ℕ) (c : Channel) → IsPhased actors channels q → AreHeld channels n lengths → slice_get channels i ≡ Some c → phase ≡ get_or n c.to 0 % phases_of actors c.to
+    → take ≡ get_or c.consume phase 0 → len ≡ get_or lengths i 0 → (take ≡ consumption c (get_or n c.to 0)) × (len ≡ held c n)
+holds_is actors channels q n lengths i phase take len c phased are at now take_is len_is = (take_is ∙ sym (takes_in_phase actors channels q i (get_or n c.to 0) phase c phased at now), len_is ∙ are i c at)
+
+pub tokens_all : (channels : List Channel) (n numbers : List ℕ) (a m : ℕ) → numbers ≡ inputs_of channels a → length numbers ≤ m
+    → ((k : ℕ) → k < m → (c : Channel) → slice_get channels (get_or numbers k 0) ≡ Some c → consumption c (get_or n c.to 0) ≤ held c n) → HasTokens channels n a
+tokens_all channels n numbers a m is le each i c at to =
     let stands = stands_at (λ d. d.to == a) channels i c at (eq-eqb c.to a to) in
     let number : get_or numbers (stands.0) 0 ≡ i = ap (λ ks. get_or ks (stands.0) 0) is ∙ stands.2 in
     let lt : stands.0 < m = (let h = stands.1 in let e = ap length is in omega arith) in
     let one = each (stands.0) lt c (ap (slice_get channels) number ∙ at) in
-    subst (λ k. consumption c k ≤ held c n) count one
+    subst (λ b. consumption c (get_or n b 0) ≤ held c n) to one
 
-pub tokens_some : (channels : List Channel) (n numbers : List ℕ) (a firing k : ℕ) → numbers ≡ inputs_of channels a → firing ≡ get_or n a 0 → k < length numbers → HasTokens channels n a
-    → (c : Channel) → slice_get channels (get_or numbers k 0) ≡ Some c → consumption c firing ≤ held c n
-tokens_some channels n numbers a firing k is count lt has c at =
-    let own = own_at (λ d. d.to == a) channels k (let e = ap length is in omega arith) in
-    let number : get_or numbers k 0 ≡ get_or (inputs_of channels a) k 0 = ap (λ ks. get_or ks k 0) is in
-    let same = same_channel channels (get_or numbers k 0) (own.0) c (ap (slice_get channels) number ∙ own.1) at in
-    let to : c.to ≡ a = subst (λ (d : Channel). d.to ≡ a) same (eqb-true (own.0.to) a own.2) in
-    subst (λ j. consumption c j ≤ held c n) (sym count) (has (get_or numbers k 0) c at to)
+pub tokens_some : (channels : List Channel) (n numbers : List ℕ) (a k : ℕ) → numbers ≡ inputs_of channels a → k < length numbers → HasTokens channels n a
+    → (c : Channel) → slice_get channels (get_or numbers k 0) ≡ Some c → consumption c (get_or n c.to 0) ≤ held c n
+tokens_some channels n numbers a k is lt has c at =
+    let to : c.to ≡ a = input_end channels numbers a k c is lt at in
+    subst (λ b. consumption c (get_or n b 0) ≤ held c n) (sym to) (has (get_or numbers k 0) c at to)
 
 pub room_all : (channels : List Channel) (bounds n numbers : List ℕ) (a m : ℕ) → numbers ≡ outputs_of channels a → length numbers ≤ m
     → ((k : ℕ) → k < m → (c : Channel) → slice_get channels (get_or numbers k 0) ≡ Some c → held_after c.from n c ≤ get_or bounds (get_or numbers k 0) 0) → HasRoom channels bounds n a
@@ -97,33 +104,6 @@ room_some channels bounds n numbers a k is lt has =
     (own.0, at, subst (λ b. held_after b n (own.0) ≤ get_or bounds (get_or numbers k 0) 0) (sym from) (has (get_or numbers k 0) (own.0) at from))
 
 -- ---- one firing more
-
--- the tokens of a channel that the actor doesn't touch
-apart : (channels : List Channel) (n lengths : List ℕ) (a i : ℕ) (c : Channel) → AreHeld channels n lengths → slice_get channels i ≡ Some c → (c.from ≡ a → ⊥) → (c.to ≡ a → ⊥) → IsRight channels (fired n a) lengths i
-apart channels n lengths a i c held at from to d is =
-    let same = same_channel channels i d c is at in
-    let had = held i c at in
-    let put : produced c (get_or (fired n a) c.from 0) ≡ produced c (get_or n c.from 0) = ap (produced c) (fired_other n a c.from from) in
-    let taken : consumed c (get_or (fired n a) c.to 0) ≡ consumed c (get_or n c.to 0) = ap (consumed c) (fired_other n a c.to to) in
-    subst (λ (e : Channel). get_or lengths i 0 ≡ length e.initial + produced e (get_or (fired n a) e.from 0) - consumed e (get_or (fired n a) e.to 0)) (sym same) (omega arith)
-
-right_at : (channels : List Channel) (n lengths numbers own : List ℕ) (i : ℕ) → numbers ≡ own → ((k : ℕ) → k < length numbers → IsRight channels n lengths (get_or numbers k 0)) → (k : ℕ) × (k < length own) × (get_or own k 0 ≡ i) → IsRight channels n lengths i
-right_at channels n lengths numbers own i is each stands =
-    let number : get_or numbers (stands.0) 0 ≡ i = ap (λ ks. get_or ks (stands.0) 0) is ∙ stands.2 in
-    subst (IsRight channels n lengths) number (each (stands.0) (let h = stands.1 in let e = ap length is in omega arith))
-
-pub held_next : (channels : List Channel) (n counts lengths first second ins outs : List ℕ) (a : ℕ) → AreHeld channels n lengths → counts ≡ fired n a → ins ≡ inputs_of channels a → outs ≡ outputs_of channels a
-    → ((i : ℕ) → IsRight channels counts lengths i → IsRight channels counts first i) → ((k : ℕ) → k < length ins → IsRight channels counts first (get_or ins k 0))
-    → ((i : ℕ) → IsRight channels counts first i → IsRight channels counts second i) → ((k : ℕ) → k < length outs → IsRight channels counts second (get_or outs k 0))
-    → AreHeld channels counts second
-held_next channels n counts lengths first second ins outs a held is ins_are outs_are kept1 counted1 kept2 counted2 i c at =
-    elim (same_or_not c.from a) [
-      | inl from ↦ right_at channels counts second outs (outputs_of channels a) i outs_are counted2 (stands_at (λ d. d.from == a) channels i c at (eq-eqb c.from a from)) c at
-      | inr from ↦ elim (same_or_not c.to a) [
-        | inl to ↦ kept2 i (right_at channels counts first ins (inputs_of channels a) i ins_are counted1 (stands_at (λ d. d.to == a) channels i c at (eq-eqb c.to a to))) c at
-        | inr to ↦ kept2 i (kept1 i (subst (λ m. IsRight channels m lengths i) (sym is) (apart channels n lengths a i c held at from to))) c at
-      ]
-    ]
 
 pub next_at : (channels : List Channel) (q bounds counts lengths counts2 lengths2 : List ℕ) (firings firings2 a : ℕ) → IsAt channels q bounds counts lengths firings → CanGo channels q bounds counts a → counts2 ≡ fired counts a
     → length lengths2 ≡ length channels → AreHeld channels counts2 lengths2 → firings2 ≡ firings + 1 → IsAt channels q bounds counts2 lengths2 firings2
@@ -160,6 +140,21 @@ completes_at channels q bounds counts lengths firings at initial all = record {
   each_channel = at.each_bound;
   initial = initial;
   reached = subst (IsReached channels q bounds) (all_counts channels q bounds counts lengths firings at all) at.reached;
+}
+
+-- what the channels hold before any firing
+pub held_first : (channels : List Channel) (lengths : List ℕ) (k : ℕ) → ((i : ℕ) (c : Channel) → slice_get channels i ≡ Some c → get_or lengths i 0 ≡ length c.initial) → AreHeld channels (replicate k 0) lengths
+held_first channels lengths k initial i c at =
+    let length_is = initial i c at in
+    let put : produced c (get_or (replicate k 0) c.from 0) ≡ 0 = ap (produced c) (none_at k c.from) in
+    let taken : consumed c (get_or (replicate k 0) c.to 0) ≡ 0 = ap (consumed c) (none_at k c.to) in
+    omega arith
+
+-- and the phases
+pub in_phase_first : (actors : List Actor) (k : ℕ) → AreInPhase actors (replicate k 0) (replicate k 0)
+in_phase_first actors k = record {
+  each_actor = refl;
+  phase = λ a lt. none_at k a ∙ sym (ap (λ n. n % phases_of actors a) (none_at k a) ∙ zero-mod (phases_of actors a));
 }
 
 -- before any firing

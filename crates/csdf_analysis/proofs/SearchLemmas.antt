@@ -1,21 +1,22 @@
 -- Raising the bound of one channel at a stall.
-use Rattle.std.proofs.Common.{◌≡◌, ℕ, ◌*◌, ◌<◌, ◌≤◌, ◌==◌, inl, inr, List, [], ◌∷◌, ◌++◌, append-nil, length, get_or, max, set, sum, refl, sym, ap, subst, ◌∙◌, arith, suc}
+use Rattle.std.proofs.Common.{◌≡◌, ℕ, ◌*◌, ◌<◌, ◌≤◌, ◌==◌, inl, inr, List, [], ◌∷◌, ◌++◌, append-nil, length, get_or, max, set, sum, refl, sym, ap, subst, ◌∙◌, arith, zero, suc}
 use Rattle.std.specs.Prelude.{All, IsTrue, slice_get, slice_index_or, Some}
 use Rattle.std.proofs.lemmas.List.{get_or-set_same, get_or-set_other, length-set, set-set, set-get_or}
 use Rattle.std.proofs.lemmas.List.Sums.{sum_by-le}
 use Rattle.std.proofs.lemmas.List.Elements.{All-from_get_or, All-get_or}
 use Rattle.std.proofs.lemmas.Option.{slice_get_within}
 use Rattle.std.proofs.lemmas.Bool.{eqb-true, eq-eqb}
-use Rattle.csdf_graph.specs.Graph.{Channel, Graph, phases_of}
+use Rattle.csdf_graph.specs.Graph.{Actor, Channel, Graph, phases_of}
 use Rattle.csdf_graph.specs.Rates.{produced}
 use Rattle.std.proofs.Math.Nat.{mul-le-mul_left}
 use Rattle.csdf_analysis.proofs.FitLemmas.{at as at_channel}
-use Rattle.csdf_graph.specs.WellFormed.{IsWellFormed}
+use Rattle.csdf_graph.specs.WellFormed.{IsWellFormed, IsActor}
+use Rattle.std.proofs.lemmas.List.Elements.{All-head, All-tail}
 use Rattle.csdf_analysis.specs.Repetition.{IsRepetition}
 use Rattle.csdf_analysis.specs.Period.{held_after, CanFire, fired, IsSchedule, counts_after, no_firings, IsReached, HoldInitial, CompletesPeriod, CanGo, IsScheduleFrom, IsScheduleOf}
 use Rattle.csdf_analysis.specs.Capacities.{IsLeastCapacity}
 use Rattle.csdf_analysis.specs.Laws.{IsWithinAll}
-use Rattle.csdf_analysis.specs.Fitting.{IsFit}
+use Rattle.csdf_analysis.specs.Fitting.{IsFit, IsPhased}
 use Rattle.csdf_analysis.specs.Running.{IsAt, IsStalled, CanComplete, IsLow}
 use Rattle.csdf_analysis.proofs.BoundLemmas.{phases_within, firing_fits, cycle_some}
 use Rattle.csdf_analysis.proofs.CountLemmas.{same_or_not, less_or_not, total_mono, fired_same, fired_other, none_at}
@@ -260,6 +261,19 @@ fit_of g r q whole is =
           omega (arith, cycle, grown));
       total = omega arith;
     }
+
+phases_some : (actors : List Actor) (a : ℕ) → All IsActor actors → a < length actors → 1 ≤ phases_of actors a
+phases_some [] a all lt = absurd (omega arith)
+phases_some (x ∷ xs) zero all lt = (All-head IsActor x xs all).some_phase
+phases_some (x ∷ xs) (suc a) all lt = phases_some xs a (All-tail IsActor x xs all) (omega arith)
+
+pub phased_of : (g : Graph) (r q : List ℕ) → IsWellFormed g → IsRepetition g.actors g.channels r q → IsPhased g.actors g.channels q
+phased_of g r q whole is = record {
+  each_actor = sym is.firings.each_actor;
+  some = λ a lt. phases_some g.actors a whole.fitting.actors lt;
+  produce = λ i d lt. (whole.fitting.channels i d lt).produce.each_phase;
+  consume = λ i d lt. (whole.fitting.channels i d lt).consume.each_phase;
+}
 
 -- ---- the printed schedule
 

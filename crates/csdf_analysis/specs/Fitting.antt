@@ -1,12 +1,12 @@
 -- What a run plays: channels and the firings of a period, within the limits of a graph.
-use Rattle.std.specs.Prelude.{◌≡◌, ℕ, ◌<◌, ◌≤◌, List, length, All, sum, slice_index, slice_index_or}
-use Rattle.csdf_graph.specs.Graph.{Channel, inputs_of, outputs_of}
+use Rattle.std.specs.Prelude.{◌≡◌, ℕ, ◌<◌, ◌≤◌, List, length, All, sum, slice_index}
+use Rattle.csdf_graph.specs.Graph.{Actor, Channel, phases_of}
 use Rattle.csdf_graph.specs.Rates.{produced}
-use Rattle.csdf_graph.specs.declared.ports.Ports.{Ports}
 use Rattle.csdf_analysis.specs.Repetition.{HaveRoom}
 
--- channels, and the firings of each actor in a period
+-- actors and channels, and the firings of each actor in a period
 pub record Period : Type 0 where
+  pub actors : List Actor
   pub channels : List Channel
   pub firings : List ℕ
 
@@ -25,12 +25,9 @@ pub record IsFit (channels : List Channel) (q : List ℕ) : Type 0 where
   pub some_put : All (λ c. 1 ≤ produced c (slice_index q c.from)) channels
   pub total : sum q ≤ 1048576
 
--- the numbers of an actor's channels
-pub record ArePorts (channels : List Channel) (a : ℕ) (p : Ports) : Type 0 where
-  pub inputs : p.inputs.items ≡ inputs_of channels a
-  pub outputs : p.outputs.items ≡ outputs_of channels a
-
--- the channels of each actor were gathered
-pub record AreGathered (channels : List Channel) (n : ℕ) (ports : List Ports) : Type 0 where
-  pub count : length ports ≡ n
-  pub each : (a : ℕ) (d : Ports) → a < n → ArePorts channels a (slice_index_or ports a d)
+-- each actor has a phase, and each channel a rate for each phase of its producer and of its consumer
+pub record IsPhased (actors : List Actor) (channels : List Channel) (q : List ℕ) : Type 0 where
+  pub each_actor : length actors ≡ length q
+  pub some : (a : ℕ) → a < length actors → 1 ≤ phases_of actors a
+  pub produce : All (λ c. length c.produce ≡ phases_of actors c.from) channels
+  pub consume : All (λ c. length c.consume ≡ phases_of actors c.to) channels

@@ -1,6 +1,6 @@
 -- Where a run of a period stands.
-use Rattle.std.specs.Prelude.{◌≡◌, ℕ, ◌≤◌, List, length, sum, slice_index, slice_set, slice_get, Some}
-use Rattle.csdf_graph.specs.Graph.{Channel}
+use Rattle.std.specs.Prelude.{◌≡◌, ℕ, ◌<◌, ◌≤◌, ◌%◌, List, length, sum, slice_index, slice_set, slice_get, Some}
+use Rattle.csdf_graph.specs.Graph.{Actor, Channel, phases_of}
 use Rattle.csdf_graph.specs.Rates.{consumption}
 use Rattle.csdf_analysis.specs.declared.run.Run.{Run}
 use Rattle.csdf_analysis.specs.Period.{held as held_by, held_after, IsReached, CompletesPeriod, CanGo}
@@ -34,8 +34,14 @@ pub record IsAt (channels : List Channel) (q bounds counts lengths : List ℕ) (
   pub counted : firings ≡ sum counts
   pub few : sum q ≤ 1048576
 
-abbrev pub IsRun : Period → Run → Type 0
-IsRun p r = IsAt p.channels p.firings r.bounds.items r.counts.items r.lengths.items r.firings
+-- a list has the phase of each actor that has fired so often
+pub record AreInPhase (actors : List Actor) (counts phases : List ℕ) : Type 0 where
+  pub each_actor : length phases ≡ length counts
+  pub phase : (a : ℕ) → a < length counts → slice_index phases a ≡ slice_index counts a % phases_of actors a
+
+pub record IsRun (p : Period) (r : Run) : Type 0 where
+  pub at : IsAt p.channels p.firings r.bounds.items r.counts.items r.lengths.items r.firings
+  pub in_phase : AreInPhase p.actors r.counts.items r.phases.items
 
 -- no actor that has fired less often than in a period is able to fire
 abbrev pub IsStalled : List Channel → List ℕ → List ℕ → List ℕ → Type 0

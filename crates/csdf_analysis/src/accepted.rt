@@ -3,9 +3,9 @@
 ghost use Rattle.std.specs.Prelude.{◌≡◌, ◌<◌, ◌^◌, IfErr, IfOk, sum};
 ghost use Rattle.csdf_analysis.specs.Acceptance.{IsAccepted, IsNotAccepted, cells_of};
 
-use crate::bounds::capacities;
+use crate::calls::capacities::capacities;
+use crate::calls::repetition::repetition;
 use crate::fault::AcceptFault;
-use crate::least::repetition;
 use crate::vector::Vector;
 use csdf_graph::Graph;
 use std::alloc::{AllocError, Global};

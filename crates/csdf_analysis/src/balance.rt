@@ -12,7 +12,8 @@ use csdf_graph::{Actor, Channel};
 use std::alloc::{AllocError, Global};
 
 /// How many phases an actor has, and none where there is no such actor.
-fn phases_of(actors: &[Actor], number: u32) -> u32
+#[inline(always)]
+pub(crate) fn phases_of(actors: &[Actor], number: u32) -> u32
     ensures { result ≡ phases_of (map actor_view actors.now) number }
 {
     match actors.get(number as usize) {

@@ -4,27 +4,24 @@
 
 mod accepted;
 mod balance;
-mod bounds;
+mod calls;
 mod fault;
-mod gathered;
 mod gcd;
 mod laws;
-mod least;
+mod mask;
 mod members;
+mod neighbours;
 mod net;
-mod printed;
 mod run;
-mod search;
 mod vector;
-mod waiting;
 
 pub use accepted::{Accepted, accept};
-pub use bounds::capacities;
+pub use calls::capacities::capacities;
+pub use calls::raise::raise;
+pub use calls::repetition::repetition;
+pub use calls::schedule::schedule;
 pub use fault::AcceptFault;
 pub use laws::{every_schedule_goes_on, full_capacity_suffices, greater_capacities_complete};
-pub use least::repetition;
-pub use printed::schedule;
-pub use search::raise;
 pub use vector::Vector;
 
 #[cfg(test)]

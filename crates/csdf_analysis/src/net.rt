@@ -1,51 +1,53 @@
-//! What a run plays: the channels of a graph and the firings of a period.
+//! What a run plays: a graph and the firings of a period.
 
-ghost use Rattle.std.specs.Prelude.{◌≡◌, ◌<◌, ◌≤◌, All, IfOk, Some, length, map, slice_get, slice_index, sum};
-ghost use Rattle.csdf_graph.specs.Graph.{Channel as ChannelModel, channel_view, inputs_of, outputs_of};
-ghost use Rattle.csdf_analysis.specs.Period.{held};
-ghost use Rattle.csdf_analysis.specs.Laws.{IsWithinAll};
-ghost use Rattle.csdf_analysis.specs.Fitting.{IsFit};
+ghost use Rattle.std.specs.Prelude.{◌≡◌, ◌+◌, ◌%◌, ◌<◌, ◌≤◌, ℕ, All, IfOk, Some, length, slice_get, slice_index, sum};
+ghost use Rattle.csdf_graph.specs.Graph.{Channel as ChannelModel, channel_view, inputs_of, outputs_of, phases_of};
+ghost use Rattle.csdf_analysis.specs.Fitting.{IsFit, IsPhased};
+ghost use Rattle.csdf_analysis.specs.Waking.{AreActors, AreWoken, IsIn};
 
-use crate::gathered::gathered;
-use csdf_graph::{Channel, Ports};
+use crate::balance::phases_of;
+use crate::mask::joined;
+use crate::neighbours::neighbours;
+use csdf_graph::{Channel, Graph};
 use std::alloc::{AllocError, Global};
 use std::marker::Model;
 
-/// The channels of a graph with the firings of each actor in a period, and the channels of each
-/// actor gathered once.
+/// A graph with the firings of each actor in a period, and the actors that a firing of each may
+/// make able.
 #[derive(Drop)]
 pub(crate) struct Net<'a> {
-    channels: &'a [Channel],
+    graph: &'a Graph,
     firings: &'a [u32],
-    ports: Vec<Ports>,
+    neighbours: Vec<u64>,
 }
 
 impl<'a> Model for Net<'a> {
-    ghost use Rattle.std.specs.Prelude.{map, length};
-    ghost use Rattle.csdf_graph.specs.Graph.{channel_view};
-    ghost use Rattle.csdf_analysis.specs.Fitting.{Period, IsFit, AreGathered};
+    ghost use Rattle.std.specs.Prelude.{length};
+    ghost use Rattle.csdf_analysis.specs.Fitting.{Period, IsFit, IsPhased};
+    ghost use Rattle.csdf_analysis.specs.Waking.{AreNeighbours};
 
     ghost Value = { Period };
 
-    ghost view = { λ n. record { channels = map channel_view n.channels.now; firings = n.firings.now } };
+    ghost view = { λ n. record { actors = n.graph.now.actors; channels = n.graph.now.channels; firings = n.firings.now } };
 
-    ghost invariant = { λ n. IsFit (map channel_view n.channels.now) n.firings.now × AreGathered (map channel_view n.channels.now) (length n.firings.now) n.ports.items };
+    ghost invariant = { λ n. IsFit n.graph.now.channels n.firings.now × IsPhased n.graph.now.actors n.graph.now.channels n.firings.now × AreNeighbours n.graph.now.channels (length n.firings.now) (length n.firings.now) n.neighbours.items };
 }
 
 impl<'a> Net<'a> {
     pub(crate) fn new(
         alloc: Global,
-        channels: &'a [Channel],
+        graph: &'a Graph,
         firings: &'a [u32],
     ) -> Result<Net<'a>, AllocError>
-        requires { IsFit (map channel_view channels.now) firings.now }
-        ensures { IfOk result (λ net. net ≡ record { channels = map channel_view channels.now; firings = firings.now }) }
+        requires fit { IsFit graph.now.channels firings.now }
+        requires phased { IsPhased graph.now.actors graph.now.channels firings.now }
+        ensures { IfOk result (λ net. net ≡ record { actors = graph.now.actors; channels = graph.now.channels; firings = firings.now }) }
     {
-        let ports = gathered(alloc, channels, firings.len())?;
+        let neighbours = neighbours(alloc, graph)?;
         Ok(Net {
-            channels,
+            graph,
             firings,
-            ports,
+            neighbours,
         })
     }
 
@@ -54,6 +56,7 @@ impl<'a> Net<'a> {
         ensures count { result ≡ length self.now.firings }
         ensures few { result ≤ 64 }
         ensures fit { IsFit self.now.channels self.now.firings }
+        ensures phased { IsPhased self.now.actors self.now.channels self.now.firings }
     {
         self.firings.len()
     }
@@ -63,40 +66,89 @@ impl<'a> Net<'a> {
         ensures count { result ≡ length self.now.channels }
         ensures few { result ≤ 128 }
     {
-        self.channels.len()
+        self.graph.channels().len()
     }
 
     /// The channel of this number.
+    #[inline(always)]
     pub(crate) fn channel(&self, number: u32) -> &Channel
         requires { number < length self.now.channels }
         ensures value { slice_get self.now.channels number ≡ Some (channel_view result.now) }
         ensures fit { IsFit self.now.channels self.now.firings }
+        ensures phased { IsPhased self.now.actors self.now.channels self.now.firings }
     {
-        let channels = self.channels;
+        let channels = self.graph.channels();
         &channels[number as usize]
     }
 
+    /// How many tokens the producer puts into the channel in this phase.
+    #[inline(always)]
+    pub(crate) fn production(&self, number: u32, phase: u32) -> u32
+        requires exists { number < length self.now.channels }
+        requires phase { (c : ChannelModel) → slice_get self.now.channels number ≡ Some c → phase < phases_of self.now.actors c.from }
+        ensures value { (c : ChannelModel) → slice_get self.now.channels number ≡ Some c → result ≡ slice_index c.produce phase }
+        ensures small { result ≤ 64 }
+        ensures phased { IsPhased self.now.actors self.now.channels self.now.firings }
+        ensures fit { IsFit self.now.channels self.now.firings }
+    {
+        let channel = self.channel(number);
+        channel.produce[phase as usize]
+    }
+
+    /// How many tokens the consumer takes out of the channel in this phase.
+    #[inline(always)]
+    pub(crate) fn consumption(&self, number: u32, phase: u32) -> u32
+        requires exists { number < length self.now.channels }
+        requires phase { (c : ChannelModel) → slice_get self.now.channels number ≡ Some c → phase < phases_of self.now.actors c.to }
+        ensures value { (c : ChannelModel) → slice_get self.now.channels number ≡ Some c → result ≡ slice_index c.consume phase }
+        ensures phased { IsPhased self.now.actors self.now.channels self.now.firings }
+    {
+        let channel = self.channel(number);
+        channel.consume[phase as usize]
+    }
+
+    /// How many phases the actor has.
+    #[inline(always)]
+    fn phases(&self, actor: u32) -> u32
+        ensures { result ≡ phases_of self.now.actors actor }
+    {
+        phases_of(self.graph.actors(), actor)
+    }
+
+    /// The actor's phase after this one: after the last comes the first.
+    #[inline(always)]
+    pub(crate) fn phase_after(&self, actor: u32, phase: u32) -> u32
+        requires exists { actor < length self.now.firings }
+        requires phase { phase < phases_of self.now.actors actor }
+        ensures { result ≡ (phase + 1) % phases_of self.now.actors actor }
+    {
+        let phases = self.phases(actor);
+        let next = phase + 1;
+        if next == phases { 0 } else { next }
+    }
+
     /// The numbers of the channels that end at the actor.
+    #[inline(always)]
     pub(crate) fn inputs(&self, actor: u32) -> &[u32]
         requires { actor < length self.now.firings }
         ensures value { result.now ≡ inputs_of self.now.channels actor }
         ensures within { All (λ i. i < length self.now.channels) result.now }
     {
-        let ports = &self.ports[actor as usize];
-        &ports.inputs
+        self.graph.inputs(actor)
     }
 
     /// The numbers of the channels that begin at the actor.
+    #[inline(always)]
     pub(crate) fn outputs(&self, actor: u32) -> &[u32]
         requires { actor < length self.now.firings }
         ensures value { result.now ≡ outputs_of self.now.channels actor }
         ensures within { All (λ i. i < length self.now.channels) result.now }
     {
-        let ports = &self.ports[actor as usize];
-        &ports.outputs
+        self.graph.outputs(actor)
     }
 
     /// How often the actor fires in a period.
+    #[inline(always)]
     pub(crate) fn firings(&self, actor: u32) -> u32
         requires { actor < length self.now.firings }
         ensures { result ≡ slice_index self.now.firings actor }
@@ -105,24 +157,24 @@ impl<'a> Net<'a> {
         firings[actor as usize]
     }
 
+    /// The set with the actor and those at the other ends of its channels.
+    #[inline(always)]
+    pub(crate) fn woken(&self, actor: u32, mask: u64) -> u64
+        requires exists { actor < length self.now.firings }
+        requires actors { AreActors (length self.now.firings) mask }
+        ensures kept { (a : ℕ) → IsIn mask a → IsIn result a }
+        ensures woken { AreWoken self.now.channels actor result }
+        ensures actors { AreActors (length self.now.firings) result }
+    {
+        let neighbours = &self.neighbours;
+        joined(mask, neighbours[actor as usize])
+    }
+
     /// The number of all firings of a period.
     pub(crate) fn total(&self) -> u32
         ensures total { result ≡ sum self.now.firings }
         ensures few { result ≤ 1048576 }
     {
         self.firings.iter().sum()
-    }
-
-    /// How many tokens the channel holds once each actor has fired so often.
-    pub(crate) fn held(&self, number: u32, counts: &[u32]) -> u32
-        requires exists { number < length self.now.channels }
-        requires each_actor { length counts.now ≡ length self.now.firings }
-        requires within { IsWithinAll counts.now self.now.firings }
-        ensures { (c : ChannelModel) → slice_get self.now.channels number ≡ Some c → result ≡ held c counts.now }
-    {
-        let channel = self.channel(number);
-        let put = channel.produced(counts[channel.from as usize]);
-        let taken = channel.consumed(counts[channel.to as usize]);
-        (channel.initial.len() as u64 + put).saturating_sub(taken) as u32
     }
 }

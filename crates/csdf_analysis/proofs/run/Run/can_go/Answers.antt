@@ -5,11 +5,11 @@ use Rattle.csdf_analysis.proofs.run.Run.can_go.Goals as goal
 use Rattle.csdf_analysis.proofs.run.Run.can_go.Goals.{then-index-firings, else-index-firings}
 
 pub index-requires : goal.index-requires
-index-requires c = omega (arith, c.requires.exists, c.requires.run.each_actor, c.args.self.now.counts.ok.0)
+index-requires c = omega (arith, c.requires.exists, c.requires.run.at.each_actor, c.args.self.now.counts.ok.0)
 
 pub returns-then-has_tokens : goal.returns-then-has_tokens
 returns-then-has_tokens c =
-    let here : c.args.actor < length c.args.self.now.counts.items = omega (arith, c.requires.exists, c.requires.run.each_actor) in
+    let here : c.args.actor < length c.args.self.now.counts.items = omega (arith, c.requires.exists, c.requires.run.at.each_actor) in
     let count = c.index.ensures ∙ get_or_default _ _ c.index.result.now 0 here in
     elim c.if-index-firings.branch [
       | then-index-firings w ↦ (

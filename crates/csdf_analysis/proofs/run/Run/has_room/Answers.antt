@@ -5,11 +5,11 @@ use Rattle.csdf_analysis.proofs.RunLemmas.{room_all, room_some}
 use Rattle.csdf_analysis.proofs.run.Run.has_room.Goals as goal
 
 pub index-requires : goal.index-requires
-index-requires c = omega (arith, c.outputs-number-items.ensures.within c.loop-number.number-index 0 c.loop-number-test.true, c.requires.run.each_bound, c.args.self.now.bounds.ok.0)
+index-requires c = omega (arith, c.outputs-number-items.ensures.within c.loop-number.number-index 0 c.loop-number-test.true, c.requires.run.at.each_bound, c.args.self.now.bounds.ok.0)
 
 pub returns-then-filled-index : goal.returns-then-filled-index
 returns-then-filled-index c =
-    let within : get_or c.outputs-number-items.result.now c.loop-number.number-index 0 < length c.args.self.now.bounds.items = omega (arith, c.outputs-number-items.ensures.within c.loop-number.number-index 0 c.loop-number-test.true, c.requires.run.each_bound) in
+    let within : get_or c.outputs-number-items.result.now c.loop-number.number-index 0 < length c.args.self.now.bounds.items = omega (arith, c.outputs-number-items.ensures.within c.loop-number.number-index 0 c.loop-number-test.true, c.requires.run.at.each_bound) in
     let bound = c.index.ensures ∙ get_or_default _ _ c.index.result.now 0 within in (
       λ e. absurd (false≢true e),
       λ has.
@@ -21,7 +21,7 @@ returns-then-filled-index c =
 
 pub loop-number-preserved : goal.loop-number-preserved
 loop-number-preserved c =
-    let within : get_or c.outputs-number-items.result.now c.loop-number.number-index 0 < length c.args.self.now.bounds.items = omega (arith, c.outputs-number-items.ensures.within c.loop-number.number-index 0 c.loop-number-test.true, c.requires.run.each_bound) in
+    let within : get_or c.outputs-number-items.result.now c.loop-number.number-index 0 < length c.args.self.now.bounds.items = omega (arith, c.outputs-number-items.ensures.within c.loop-number.number-index 0 c.loop-number-test.true, c.requires.run.at.each_bound) in
     let bound = c.index.ensures ∙ get_or_default _ _ c.index.result.now 0 within in
     below_more _ _ c.loop-number.invariant (λ d at. (let filled = c.filled.ensures d at in omega (arith, filled, bound, c.if-filled-index.false)))
 

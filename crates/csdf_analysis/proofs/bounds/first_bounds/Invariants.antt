@@ -1,7 +1,0 @@
-use Rattle.std.proofs.Common.{◌≡◌, ◌++◌, map, drop}
-use Rattle.csdf_graph.specs.Graph.{channel_view}
-use Rattle.csdf_analysis.specs.Lowering.{first_bounds}
-use Rattle.csdf_analysis.proofs.bounds.first_bounds.Given as goal
-
-abbrev pub invariant-loop-channel : goal.invariant-loop-channel
-invariant-loop-channel l = l.bounds.items ++ first_bounds l.q (map channel_view (drop l.channel-index l.channels)) ≡ first_bounds l.q (map channel_view l.channels)

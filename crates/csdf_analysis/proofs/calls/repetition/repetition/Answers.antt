@@ -1,0 +1,12 @@
+use Rattle.std.proofs.Common.{List, map, subst, sym}
+use Rattle.std.specs.Prelude.{All}
+use Rattle.csdf_graph.specs.Graph.{Actor, Channel, channel_view}
+use Rattle.csdf_analysis.specs.Members.{IsLink}
+use Rattle.csdf_analysis.proofs.BoundLemmas.{links_of}
+use Rattle.csdf_analysis.proofs.calls.repetition.repetition.Goals as goal
+
+pub cycles-requires-clause-channels : goal.cycles-requires-clause-channels
+cycles-requires-clause-channels c =
+    let whole = c.actors.ensures.well_formed in
+    subst (λ (actors : List Actor). All (IsLink actors) (map channel_view c.channels.result.now)) (sym c.actors.ensures.value)
+    (subst (λ (channels : List Channel). All (IsLink c.args.graph.now.actors) channels) (sym c.channels.ensures.value) (links_of c.args.graph.now.actors c.args.graph.now.channels whole.fitting.actors whole.fitting.channels))

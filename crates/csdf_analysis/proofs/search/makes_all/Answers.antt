@@ -1,6 +1,0 @@
-use Rattle.std.proofs.Common.{◌∙◌}
-use Rattle.csdf_analysis.proofs.SearchLemmas.{decided}
-use Rattle.csdf_analysis.proofs.search.makes_all.Goals as goal
-
-pub returns : goal.returns
-returns c = decided _ _ _ _ _ _ _ _ c.in_ok-go_on.ensures.run c.in_ok-go_on.ensures.stalled (c.in_ok-go_on.ensures.bounds ∙ c.in_ok-run.ensures.bounds ∙ c.in_ok-bounds.ensures) c.requires.initial c.total.ensures.total

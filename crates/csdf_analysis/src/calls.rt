@@ -1,0 +1,6 @@
+//! The four calls that analyse a graph, each in a file of its name.
+
+pub(crate) mod capacities;
+pub(crate) mod raise;
+pub(crate) mod repetition;
+pub(crate) mod schedule;

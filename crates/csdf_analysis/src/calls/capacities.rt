@@ -1,0 +1,98 @@
+//! The least capacities under which a period of a graph completes.
+
+ghost use Rattle.std.specs.Prelude.{◌≡◌, ◌≤◌, All, IfErr, IfOk, length, map};
+ghost use Rattle.csdf_graph.specs.Graph.{channel_view};
+ghost use Rattle.csdf_analysis.specs.Repetition.{HaveRoom, IsRepetition, IsWithin, full_capacity};
+ghost use Rattle.csdf_analysis.specs.Capacities.{AreLeastCapacities, HasNoCapacities, full_capacities};
+ghost use Rattle.csdf_analysis.specs.Lowering.{IsLowered, first_bound, first_bounds};
+
+use crate::calls::raise::{completes, raise};
+use crate::calls::repetition::full_capacity;
+use crate::fault::AcceptFault;
+use crate::vector::Vector;
+use csdf_graph::{Channel, Graph};
+use std::alloc::{AllocError, Global};
+
+/// The initial tokens of each channel and all that its producer puts in within a period.
+fn full_capacities(alloc: Global, channels: &[Channel], q: &[u32]) -> Result<Vec<u32>, AllocError>
+    requires channels { All (IsWithin (length q.now)) (map channel_view channels.now) }
+    requires room { HaveRoom q.now (map channel_view channels.now) }
+    ensures { IfOk result (λ v. v.items ≡ full_capacities q.now (map channel_view channels.now)) }
+{
+    let mut full = Vec::new(alloc);
+    for channel in channels {
+        full.push(full_capacity(channel, q) as u32)?;
+    }
+    Ok(full)
+}
+
+/// The given capacity of each channel, or else its full one.
+fn first_bounds(alloc: Global, channels: &[Channel], q: &[u32]) -> Result<Vec<u32>, AllocError>
+    requires channels { All (IsWithin (length q.now)) (map channel_view channels.now) }
+    requires room { HaveRoom q.now (map channel_view channels.now) }
+    ensures { IfOk result (λ v. v.items ≡ first_bounds q.now (map channel_view channels.now)) }
+{
+    let mut bounds = Vec::new(alloc);
+    for channel in channels {
+        bounds.push(first_bound(channel, q))?;
+    }
+    Ok(bounds)
+}
+
+/// The channel's given capacity, or else its full one.
+fn first_bound(channel: &Channel, q: &[u32]) -> u32
+    requires channel { IsWithin (length q.now) (channel_view channel.now) }
+    requires room { full_capacity q.now (channel_view channel.now) ≤ 65535 }
+    ensures { result ≡ first_bound q.now (channel_view channel.now) }
+{
+    match channel.capacity {
+        Some(given) => given,
+        None => full_capacity(channel, q) as u32,
+    }
+}
+
+/// These bounds, once each capacity that is not given is the least that completes a period with
+/// the others.
+fn lowered(
+    alloc: Global,
+    graph: &Graph,
+    vector: &Vector,
+    bounds: Vec<u32>,
+) -> Result<Vec<u32>, AllocError>
+    requires vector { IsRepetition graph.now.actors graph.now.channels vector.now.r.items vector.now.q.items }
+    requires first { IsLowered graph.now.channels vector.now.q.items 0 bounds.items }
+    ensures { IfOk result (λ v. IsLowered graph.now.channels vector.now.q.items (length graph.now.channels) v.items) }
+{
+    let mut bounds = bounds;
+    for (place, channel) in graph.channels().iter().enumerate() {
+        if channel.capacity.is_none() {
+            let (least, _) = raise(alloc, graph, vector, &bounds, place as u32)?;
+            bounds[place] = least;
+        }
+    }
+    Ok(bounds)
+}
+
+/// The capacities, one for each channel, that complete a period and agree with every given one,
+/// and of these the lexicographically least in file order; each is at most 65,535.
+///
+/// [`AcceptFault::Deadlock`] says that even the full capacities complete no period,
+/// [`AcceptFault::TooTight`] that they do and none that agree with the given ones do, and
+/// [`AcceptFault::Memory`] says nothing of the graph.
+pub fn capacities(alloc: Global, graph: &Graph, vector: &Vector) -> Result<Vec<u32>, AcceptFault>
+    requires { IsRepetition graph.now.actors graph.now.channels vector.now.r.items vector.now.q.items }
+    ensures least { IfOk result (λ v. AreLeastCapacities graph.now.channels vector.now.q.items v.items) }
+    ensures small { IfOk result (λ v. All (λ b. b ≤ 65535) v.items) }
+    ensures refusal { IfErr result (HasNoCapacities graph.now.channels vector.now.q.items) }
+{
+    let full = full_capacities(alloc, graph.channels(), &vector.q)?;
+    if !completes(alloc, graph, vector, &full)? {
+        return Err(AcceptFault::Deadlock);
+    }
+    let bounds = first_bounds(alloc, graph.channels(), &vector.q)?;
+    if !completes(alloc, graph, vector, &bounds)? {
+        return Err(AcceptFault::TooTight);
+    }
+    let least = lowered(alloc, graph, vector, bounds)?;
+    Ok(least)
+}

@@ -1,0 +1,61 @@
+//! Sets of up to 64 actors as the bits of one number.
+
+ghost use Rattle.std.specs.Prelude.{◌≡◌, ◌⊎◌, ◌<◌, ◌≤◌, ℕ, MatchOption};
+ghost use Rattle.csdf_analysis.specs.Waking.{AreActors, IsIn, IsLowest};
+
+/// The set with the actor.
+#[inline(always)]
+pub(crate) fn with_actor(mask: u64, actor: u32) -> u64
+    requires { actor < 64 }
+    ensures added { IsIn result actor }
+    ensures kept { (a : ℕ) → IsIn mask a → IsIn result a }
+    ensures others { (a : ℕ) → IsIn result a → (a ≡ actor) ⊎ IsIn mask a }
+{
+    mask | (1 << actor)
+}
+
+/// The set without the actor, which is in it.
+#[inline(always)]
+pub(crate) fn without_actor(mask: u64, actor: u32) -> u64
+    requires { IsIn mask actor }
+    ensures less { result < mask }
+    ensures others { (a : ℕ) → IsIn mask a → (a ≡ actor) ⊎ IsIn result a }
+    ensures kept { (a : ℕ) → IsIn result a → IsIn mask a }
+{
+    mask & !(1 << actor)
+}
+
+/// The actors of both sets.
+#[inline(always)]
+pub(crate) fn joined(mask: u64, other: u64) -> u64
+    ensures first { (a : ℕ) → IsIn mask a → IsIn result a }
+    ensures second { (a : ℕ) → IsIn other a → IsIn result a }
+    ensures either { (a : ℕ) → IsIn result a → IsIn mask a ⊎ IsIn other a }
+{
+    mask | other
+}
+
+/// The lowest-numbered actor of the set.
+#[inline(always)]
+pub(crate) fn lowest(mask: u64) -> Option<u32>
+    ensures { MatchOption result ((a : ℕ) → IsIn mask a → ⊥) (IsLowest mask) }
+{
+    if mask == 0 {
+        None
+    } else {
+        Some(mask.trailing_zeros())
+    }
+}
+
+/// The first so many actors.
+pub(crate) fn all(actors: usize) -> u64
+    requires { actors ≤ 64 }
+    ensures all { (a : ℕ) → a < actors → IsIn result a }
+    ensures actors { AreActors actors result }
+{
+    let mut mask = 0;
+    for actor in 0..actors as u32 {
+        mask = with_actor(mask, actor);
+    }
+    mask
+}
