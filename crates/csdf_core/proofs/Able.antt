@@ -1,5 +1,6 @@
 -- An actor that can go, by the counts of firings alone; and persistence: it still can once others have gone on.
-use Rattle.std.proofs.Common.{◌≡◌, ℕ, suc, ◌+◌, ◌-◌, ◌<◌, ◌≤◌, ◌==◌, ◌&&◌, nat_lt, nat_le, cond, inl, inr, List, [], ◌∷◌, length, map, refl, ap, subst, ◌∙◌, arith, Bool, true, false, Some, None, ltb-false, le-ltb, eqb-true, eq-eqb}
+use Rattle.std.proofs.Common.{◌≡◌, ℕ, suc, ◌+◌, ◌-◌, ◌<◌, ◌≤◌, ◌==◌, ◌&&◌, nat_lt, nat_le, cond, inl, inr, List, [], ◌∷◌, length, map, refl, ap, subst, ◌∙◌}
+use Rattle.std.proofs.Common.{arith, Bool, true, false, Some, None, ltb-false, le-ltb, eqb-true, eq-eqb}
 use Rattle.std.specs.Prelude.{slice_index}
 use Rattle.std.specs.List.{zip, position_from, AllByRecursion}
 use Rattle.std.proofs.lemmas.List.{length-drop}
@@ -10,6 +11,7 @@ use Rattle.csdf_core.specs.Plan.{Channel, Plan, takes_of, gives_of}
 use Rattle.csdf_core.specs.Rows.{Row, is_short, is_full}
 use Rattle.csdf_core.specs.State.{Stream, waiting}
 use Rattle.csdf_core.specs.Step.{given, is_source}
+use Rattle.csdf_core.proofs.RoomLemmas.{second_false}
 use Rattle.csdf_core.proofs.Tallies.{IsTallied, AreTallied, takes_own, takes_none, gives_own}
 use Rattle.csdf_core.proofs.TalliedMoves.{IsFed}
 
@@ -33,12 +35,14 @@ pub record IsAble (plan : Plan) (put got : ℕ → ℕ) (a k : ℕ) : Type 0 whe
 
 -- ---- persistence
 
-able_row : (put got put2 got2 : ℕ → ℕ) (a k : ℕ) (c : Channel) → ((b : ℕ) → put b ≤ put2 b) → ((b : ℕ) → got b ≤ got2 b) → IsAbleAt put got a k c → IsAbleAt put2 got2 a k c
+able_row : (put got put2 got2 : ℕ → ℕ) (a k : ℕ) (c : Channel) → ((b : ℕ) → put b ≤ put2 b) → ((b : ℕ) → got b ≤ got2 b) → IsAbleAt put got a k c
+    → IsAbleAt put2 got2 a k c
 able_row put got put2 got2 a k c p g able = (
   (λ to. let enough = able.0 to in let more = total_mono c.produce (put c.from) (put2 c.from) (p c.from) in omega arith),
   (λ from.
       let room = able.1 from in
-      let more : total c.consume (later got a k c.to) ≤ total c.consume (later got2 a k c.to) = total_mono c.consume (later got a k c.to) (later got2 a k c.to) (by (c.to == a) (g c.to)) in
+      let more : total c.consume (later got a k c.to) ≤ total c.consume (later got2 a k c.to) =
+      total_mono c.consume (later got a k c.to) (later got2 a k c.to) (by (c.to == a) (g c.to)) in
       omega arith),
 )
   where
@@ -46,11 +50,13 @@ able_row put got put2 got2 a k c p g able = (
     by true le = omega arith
     by false le = le
 
-able_rows : (put got put2 got2 : ℕ → ℕ) (a k : ℕ) (cs : List Channel) → ((b : ℕ) → put b ≤ put2 b) → ((b : ℕ) → got b ≤ got2 b) → AllByRecursion (IsAbleAt put got a k) cs → AllByRecursion (IsAbleAt put2 got2 a k) cs
+able_rows : (put got put2 got2 : ℕ → ℕ) (a k : ℕ) (cs : List Channel) → ((b : ℕ) → put b ≤ put2 b) → ((b : ℕ) → got b ≤ got2 b)
+    → AllByRecursion (IsAbleAt put got a k) cs → AllByRecursion (IsAbleAt put2 got2 a k) cs
 able_rows put got put2 got2 a k [] p g all = tt
 able_rows put got put2 got2 a k (c ∷ cs) p g all = (able_row put got put2 got2 a k c p g all.0, able_rows put got put2 got2 a k cs p g all.1)
 
-pub able_later : (plan : Plan) (put got put2 got2 : ℕ → ℕ) (a k : ℕ) → ((b : ℕ) → put b ≤ put2 b) → ((b : ℕ) → got b ≤ got2 b) → IsAble plan put got a k → IsAble plan put2 got2 a k
+pub able_later : (plan : Plan) (put got put2 got2 : ℕ → ℕ) (a k : ℕ) → ((b : ℕ) → put b ≤ put2 b) → ((b : ℕ) → got b ≤ got2 b) → IsAble plan put got a k
+    → IsAble plan put2 got2 a k
 able_later plan put got put2 got2 a k p g able = record {
   exists = able.exists;
   below = able.below;
@@ -59,10 +65,6 @@ able_later plan put got put2 got2 a k p g able = record {
 }
 
 -- ---- the step's tests and the counts
-
-second_false : (b c : Bool) → b ≡ true → (b && c) ≡ false → c ≡ false
-second_false true c e h = h
-second_false false c e h = absurd (cc)
 
 and_false : (b c : Bool) → (b ≡ true → c ≡ false) → (b && c) ≡ false
 and_false true c e = e refl
@@ -120,7 +122,8 @@ module _ (put got begun : ℕ → ℕ) (a k : ℕ) (puts : put a ≡ k) (gots : 
             omega arith
       ]
 
-  able_at : (c : Channel) (st : Stream) → IsTallied put got begun c st → is_short a k (c, waiting st) ≡ false → is_full a k (c, waiting st) ≡ false → IsAbleAt put got a k c
+  able_at : (c : Channel) (st : Stream) → IsTallied put got begun c st → is_short a k (c, waiting st) ≡ false → is_full a k (c, waiting st) ≡ false
+      → IsAbleAt put got a k c
   able_at c st t short full =
       let fed : IsFed put a k c = fed_row c st t short in (
         fed,
@@ -138,21 +141,26 @@ module _ (put got begun : ℕ → ℕ) (a k : ℕ) (puts : put a ≡ k) (gots : 
       le-ltb _ _ (omega arith))
 
   pub able_all : (cs : List Channel) (sts : List Stream) → length sts ≡ length cs → AreTallied put got begun cs sts
-      → AllByRecursion (λ (row : Row). is_short a k row ≡ false) (zip cs (map waiting sts)) → AllByRecursion (λ (row : Row). is_full a k row ≡ false) (zip cs (map waiting sts))
+      → AllByRecursion (λ (row : Row). is_short a k row ≡ false) (zip cs (map waiting sts))
+      → AllByRecursion (λ (row : Row). is_full a k row ≡ false) (zip cs (map waiting sts))
       → AllByRecursion (IsAbleAt put got a k) cs
   able_all [] sts len t short full = tt
   able_all (c ∷ cs) [] len t short full = absurd (omega arith)
   able_all (c ∷ cs) (st ∷ sts) len t short full = (able_at c st t.0 short.0 full.0, able_all cs sts (omega arith) t.1 short.1 full.1)
 
   -- no test of a list passes
-  pub none_short : (cs : List Channel) (sts : List Stream) (i : ℕ) → AreTallied put got begun cs sts → AllByRecursion (IsAbleAt put got a k) cs → position_from (is_short a k) i (zip cs (map waiting sts)) ≡ None
+  pub none_short : (cs : List Channel) (sts : List Stream) (i : ℕ) → AreTallied put got begun cs sts → AllByRecursion (IsAbleAt put got a k) cs
+      → position_from (is_short a k) i (zip cs (map waiting sts)) ≡ None
   none_short [] sts i t able = refl
   none_short (c ∷ cs) [] i t able = refl
   none_short (c ∷ cs) (st ∷ sts) i t able =
-      ap (λ (b : Bool). cond b (Some i) (position_from (is_short a k) (i + 1) (zip cs (map waiting sts)))) (not_short c st t.0 able.0.0) ∙ none_short cs sts (i + 1) t.1 able.1
+      ap (λ (b : Bool). cond b (Some i) (position_from (is_short a k) (i + 1) (zip cs (map waiting sts)))) (not_short c st t.0 able.0.0)
+      ∙ none_short cs sts (i + 1) t.1 able.1
 
-  pub none_full : (cs : List Channel) (sts : List Stream) (i : ℕ) → AreTallied put got begun cs sts → AllByRecursion (IsAbleAt put got a k) cs → position_from (is_full a k) i (zip cs (map waiting sts)) ≡ None
+  pub none_full : (cs : List Channel) (sts : List Stream) (i : ℕ) → AreTallied put got begun cs sts → AllByRecursion (IsAbleAt put got a k) cs
+      → position_from (is_full a k) i (zip cs (map waiting sts)) ≡ None
   none_full [] sts i t able = refl
   none_full (c ∷ cs) [] i t able = refl
   none_full (c ∷ cs) (st ∷ sts) i t able =
-      ap (λ (b : Bool). cond b (Some i) (position_from (is_full a k) (i + 1) (zip cs (map waiting sts)))) (not_full c st t.0 able.0) ∙ none_full cs sts (i + 1) t.1 able.1
+      ap (λ (b : Bool). cond b (Some i) (position_from (is_full a k) (i + 1) (zip cs (map waiting sts)))) (not_full c st t.0 able.0)
+      ∙ none_full cs sts (i + 1) t.1 able.1

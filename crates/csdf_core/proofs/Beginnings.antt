@@ -1,8 +1,10 @@
 -- A core before its first move.
-use Rattle.std.proofs.Common.{◌≡◌, ℕ, zero, suc, ◌≤◌, List, [], ◌∷◌, length, get_or, map, replicate, refl, ap, subst, ◌∙◌, sym, arith, Bool, true, false, cond}
+use Rattle.std.proofs.Common.{◌≡◌, ℕ, zero, suc, ◌*◌, ◌≤◌, List, [], ◌∷◌, length, get_or, map, replicate, refl, ap, subst, ◌∙◌, sym, arith, Bool, true, false}
+use Rattle.std.proofs.Common.{cond}
 use Rattle.std.specs.Prelude.{ℤ, sum, sum_by, count_by, not, ◌==◌, slice_index}
 use Rattle.std.proofs.lemmas.List.{length-map, length-replicate}
 use Rattle.std.proofs.lemmas.List.Sums.{sum_by-cons}
+use Rattle.std.proofs.lemmas.List.Folds.{sum_by-replicate}
 use Rattle.csdf_graph.specs.Rates.{total}
 use Rattle.csdf_pool.specs.Pool.{Shared, held_tokens}
 use Rattle.csdf_core.specs.declared.stage.Stage.{Stage}
@@ -38,16 +40,14 @@ given-zero : (plan : Plan) (a : ℕ) → given plan a 0 ≡ 0
 unfolding given
 given-zero plan a = none_given a plan.channels
 
-no_sum : (n : ℕ) → sum (replicate n 0) ≡ 0
-no_sum zero = refl
-no_sum (suc n) = omega (arith, sum_by-cons (λ k. k) 0 (replicate n 0), no_sum n)
-
 none_busy : (n : ℕ) → count_by (λ s. not (is_stage s Idle)) (replicate n Idle) ≡ 0
 none_busy zero = refl
 none_busy (suc n) = none_busy n
 
-module _ (plan : Plan) (pool : Shared) (counts sums peaks : List ℕ) (stages : List Stage) (opens : List Bool) (playable : IsPlayable plan) (counts_are : counts ≡ replicate (length plan.sources) 0) (stages_are : stages ≡ replicate (length plan.sources) Idle)
-    (opens_are : opens ≡ replicate (length plan.channels) true) (tokens_are : tokens_in pool ≡ map (λ (c : Channel). c.initial) plan.channels) (cells : AreSharedOut plan pool) where
+module _ (plan : Plan) (pool : Shared) (counts sums peaks : List ℕ) (stages : List Stage) (opens : List Bool) (playable : IsPlayable plan)
+    (counts_are : counts ≡ replicate (length plan.sources) 0) (stages_are : stages ≡ replicate (length plan.sources) Idle)
+    (opens_are : opens ≡ replicate (length plan.channels) true) (tokens_are : tokens_in pool ≡ map (λ (c : Channel). c.initial) plan.channels)
+    (cells : AreSharedOut plan pool) where
   abbrev pub here : Present
   here = record { counts = counts; stages = stages; opens = opens; tokens = tokens_in pool }
 
@@ -75,7 +75,8 @@ module _ (plan : Plan) (pool : Shared) (counts sums peaks : List ℕ) (stages : 
         tallied = ap length sums_are ∙ length-replicate (length plan.sources) 0;
         summed = λ a lt. none a ∙ sym (given-zero plan a) ∙ ap (given plan a) (sym (none_counted a));
         small = λ a lt. (let e = none a in omega arith);
-        starts = (let a = ap sum counts_are ∙ no_sum (length plan.sources) in let b = ap (count_by (λ s. not (is_stage s Idle))) stages_are ∙ none_busy (length plan.sources) in omega arith);
+        starts = (let a : sum counts ≡ length plan.sources * 0 = ap sum counts_are ∙ sum_by-replicate (λ (k : ℕ). k) (length plan.sources) 0 in
+            let b = ap (count_by (λ s. not (is_stage s Idle))) stages_are ∙ none_busy (length plan.sources) in omega arith);
         keeps = sym (none_reserved plan here idle 0 (length plan.sources));
       }
 
@@ -97,7 +98,8 @@ none_taken [] = tt
 none_taken (t ∷ ts) = ((let h : 0 ≤ length t = omega arith in h), none_taken ts)
 
 -- a core whose cells are shared out shows some state
-pub shows_some : (plan : Plan) (p : Present) (peaks : List ℕ) (pool : Shared) → tokens_in pool ≡ p.tokens → AreSharedOut plan pool → (s : State) × Shows (record { plan = plan; now = p; peaks = peaks; pool = pool }) s
+pub shows_some : (plan : Plan) (p : Present) (peaks : List ℕ) (pool : Shared) → tokens_in pool ≡ p.tokens → AreSharedOut plan pool → (s : State)
+    × Shows (record { plan = plan; now = p; peaks = peaks; pool = pool }) s
 shows_some plan p peaks pool chains cells =
     let s : State = record { counts = p.counts; stages = p.stages; opens = p.opens; streams = map as_written p.tokens } in
     (s, record { same = present_same p (present s) refl refl refl (sym (all_wait p.tokens)); lawful = none_taken p.tokens; chains = chains; cells = cells })

@@ -33,29 +33,34 @@ pub record IsBooked (plan : Plan) (s : State) : Type 0 where
 pub idle_at : (f : Stage → ℕ → ℕ) (s : State) (a : ℕ) → stage (present s) a ≡ Idle → ((n : ℕ) → f Idle n ≡ n) → tell f s.counts s.stages a ≡ count (present s) a
 idle_at f s a idle same = ap (λ x. f x (get_or s.counts a 0)) idle ∙ same _
 
-pub able_of : (plan : Plan) (s : State) (a : ℕ) → IsBooked plan s → CanGo plan (present s) a → IsAble plan (put s.counts s.stages) (got s.counts s.stages) a (count (present s) a)
+pub able_of : (plan : Plan) (s : State) (a : ℕ) → IsBooked plan s → CanGo plan (present s) a
+    → IsAble plan (put s.counts s.stages) (got s.counts s.stages) a (count (present s) a)
 able_of plan s a booked can = record {
   exists = can.exists;
   below = can.not_spent;
   wet = can.not_dry;
   rows = able_all (put s.counts s.stages) (got s.counts s.stages) (begun s.counts s.stages) a (count (present s) a)
-      (idle_at put_at s a can.idle (λ n. refl)) (idle_at got_at s a can.idle (λ n. refl)) (idle_at begun_at s a can.idle (λ n. refl)) (λ b. got_begun (get_or s.stages b Idle) (get_or s.counts b 0))
+      (idle_at put_at s a can.idle (λ n. refl)) (idle_at got_at s a can.idle (λ n. refl)) (idle_at begun_at s a can.idle (λ n. refl))
+      (λ b. got_begun (get_or s.stages b Idle) (get_or s.counts b 0))
       plan.channels s.streams booked.streamed booked.tallied
       (position_none (is_short a (count (present s) a)) 0 (zip plan.channels (map waiting s.streams)) can.not_short)
       (position_none (is_full a (count (present s) a)) 0 (zip plan.channels (map waiting s.streams)) can.not_full);
 }
 
-pub can_of : (plan : Plan) (s : State) (a : ℕ) → IsBooked plan s → stage (present s) a ≡ Idle → IsAble plan (put s.counts s.stages) (got s.counts s.stages) a (count (present s) a) → CanGo plan (present s) a
+pub can_of : (plan : Plan) (s : State) (a : ℕ) → IsBooked plan s → stage (present s) a ≡ Idle
+    → IsAble plan (put s.counts s.stages) (got s.counts s.stages) a (count (present s) a) → CanGo plan (present s) a
 can_of plan s a booked idle able = record {
   exists = able.exists;
   idle = idle;
   not_spent = able.below;
   not_dry = able.wet;
   not_short = none_short (put s.counts s.stages) (got s.counts s.stages) (begun s.counts s.stages) a (count (present s) a)
-      (idle_at put_at s a idle (λ n. refl)) (idle_at got_at s a idle (λ n. refl)) (idle_at begun_at s a idle (λ n. refl)) (λ b. got_begun (get_or s.stages b Idle) (get_or s.counts b 0))
+      (idle_at put_at s a idle (λ n. refl)) (idle_at got_at s a idle (λ n. refl)) (idle_at begun_at s a idle (λ n. refl))
+      (λ b. got_begun (get_or s.stages b Idle) (get_or s.counts b 0))
       plan.channels s.streams 0 booked.tallied able.rows;
   not_full = none_full (put s.counts s.stages) (got s.counts s.stages) (begun s.counts s.stages) a (count (present s) a)
-      (idle_at put_at s a idle (λ n. refl)) (idle_at got_at s a idle (λ n. refl)) (idle_at begun_at s a idle (λ n. refl)) (λ b. got_begun (get_or s.stages b Idle) (get_or s.counts b 0))
+      (idle_at put_at s a idle (λ n. refl)) (idle_at got_at s a idle (λ n. refl)) (idle_at begun_at s a idle (λ n. refl))
+      (λ b. got_begun (get_or s.stages b Idle) (get_or s.counts b 0))
       plan.channels s.streams 0 booked.tallied able.rows;
 }
 
@@ -79,7 +84,8 @@ booked_begun plan s a booked can =
       counted = booked.counted;
       staged = length-set s.stages a Begun ∙ booked.staged;
       streamed = booked.streamed;
-      tallied = tallied_begun (put s.counts s.stages) (got s.counts s.stages) (begun s.counts s.stages) (put s.counts (set s.stages a Begun)) (got s.counts (set s.stages a Begun)) (begun s.counts (set s.stages a Begun))
+      tallied = tallied_begun (put s.counts s.stages) (got s.counts s.stages) (begun s.counts s.stages) (put s.counts (set s.stages a Begun))
+          (got s.counts (set s.stages a Begun)) (begun s.counts (set s.stages a Begun))
           a (count (present s) a) plan.channels s.streams
           (staged_as put_at s.counts s.stages a Begun Idle lt can.idle refl)
           (staged_as got_at s.counts s.stages a Begun Idle lt can.idle refl)
@@ -93,20 +99,23 @@ length-drained a k [] sts e = refl
 length-drained a k (c ∷ cs) [] e = absurd (omega arith)
 length-drained a k (c ∷ cs) (st ∷ sts) e = ap suc (length-drained a k cs sts (omega arith))
 
-length-filled : (amount : Channel → ℕ) (v : List ℤ) (cs : List Channel) (sts : List Stream) → length sts ≡ length cs → length (filled sts (cut amount cs v)) ≡ length cs
+length-filled : (amount : Channel → ℕ) (v : List ℤ) (cs : List Channel) (sts : List Stream) → length sts ≡ length cs
+    → length (filled sts (cut amount cs v)) ≡ length cs
 length-filled amount v [] [] e = refl
 length-filled amount v [] (st ∷ sts) e = absurd (omega arith)
 length-filled amount v (c ∷ cs) [] e = absurd (omega arith)
 length-filled amount v (c ∷ cs) (st ∷ sts) e = ap suc (length-filled amount _ cs sts (omega arith))
 
-pub booked_read : (plan : Plan) (s : State) (a : ℕ) → IsBooked plan s → a < length plan.sources → stage (present s) a ≡ Begun → IsBooked plan (accepted plan s (Read a))
+pub booked_read : (plan : Plan) (s : State) (a : ℕ) → IsBooked plan s → a < length plan.sources → stage (present s) a ≡ Begun
+    → IsBooked plan (accepted plan s (Read a))
 booked_read plan s a booked there at =
     let lt : a < length s.stages = (let staged = booked.staged in omega arith) in
     record {
       counted = booked.counted;
       staged = length-set s.stages a Fetched ∙ booked.staged;
       streamed = length-drained a (count (present s) a) plan.channels s.streams booked.streamed;
-      tallied = tallied_read (put s.counts s.stages) (got s.counts s.stages) (begun s.counts s.stages) (put s.counts (set s.stages a Fetched)) (got s.counts (set s.stages a Fetched)) (begun s.counts (set s.stages a Fetched))
+      tallied = tallied_read (put s.counts s.stages) (got s.counts s.stages) (begun s.counts s.stages) (put s.counts (set s.stages a Fetched))
+          (got s.counts (set s.stages a Fetched)) (begun s.counts (set s.stages a Fetched))
           a (count (present s) a) plan.channels s.streams
           (staged_as put_at s.counts s.stages a Fetched Begun lt at refl)
           (λ b ne. staged_other got_at s.counts s.stages a b Fetched ne)
@@ -116,14 +125,16 @@ booked_read plan s a booked there at =
           booked.tallied;
     }
 
-pub booked_written : (plan : Plan) (s : State) (a : ℕ) (v : List ℤ) → IsBooked plan s → a < length plan.sources → stage (present s) a ≡ Fetched → length v ≡ gift a (count (present s) a) plan.channels → IsBooked plan (accepted plan s (Write a v))
+pub booked_written : (plan : Plan) (s : State) (a : ℕ) (v : List ℤ) → IsBooked plan s → a < length plan.sources → stage (present s) a ≡ Fetched
+    → length v ≡ gift a (count (present s) a) plan.channels → IsBooked plan (accepted plan s (Write a v))
 booked_written plan s a v booked there at whole =
     let lt : a < length s.stages = (let staged = booked.staged in omega arith) in
     record {
       counted = booked.counted;
       staged = length-set s.stages a Written ∙ booked.staged;
       streamed = length-filled _ v plan.channels s.streams booked.streamed;
-      tallied = tallied_written (put s.counts s.stages) (got s.counts s.stages) (begun s.counts s.stages) (put s.counts (set s.stages a Written)) (got s.counts (set s.stages a Written)) (begun s.counts (set s.stages a Written))
+      tallied = tallied_written (put s.counts s.stages) (got s.counts s.stages) (begun s.counts s.stages) (put s.counts (set s.stages a Written))
+          (got s.counts (set s.stages a Written)) (begun s.counts (set s.stages a Written))
           a (count (present s) a) v plan.channels s.streams booked.streamed whole
           (λ b ne. staged_other put_at s.counts s.stages a b Written ne)
           (ap (λ x. put_at x (get_or s.counts a 0)) at)
@@ -133,7 +144,8 @@ booked_written plan s a v booked there at whole =
           booked.tallied;
     }
 
-pub booked_finished : (plan : Plan) (s : State) (a : ℕ) → IsBooked plan s → a < length plan.sources → stage (present s) a ≡ Written → IsBooked plan (accepted plan s (Finish a))
+pub booked_finished : (plan : Plan) (s : State) (a : ℕ) → IsBooked plan s → a < length plan.sources → stage (present s) a ≡ Written
+    → IsBooked plan (accepted plan s (Finish a))
 booked_finished plan s a booked there at =
     let lt : a < length s.stages = (let staged = booked.staged in omega arith) in
     let ltc : a < length s.counts = (let counted = booked.counted in omega arith) in
@@ -142,7 +154,8 @@ booked_finished plan s a booked there at =
       counted = length-set s.counts a (suc k) ∙ booked.counted;
       staged = length-set s.stages a Idle ∙ booked.staged;
       streamed = booked.streamed;
-      tallied = tallied_same (put s.counts s.stages) (got s.counts s.stages) (begun s.counts s.stages) (put (set s.counts a (suc k)) (set s.stages a Idle)) (got (set s.counts a (suc k)) (set s.stages a Idle)) (begun (set s.counts a (suc k)) (set s.stages a Idle))
+      tallied = tallied_same (put s.counts s.stages) (got s.counts s.stages) (begun s.counts s.stages) (put (set s.counts a (suc k)) (set s.stages a Idle))
+          (got (set s.counts a (suc k)) (set s.stages a Idle)) (begun (set s.counts a (suc k)) (set s.stages a Idle))
           plan.channels s.streams
           (finished_as put_at s.counts s.stages a ltc lt at (λ n. refl))
           (finished_as got_at s.counts s.stages a ltc lt at (λ n. refl))
@@ -159,13 +172,17 @@ booked_accepted plan s (Close c) booked none = record { counted = booked.counted
 
 -- ---- at the opening
 
-tallied_opening : (n : ℕ) (cs : List Channel) → AreTallied (put (replicate n 0) (replicate n Idle)) (got (replicate n 0) (replicate n Idle)) (begun (replicate n 0) (replicate n Idle)) cs (map (λ (c : Channel). record { written = c.initial; taken = 0 }) cs)
+tallied_opening : (n : ℕ) (cs : List Channel)
+    → AreTallied (put (replicate n 0) (replicate n Idle)) (got (replicate n 0) (replicate n Idle)) (begun (replicate n 0) (replicate n Idle)) cs
+    (map (λ (c : Channel). record { written = c.initial; taken = 0 }) cs)
 tallied_opening n [] = tt
 tallied_opening n (c ∷ cs) = (
   record {
-    written = (let e : total c.produce (put (replicate n 0) (replicate n Idle) c.from) ≡ 0 = ap (total c.produce) (zero_of put_at (λ k. refl) c.from) in omega arith);
+    written = (let e : total c.produce (put (replicate n 0) (replicate n Idle) c.from) ≡ 0 = ap (total c.produce) (zero_of put_at (λ k. refl) c.from) in
+        omega arith);
     taken = sym (ap (total c.consume) (zero_of got_at (λ k. refl) c.to));
-    covered = (let e : total c.consume (begun (replicate n 0) (replicate n Idle) c.to) ≡ 0 = ap (total c.consume) (zero_of begun_at (λ k. refl) c.to) in omega arith);
+    covered = (let e : total c.consume (begun (replicate n 0) (replicate n Idle) c.to) ≡ 0 = ap (total c.consume) (zero_of begun_at (λ k. refl) c.to) in
+        omega arith);
   },
   tallied_opening n cs,
 )

@@ -34,4 +34,10 @@ producer_within n (d ∷ cs) (suc c) ends lt = producer_within n cs c ends.1 (om
 pub held-chains : (chains : List (List Held)) → sum_by length (map held_tokens chains) ≡ sum_by length chains
 held-chains [] = refl
 held-chains (x ∷ chains) =
-    omega (arith, sum_by-cons length (held_tokens x) (map held_tokens chains), sum_by-cons length x chains, held-chains chains, length-map x (λ (h : Held). h.1))
+    omega (
+      arith,
+      sum_by-cons length (held_tokens x) (map held_tokens chains),
+      sum_by-cons length x chains,
+      held-chains chains,
+      length-map x (λ (h : Held). h.1),
+    )

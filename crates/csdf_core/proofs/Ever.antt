@@ -1,8 +1,11 @@
 -- An accepted graph runs for ever: its schedule is accepted again and again, and each period ends as it began.
-use Rattle.std.proofs.Common.{◌≡◌, ℕ, zero, suc, ◌+◌, ◌-◌, ◌*◌, ◌<◌, ◌≤◌, not, cond, inl, inr, List, [], ◌∷◌, ◌++◌, length, take, get_or, map, replicate, sum, refl, ap, sym, subst, ◌∙◌, arith, true, false, Option, Some, None, mul-le-mul, suc-mul, append_assoc, length-append, ◌%◌, mul_comm, mul_assoc}
+use Rattle.std.proofs.Common.{◌≡◌, ℕ, zero, suc, ◌+◌, ◌-◌, ◌*◌, ◌<◌, ◌≤◌, not, cond, inl, inr, List, [], ◌∷◌, ◌++◌, length, take, get_or, map, replicate, sum}
+use Rattle.std.proofs.Common.{refl, ap, sym, subst, ◌∙◌, arith, true, false, Option, Some, None, mul-le-mul, suc-mul, append_assoc, length-append, ◌%◌}
+use Rattle.std.proofs.Common.{mul_comm, mul_assoc}
 use Rattle.std.specs.Prelude.{ℤ, IfSome, slice_index, slice_get, count_by, sum_by, unwrap_or, All}
 use Rattle.std.specs.List.{zip, AllByRecursion}
 use Rattle.std.proofs.lemmas.List.Sums.{sum_by-cons}
+use Rattle.std.proofs.lemmas.List.Folds.{sum_by-replicate}
 use Rattle.std.proofs.lemmas.List.{length-map, length-replicate, length-drop, get_or-set_same}
 use Rattle.std.proofs.lemmas.Bool.{lt-leb}
 use Rattle.std.proofs.lemmas.Bool.Decides.{eqb_tells}
@@ -25,13 +28,15 @@ use Rattle.csdf_core.specs.Plan.{Channel, Plan, HasAmpleCells}
 use Rattle.csdf_core.specs.Layout.{with_capacity, is_source_kernel, plan_for}
 use Rattle.csdf_core.specs.Rows.{gift}
 use Rattle.csdf_core.specs.State.{Stream, State, present, waiting, opening}
-use Rattle.csdf_core.specs.Step.{Reply, count, stage, is_stage, given, is_source, is_reached, is_stopped, begun_count, refusal, answer, accepted, after, refused, reply_by, replies_of, state_after}
+use Rattle.csdf_core.specs.Step.{Reply, count, stage, is_stage, given, is_source, is_reached, is_stopped, begun_count, refusal, answer, accepted, after}
+use Rattle.csdf_core.specs.Step.{refused, reply_by, replies_of, state_after}
 use Rattle.csdf_core.specs.Streams.{part}
 use Rattle.csdf_core.proofs.FitLemmas.{IsReached, reached_accepted, within_all}
 use Rattle.csdf_core.proofs.Opening.{reached_opening, alike}
 use Rattle.csdf_core.proofs.Setups.{playable_setup}
 use Rattle.std.proofs.lemmas.List.Elements.{All-from_get_or}
-use Rattle.csdf_core.specs.Ever.{AreFirings, repeated, Allows, IsPeriodEnd, ArePeriods, PhasesReturn, RunsForEver, PrintedIsPeriod, HasPeriod, AmpleByDefault, HasFirings, whole_firings, none_finished}
+use Rattle.csdf_core.specs.Ever.{AreFirings, repeated, Allows, IsPeriodEnd, ArePeriods, PhasesReturn, RunsForEver, PrintedIsPeriod, HasPeriod, AmpleByDefault}
+use Rattle.csdf_core.specs.Ever.{HasFirings, whole_firings, none_finished}
 use Rattle.csdf_core.proofs.FiringCounts.{put_at, got_at, put, got, begun}
 use Rattle.csdf_core.proofs.Tallies.{AreTallied}
 use Rattle.csdf_core.specs.Going.{CanGo}
@@ -72,14 +77,16 @@ pub record Goes (plan : Plan) (q : List ℕ) (s : State) (moves : List Move) (pe
   pub accepted : AllByRecursion (λ (r : Reply). refused r ≡ None) (replies_of plan s moves)
   pub ends : IsBetween plan q (state_after plan s moves) periods (no_firings q)
 
-goes_cons : (plan : Plan) (q : List ℕ) (s : State) (m : Move) (ms : List Move) (e : ℕ) → refusal plan (present s) m ≡ None → Goes plan q (accepted plan s m) ms e → Goes plan q s (m ∷ ms) e
+goes_cons : (plan : Plan) (q : List ℕ) (s : State) (m : Move) (ms : List Move) (e : ℕ) → refusal plan (present s) m ≡ None
+    → Goes plan q (accepted plan s m) ms e → Goes plan q s (m ∷ ms) e
 goes_cons plan q s m ms e none g =
     let g2 : Goes plan q (after plan s m) ms e = subst (λ (t : State). Goes plan q t ms e) (sym (after_is plan s m none)) g in
     record { accepted = (ap (λ (o : Option _). refused (reply_by o (answer plan (present s) m))) none, g2.accepted); ends = g2.ends }
 
 -- ---- whole periods leave every channel as it was
 
-held_first : (put got begun : ℕ → ℕ) (cs : List Channel) (sts : List Stream) (c : ℕ) → length sts ≡ length cs → AreTallied put got begun cs sts → AllByRecursion (λ (d : Channel). total d.produce (put d.from) ≡ total d.consume (got d.to)) cs
+held_first : (put got begun : ℕ → ℕ) (cs : List Channel) (sts : List Stream) (c : ℕ) → length sts ≡ length cs → AreTallied put got begun cs sts
+    → AllByRecursion (λ (d : Channel). total d.produce (put d.from) ≡ total d.consume (got d.to)) cs
     → length (part c (map waiting sts)) ≡ length (part c (map (λ (d : Channel). d.initial) cs))
 held_first put got begun [] [] c len t same = refl
 held_first put got begun [] (st ∷ sts) c len t same = absurd (omega arith)
@@ -94,7 +101,8 @@ held_first put got begun (d ∷ cs) (st ∷ sts) (suc c) len t same = held_first
 
 -- ---- schedules of a period
 
-listed : (channels : List graph.Channel) (q bounds n actors : List ℕ) → IsScheduleFrom channels q bounds n actors → IsSchedule channels bounds n actors × (counts_after n actors ≡ q)
+listed : (channels : List graph.Channel) (q bounds n actors : List ℕ) → IsScheduleFrom channels q bounds n actors → IsSchedule channels bounds n actors
+    × (counts_after n actors ≡ q)
 listed channels q bounds n [] h = (tt, h)
 listed channels q bounds n (a ∷ actors) h = let rest = listed channels q bounds (fired_counts n a) actors h.1 in ((h.0.can_go.able, rest.0), rest.1)
 
@@ -138,7 +146,8 @@ repeated_length : (i : ℕ) (xs : List ℕ) → 4 * length (repeated i xs) ≡ i
 repeated_length zero xs = let none : 0 * (4 * length xs) ≡ 0 = omega arith in omega arith
 repeated_length (suc i) xs = omega (arith, length-append xs (repeated i xs), repeated_length i xs, suc-mul i (4 * length xs))
 
-first_periods : (plan : Plan) (schedule : List ℕ) (i periods : ℕ) (moves : List Move) → i ≤ periods → ArePeriods plan schedule periods moves → ArePeriods plan schedule i (take (i * (4 * length schedule)) moves)
+first_periods : (plan : Plan) (schedule : List ℕ) (i periods : ℕ) (moves : List Move) → i ≤ periods → ArePeriods plan schedule periods moves
+    → ArePeriods plan schedule i (take (i * (4 * length schedule)) moves)
 first_periods plan schedule i periods moves le are =
     subst (λ (k : ℕ). AreFirings plan (none_finished plan) (repeated i schedule) (take k moves)) (repeated_length i schedule)
     (first_firings plan (none_finished plan) (repeated i schedule) (repeated (periods - i) schedule) moves
@@ -146,12 +155,18 @@ first_periods plan schedule i periods moves le are =
 
 -- ---- the cells
 
-ample_rows : (gs : List graph.Channel) (caps : List ℕ) → length caps ≡ length gs → sum_by (λ (c : Channel). c.capacity) (map with_capacity (zip gs caps)) ≡ sum caps
+ample_rows : (gs : List graph.Channel) (caps : List ℕ) → length caps ≡ length gs
+    → sum_by (λ (c : Channel). c.capacity) (map with_capacity (zip gs caps)) ≡ sum caps
 ample_rows [] [] len = refl
 ample_rows [] (b ∷ caps) len = absurd (omega arith)
 ample_rows (g ∷ gs) [] len = absurd (omega arith)
 ample_rows (g ∷ gs) (b ∷ caps) len =
-    omega (arith, sum_by-cons (λ (c : Channel). c.capacity) (with_capacity (g, b)) (map with_capacity (zip gs caps)), sum_by-cons (λ (k : ℕ). k) b caps, ample_rows gs caps (omega arith))
+    omega (
+      arith,
+      sum_by-cons (λ (c : Channel). c.capacity) (with_capacity (g, b)) (map with_capacity (zip gs caps)),
+      sum_by-cons (λ (k : ℕ). k) b caps,
+      ample_rows gs caps (omega arith),
+    )
 
 pub ample_by_default : AmpleByDefault
 ample_by_default a limits supplies firings ok none =
@@ -162,10 +177,12 @@ ample_by_default a limits supplies firings ok none =
 
 -- ---- the first state, whatever the limits
 
-reached_first : (a : Accepted) (limits supplies : List ℕ) (firings : Option ℕ) → IsAccepted a → IsReached (plan_for a limits supplies firings) (opening (plan_for a limits supplies firings))
+reached_first : (a : Accepted) (limits supplies : List ℕ) (firings : Option ℕ) → IsAccepted a
+    → IsReached (plan_for a limits supplies firings) (opening (plan_for a limits supplies firings))
 reached_first a limits supplies firings ok =
     let none : List ℕ = replicate (length a.graph.actors) 0 in
-    let small : All (λ (n : ℕ). n ≤ 16384000) none = All-from_get_or (λ (n : ℕ). n ≤ 16384000) none 0 (λ i lt. (let z = none_at (length a.graph.actors) i in omega arith)) in
+    let small : All (λ (n : ℕ). n ≤ 16384000) none =
+    All-from_get_or (λ (n : ℕ). n ≤ 16384000) none 0 (λ i lt. (let z = none_at (length a.graph.actors) i in omega arith)) in
     let r = reached_opening (plan_for a none supplies firings) (playable_setup a none supplies firings ok (length-replicate (length a.graph.actors) 0) small) in
     let plan : Plan = plan_for a limits supplies firings in
     record {
@@ -184,7 +201,8 @@ reached_first a limits supplies firings ok =
 
 -- ---- the walk
 
-module _ (a : Accepted) (limits supplies : List ℕ) (firings : Option ℕ) (periods : ℕ) (ok : IsAccepted a) (ample : HasAmpleCells (plan_for a limits supplies firings)) (allows : Allows (plan_for a limits supplies firings) a.q periods) where
+module _ (a : Accepted) (limits supplies : List ℕ) (firings : Option ℕ) (periods : ℕ) (ok : IsAccepted a)
+    (ample : HasAmpleCells (plan_for a limits supplies firings)) (allows : Allows (plan_for a limits supplies firings) a.q periods) where
   abbrev plan : Plan
   plan = plan_for a limits supplies firings
 
@@ -197,7 +215,8 @@ module _ (a : Accepted) (limits supplies : List ℕ) (firings : Option ℕ) (per
       (rep.firings.firings c.from (let h = channel.from in omega arith)) (rep.firings.firings c.to (let h = channel.to in omega arith))
 
   -- an actor that is able to fire by the counts of the schedule can go in the core
-  can_go : (s : State) (j x : ℕ) (n : List ℕ) → IsBetween plan a.q s j n → j < periods → length n ≡ length a.graph.actors → IsFed a.graph.channels n → CanFire a.graph.channels a.capacities n x → suc (get_or n x 0) ≤ get_or a.q x 0
+  can_go : (s : State) (j x : ℕ) (n : List ℕ) → IsBetween plan a.q s j n → j < periods → length n ≡ length a.graph.actors → IsFed a.graph.channels n
+      → CanFire a.graph.channels a.capacities n x → suc (get_or n x 0) ≤ get_or a.q x 0
       → CanGo plan (present s) x
   can_go s j x n b few len fed can left =
       let k : ℕ = at_period a.q j n x in
@@ -215,8 +234,10 @@ module _ (a : Accepted) (limits supplies : List ℕ) (firings : Option ℕ) (per
         rows = able_rows (IsAbleAt (at_period a.q j n) (at_period a.q j n) x k) a.graph.channels a.capacities ok.least.completes.each_channel
             (λ i c is. able_row a.graph.channels a.q a.capacities n j x i c (get_or a.capacities i 0) can.exists (each_periodic i c is) refl is fed can);
       } in
-      let puts : (d : ℕ) → at_period a.q j n d ≤ put s.counts s.stages d = λ d. (let i = idle_count put_at s b.idle (λ m. refl) d in let h = b.counts d in omega arith) in
-      let gots : (d : ℕ) → at_period a.q j n d ≤ got s.counts s.stages d = λ d. (let i = idle_count got_at s b.idle (λ m. refl) d in let h = b.counts d in omega arith) in
+      let puts : (d : ℕ) → at_period a.q j n d ≤ put s.counts s.stages d =
+      λ d. (let i = idle_count put_at s b.idle (λ m. refl) d in let h = b.counts d in omega arith) in
+      let gots : (d : ℕ) → at_period a.q j n d ≤ got s.counts s.stages d =
+      λ d. (let i = idle_count got_at s b.idle (λ m. refl) d in let h = b.counts d in omega arith) in
       let still = able_later plan (at_period a.q j n) (at_period a.q j n) (put s.counts s.stages) (got s.counts s.stages) x k puts gots able in
       can_of plan s x b.booked (b.idle x) (subst (λ m. IsAble plan (put s.counts s.stages) (got s.counts s.stages) x m) (sym (b.counts x)) still)
 
@@ -227,11 +248,14 @@ module _ (a : Accepted) (limits supplies : List ℕ) (firings : Option ℕ) (per
       let whole : suc j * sum a.q ≤ periods * sum a.q = mul-le-mul few (let same : sum a.q ≤ sum a.q = omega arith in same) in
       let next : suc j * sum a.q ≡ j * sum a.q + sum a.q = omega (arith, suc-mul j (sum a.q)) in
       let total = b.total in
-      below_limit firings (periods * sum a.q) (begun_count (present s)) (let less : begun_count (present s) < periods * sum a.q = omega arith in less) allows.firings
+      below_limit firings (periods * sum a.q) (begun_count (present s)) (let less : begun_count (present s) < periods * sum a.q = omega arith in less)
+      allows.firings
 
   -- a whole firing
-  fires : (s : State) (j x : ℕ) (n : List ℕ) (v : List ℤ) (ms : List Move) (e : ℕ) → IsBetween plan a.q s j n → j < periods → suc (sum n) ≤ sum a.q → x < length n → CanGo plan (present s) x → length v ≡ gift x (get_or s.counts x 0) plan.channels
-      → (IsBetween plan a.q (fired_with plan s x v) j (fired_counts n x) → Goes plan a.q (fired_with plan s x v) ms e) → Goes plan a.q s (Begin x ∷ Read x ∷ Write x v ∷ Finish x ∷ ms) e
+  fires : (s : State) (j x : ℕ) (n : List ℕ) (v : List ℤ) (ms : List Move) (e : ℕ) → IsBetween plan a.q s j n → j < periods → suc (sum n) ≤ sum a.q
+      → x < length n → CanGo plan (present s) x → length v ≡ gift x (get_or s.counts x 0) plan.channels
+      → (IsBetween plan a.q (fired_with plan s x v) j (fired_counts n x) → Goes plan a.q (fired_with plan s x v) ms e)
+      → Goes plan a.q s (Begin x ∷ Read x ∷ Write x v ∷ Finish x ∷ ms) e
   fires s j x n v ms e b few left ltn can len go =
       let there : x < length plan.sources = can.exists in
       let s1 : State = accepted plan s (Begin x) in
@@ -247,10 +271,11 @@ module _ (a : Accepted) (limits supplies : List ℕ) (firings : Option ℕ) (per
       let k3 = booked_written plan s2 x v k2 there at2 len in
       let at3 : stage (present s3) x ≡ Written = get_or-set_same s2.stages x Written Idle (let staged = k2.staged in omega arith) in
       let k4 = booked_finished plan s3 x k3 there at3 in
-      let n1 : refusal plan (present s) (Begin x) ≡ None = begins_free plan (present s) x (all_open plan s x b.opens) (not_stopped s j n b few left) ample b.reached.fit can in
-      let n2 : refusal plan (present s1) (Read x) ≡ None = reads_free plan s1 x there at1 in
-      let n3 : refusal plan (present s2) (Write x v) ≡ None = writes_free plan s2 x v there at2 len in
-      let n4 : refusal plan (present s3) (Finish x) ≡ None = finishes_free plan s3 x there at3 in
+      let n1 : refusal plan (present s) (Begin x) ≡ None = begins_free plan (present s) x (all_open plan s x b.opens) (not_stopped s j n b few left) ample
+      b.reached.fit can in
+      let n2 : refusal plan (present s1) (Read x) ≡ None = reads_free plan (present s1) x there at1 in
+      let n3 : refusal plan (present s2) (Write x v) ≡ None = writes_free plan (present s2) x v there at2 len in
+      let n4 : refusal plan (present s3) (Finish x) ≡ None = finishes_free plan (present s3) x there at3 in
       let r1 = reached_accepted plan s (Begin x) b.reached n1 in
       let r2 = reached_accepted plan s1 (Read x) r1 n2 in
       let r3 = reached_accepted plan s2 (Write x v) r2 n3 in
@@ -285,7 +310,8 @@ module _ (a : Accepted) (limits supplies : List ℕ) (firings : Option ℕ) (per
       let next : List ℕ = fired_counts n x in
       let lenq : length a.q ≡ length a.graph.actors = ok.repetition.firings.each_actor in
       let len2 : length next ≡ length a.graph.actors = fired_length n x ∙ len in
-      let grows : (d : ℕ) → get_or next d 0 ≤ get_or a.q d 0 = λ d. subst (λ (m : List ℕ). get_or next d 0 ≤ get_or m d 0) leads (after_more a.graph.channels a.capacities next actors d able.1) in
+      let grows : (d : ℕ) → get_or next d 0 ≤ get_or a.q d 0 =
+      λ d. subst (λ (m : List ℕ). get_or next d 0 ≤ get_or m d 0) leads (after_more a.graph.channels a.capacities next actors d able.1) in
       let below : sum next ≤ sum a.q = sum_within next a.q (len2 ∙ sym lenq) grows in
       let one = fired_same n x can.exists in
       let up = grows x in
@@ -293,7 +319,8 @@ module _ (a : Accepted) (limits supplies : List ℕ) (firings : Option ℕ) (per
       let go = can_go s j x n b few len fed can (omega arith) in
       subst (λ (ms : List Move). Goes plan a.q s ms e) (sym are.1.four)
       (fires s j x n v rest e b few (omega arith) can.exists go are.1.whole (λ after_it.
-      walk j e more (fired_with plan s x v) next actors rest few on len2 (fed_fired a.graph.channels a.capacities n x fed (able_of a.graph.channels a.capacities n x fed can)) able.1 leads after_it are.2))
+      walk j e more (fired_with plan s x v) next actors rest few on len2
+      (fed_fired a.graph.channels a.capacities n x fed (able_of a.graph.channels a.capacities n x fed can)) able.1 leads after_it are.2))
 
   no_sum : (q : List ℕ) → sum (no_firings q) ≡ 0
   no_sum [] = refl
@@ -311,7 +338,8 @@ module _ (a : Accepted) (limits supplies : List ℕ) (firings : Option ℕ) (per
   }
 
   over : (schedule : List ℕ) → IsSchedule a.graph.channels a.capacities (no_firings a.q) schedule → counts_after (no_firings a.q) schedule ≡ a.q
-      → (left j : ℕ) (s : State) (moves : List Move) → j + left ≤ periods → IsBetween plan a.q s j (no_firings a.q) → AreFirings plan s.counts (repeated left schedule) moves → Goes plan a.q s moves (j + left)
+      → (left j : ℕ) (s : State) (moves : List Move) → j + left ≤ periods → IsBetween plan a.q s j (no_firings a.q)
+      → AreFirings plan s.counts (repeated left schedule) moves → Goes plan a.q s moves (j + left)
   over schedule able leads zero j s moves le b are =
       let none : Goes plan a.q s [] j = record { accepted = tt; ends = b } in
       let same : j ≡ j + 0 = omega arith in
@@ -323,10 +351,6 @@ module _ (a : Accepted) (limits supplies : List ℕ) (firings : Option ℕ) (per
       (λ t ms c more. over schedule able leads left (suc j) t ms (omega arith) (turned t j c) more)
       (length-replicate (length a.q) 0 ∙ ok.repetition.firings.each_actor) (fed_first a.graph.channels (length a.q)) able leads b are)
 
-  first_total : (n : ℕ) → sum (replicate n 0) ≡ 0
-  first_total zero = refl
-  first_total (suc n) = omega (arith, sum_by-cons (λ (k : ℕ). k) 0 (replicate n 0), first_total n)
-
   at_first : IsBetween plan a.q (opening plan) 0 (no_firings a.q)
   at_first = record {
     booked = booked_opening plan;
@@ -334,7 +358,8 @@ module _ (a : Accepted) (limits supplies : List ℕ) (firings : Option ℕ) (per
     idle = λ d. alike (length plan.sources) d Idle;
     opens = refl;
     counts = λ d. (let none = none_at (length plan.sources) d in let z = none_at (length a.q) d in let m : 0 * get_or a.q d 0 ≡ 0 = omega arith in omega arith);
-    total = (let none = first_total (length plan.sources) in let z = no_sum a.q in let m : 0 * sum a.q ≡ 0 = omega arith in omega arith);
+    total = (let none : sum (replicate (length plan.sources) 0) ≡ length plan.sources * 0 = sum_by-replicate (λ (k : ℕ). k) (length plan.sources) 0 in
+        let z = no_sum a.q in let m : 0 * sum a.q ≡ 0 = omega arith in omega arith);
   }
 
   -- the end of so many periods
@@ -342,14 +367,18 @@ module _ (a : Accepted) (limits supplies : List ℕ) (firings : Option ℕ) (per
   ended m t b =
       let counts : (d : ℕ) → count (present t) d ≡ m * get_or a.q d 0 = λ d. (let h = b.counts d in let z = none_at (length a.q) d in omega arith) in
       record {
-        held = λ c. held_first (put t.counts t.stages) (got t.counts t.stages) (begun t.counts t.stages) plan.channels t.streams c b.booked.streamed b.booked.tallied
-            (able_rows (λ (d : Channel). total d.produce (put t.counts t.stages d.from) ≡ total d.consume (got t.counts t.stages d.to)) a.graph.channels a.capacities ok.least.completes.each_channel
+        held = λ c. held_first (put t.counts t.stages) (got t.counts t.stages) (begun t.counts t.stages) plan.channels t.streams c b.booked.streamed
+            b.booked.tallied
+            (able_rows (λ (d : Channel). total d.produce (put t.counts t.stages d.from) ≡ total d.consume (got t.counts t.stages d.to)) a.graph.channels
+            a.capacities ok.least.completes.each_channel
             (λ i d is.
             (let p = each_periodic i d is in
             let z1 : m * get_or a.q d.from 0 + 0 ≡ m * get_or a.q d.from 0 = omega arith in
             let z2 : m * get_or a.q d.to 0 + 0 ≡ m * get_or a.q d.to 0 = omega arith in
-            let made : produced d (put t.counts t.stages d.from) ≡ p.moved m + produced d 0 = ap (produced d) (idle_count put_at t b.idle (λ k. refl) d.from ∙ counts d.from ∙ sym z1) ∙ p.put m 0 in
-            let gone : consumed d (got t.counts t.stages d.to) ≡ p.moved m + consumed d 0 = ap (consumed d) (idle_count got_at t b.idle (λ k. refl) d.to ∙ counts d.to ∙ sym z2) ∙ p.taken m 0 in
+            let made : produced d (put t.counts t.stages d.from) ≡ p.moved m + produced d 0 =
+            ap (produced d) (idle_count put_at t b.idle (λ k. refl) d.from ∙ counts d.from ∙ sym z1) ∙ p.put m 0 in
+            let gone : consumed d (got t.counts t.stages d.to) ≡ p.moved m + consumed d 0 =
+            ap (consumed d) (idle_count got_at t b.idle (λ k. refl) d.to ∙ counts d.to ∙ sym z2) ∙ p.taken m 0 in
             made ∙ sym gone)));
         counts = counts;
         idle = b.idle;
@@ -361,7 +390,8 @@ runs_for_ever a schedule ok is limits supplies firings periods moves ample allow
     let begins = at_first a limits supplies firings periods ok ample allows in
     let goes : (i : ℕ) (ms : List Move) → i ≤ periods → ArePeriods plan schedule i ms → Goes plan a.q (opening plan) ms i = λ i ms le fit.
     (let zeros : 0 + i ≡ i = omega arith in
-    subst (λ (m : ℕ). Goes plan a.q (opening plan) ms m) zeros (over a limits supplies firings periods ok ample allows schedule is.able is.leads i 0 (opening plan) ms (omega arith) begins fit)) in
+    subst (λ (m : ℕ). Goes plan a.q (opening plan) ms m) zeros
+    (over a limits supplies firings periods ok ample allows schedule is.able is.leads i 0 (opening plan) ms (omega arith) begins fit)) in
     let all = goes periods moves (omega arith) are in
     record {
       accepted = all.accepted;
@@ -376,5 +406,6 @@ pub phases_return : PhasesReturn
 phases_return a periods b ok lt =
     let p : ℕ = phases_of a.graph.actors b in
     let r : ℕ = get_or a.r b 0 in
-    let is : periods * get_or a.q b 0 ≡ p * (r * periods) = ap (λ (k : ℕ). periods * k) (ok.repetition.firings.firings b lt) ∙ mul_comm periods (p * r) ∙ mul_assoc p r periods in
+    let is : periods * get_or a.q b 0 ≡ p * (r * periods) = ap (λ (k : ℕ). periods * k) (ok.repetition.firings.firings b lt) ∙ mul_comm periods (p * r)
+    ∙ mul_assoc p r periods in
     ap (λ (k : ℕ). k % p) is ∙ mul-mod_right p (r * periods)

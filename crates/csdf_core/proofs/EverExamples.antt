@@ -15,7 +15,8 @@ use Rattle.csdf_core.specs.Ever.{repeated, none_finished, whole_firings}
 sums : Plan
 sums = record {
   sources = true ∷ false ∷ false ∷ [];
-  channels = record { from = 0; to = 1; produce = 2 ∷ 1 ∷ []; consume = 3 ∷ []; initial = []; capacity = 3 } ∷ record { from = 1; to = 2; produce = 1 ∷ []; consume = 1 ∷ []; initial = pos 9 ∷ []; capacity = 2 } ∷ [];
+  channels = record { from = 0; to = 1; produce = 2 ∷ 1 ∷ []; consume = 3 ∷ []; initial = []; capacity = 3 } ∷ record
+      { from = 1; to = 2; produce = 1 ∷ []; consume = 1 ∷ []; initial = pos 9 ∷ []; capacity = 2 } ∷ [];
   limits = 4 ∷ 2 ∷ 2 ∷ [];
   supplies = 6 ∷ 0 ∷ 0 ∷ [];
   firings = Some 8;

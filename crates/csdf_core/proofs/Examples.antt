@@ -24,7 +24,8 @@ pair = record {
 chain : Plan
 chain = record {
   sources = true ∷ false ∷ false ∷ [];
-  channels = record { from = 0; to = 1; produce = 2 ∷ []; consume = 3 ∷ []; initial = []; capacity = 4 } ∷ record { from = 1; to = 2; produce = 1 ∷ []; consume = 2 ∷ []; initial = []; capacity = 2 } ∷ [];
+  channels = record { from = 0; to = 1; produce = 2 ∷ []; consume = 3 ∷ []; initial = []; capacity = 4 } ∷ record
+      { from = 1; to = 2; produce = 1 ∷ []; consume = 2 ∷ []; initial = []; capacity = 2 } ∷ [];
   limits = 1000000 ∷ 1000000 ∷ 1000000 ∷ [];
   supplies = 1000000 ∷ 0 ∷ 0 ∷ [];
   firings = None;
@@ -35,9 +36,11 @@ none : Reply
 none = Ok []
 
 filling : List Move
-filling = Begin 0 ∷ Read 0 ∷ Write 0 (pos 5 ∷ pos 6 ∷ []) ∷ Finish 0 ∷ Begin 0 ∷ Read 0 ∷ Write 0 (pos 7 ∷ []) ∷ Finish 0 ∷ Begin 0 ∷ Begin 1 ∷ Read 1 ∷ Begin 0 ∷ []
+filling = Begin 0 ∷ Read 0 ∷ Write 0 (pos 5 ∷ pos 6 ∷ []) ∷ Finish 0 ∷ Begin 0 ∷ Read 0 ∷ Write 0 (pos 7 ∷ []) ∷ Finish 0 ∷ Begin 0 ∷ Begin 1 ∷ Read 1 ∷ Begin
+    0 ∷ []
 
-fills : replies_of pair (opening pair) filling ≡ none ∷ none ∷ none ∷ none ∷ none ∷ none ∷ none ∷ none ∷ Err (Full 0) ∷ none ∷ Ok (pos 5 ∷ pos 6 ∷ pos 7 ∷ []) ∷ none ∷ []
+fills : replies_of pair (opening pair) filling ≡ none ∷ none ∷ none ∷ none ∷ none ∷ none ∷ none ∷ none ∷ Err (Full 0) ∷ none ∷ Ok
+    (pos 5 ∷ pos 6 ∷ pos 7 ∷ []) ∷ none ∷ []
 unfolding pair none filling given
 fills = refl
 

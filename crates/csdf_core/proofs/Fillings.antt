@@ -1,5 +1,6 @@
 -- Each channel gets its initial tokens, one channel after another.
-use Rattle.std.proofs.Common.{◌≡◌, ℕ, zero, suc, ◌+◌, ◌<◌, ◌≤◌, List, [], ◌∷◌, ◌++◌, length, get_or, set, take, drop, map, replicate, refl, ap, ◌∙◌, sym, arith, append_assoc}
+use Rattle.std.proofs.Common.{◌≡◌, ℕ, zero, suc, ◌+◌, ◌<◌, ◌≤◌, List, [], ◌∷◌, ◌++◌, length, get_or, set, take, drop, map, replicate, refl, ap, ◌∙◌, sym, arith}
+use Rattle.std.proofs.Common.{append_assoc}
 use Rattle.std.specs.Prelude.{ℤ, sum_by}
 use Rattle.std.proofs.lemmas.List.{drop_more, drop_all, length-map}
 use Rattle.std.proofs.lemmas.List.Sums.{sum_by_more, sum_by_more_le}
@@ -19,9 +20,11 @@ next_at [] i lt = absurd (omega arith)
 next_at (x ∷ xs) zero lt = refl
 next_at (x ∷ xs) (suc i) lt = ap (λ l. x ∷ l) (next_at xs i (omega arith))
 
-pub filled_more : (xs ts ts' : List (List ℤ)) (i : ℕ) (x : List ℤ) → i < length xs → ts ≡ filled i xs → x ≡ get_or xs i [] → ts' ≡ set ts i (get_or ts i [] ++ x) → ts' ≡ filled (i + 1) xs
+pub filled_more : (xs ts ts' : List (List ℤ)) (i : ℕ) (x : List ℤ) → i < length xs → ts ≡ filled i xs → x ≡ get_or xs i []
+    → ts' ≡ set ts i (get_or ts i [] ++ x) → ts' ≡ filled (i + 1) xs
 filled_more xs ts ts' i x lt is same new =
-    new ∙ ap (λ (l : List (List ℤ)). set l i (get_or l i [] ++ x)) is ∙ ap (λ (y : List ℤ). set (filled i xs) i (get_or (filled i xs) i [] ++ y)) same ∙ next_at xs i lt
+    new ∙ ap (λ (l : List (List ℤ)). set l i (get_or l i [] ++ x)) is ∙ ap (λ (y : List ℤ). set (filled i xs) i (get_or (filled i xs) i [] ++ y)) same
+    ∙ next_at xs i lt
     ∙ ap (λ (n : ℕ). filled n xs) (let e : suc i ≡ i + 1 = omega arith in e)
 
 pub filled_all : (xs : List (List ℤ)) (n : ℕ) → length xs ≤ n → filled n xs ≡ xs
@@ -38,24 +41,28 @@ filled_none {A = A} f cs n e = ap (λ m. map held_tokens (replicate m [])) e ∙
     by (c ∷ l) = ap (λ r. [] ∷ r) (by l)
 
 -- the cells that are left free
-pub free_more : (xs : List (List ℤ)) (i free free' cells : ℕ) (x : List ℤ) → i < length xs → x ≡ get_or xs i [] → free + sum_by length (take i xs) ≡ cells → free' + length x ≡ free → free' + sum_by length (take (i + 1) xs) ≡ cells
+pub free_more : (xs : List (List ℤ)) (i free free' cells : ℕ) (x : List ℤ) → i < length xs → x ≡ get_or xs i [] → free + sum_by length (take i xs) ≡ cells
+    → free' + length x ≡ free → free' + sum_by length (take (i + 1) xs) ≡ cells
 free_more xs i free free' cells x lt same before after =
     let more = sum_by_more length xs i [] lt in
     let len : length x ≡ length (get_or xs i []) = ap length same in
     omega arith
 
-pub has_room : (xs : List (List ℤ)) (i free cells : ℕ) (x : List ℤ) → i < length xs → x ≡ get_or xs i [] → sum_by length xs ≤ cells → free + sum_by length (take i xs) ≡ cells → length x ≤ free
+pub has_room : (xs : List (List ℤ)) (i free cells : ℕ) (x : List ℤ) → i < length xs → x ≡ get_or xs i [] → sum_by length xs ≤ cells
+    → free + sum_by length (take i xs) ≡ cells → length x ≤ free
 has_room xs i free cells x lt same fits before =
     let more = sum_by_more_le length xs i [] lt in
     let len : length x ≡ length (get_or xs i []) = ap length same in
     omega arith
 
-pub lengths_more : (chains : List (List Held)) (done all : List ℕ) (i n : ℕ) → i < length chains → n ≡ length (get_or chains i []) → done ++ map length (drop i (map held_tokens chains)) ≡ all → (done ++ n ∷ []) ++ map length (drop (i + 1) (map held_tokens chains)) ≡ all
+pub lengths_more : (chains : List (List Held)) (done all : List ℕ) (i n : ℕ) → i < length chains → n ≡ length (get_or chains i [])
+    → done ++ map length (drop i (map held_tokens chains)) ≡ all → (done ++ n ∷ []) ++ map length (drop (i + 1) (map held_tokens chains)) ≡ all
 lengths_more chains done all i n lt is so =
     let ts : List (List ℤ) = map held_tokens chains in
     let len : length ts ≡ length chains = length-map chains held_tokens in
     let here : n ≡ length (get_or ts i []) = is ∙ sym (length-map (get_or chains i []) (λ (h : Held). h.1)) ∙ ap length (sym (tokens_at-map chains i)) in
-    append_assoc done (n ∷ []) (map length (drop (i + 1) ts)) ∙ ap (λ m. done ++ m ∷ map length (drop (i + 1) ts)) here ∙ ap (λ (l : List (List ℤ)). done ++ map length l) (sym (drop_more ts i [] (omega arith))) ∙ so
+    append_assoc done (n ∷ []) (map length (drop (i + 1) ts)) ∙ ap (λ m. done ++ m ∷ map length (drop (i + 1) ts)) here
+    ∙ ap (λ (l : List (List ℤ)). done ++ map length l) (sym (drop_more ts i [] (omega arith))) ∙ so
 
 -- a pool by its parts
 pub pool_is : (pool : Shared) (size : ℕ) (chains : List (List Held)) (free : List ℕ) → pool.size ≡ size → pool.chains ≡ chains → pool.free ≡ free

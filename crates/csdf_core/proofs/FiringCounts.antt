@@ -58,14 +58,17 @@ count_put Fetched n = omega arith
 count_put Written n = omega arith
 
 -- after actor a took a new stage
-pub staged_same : (f : Stage → ℕ → ℕ) (counts : List ℕ) (stages : List Stage) (a : ℕ) (x : Stage) → a < length stages → tell f counts (set stages a x) a ≡ f x (get_or counts a 0)
+pub staged_same : (f : Stage → ℕ → ℕ) (counts : List ℕ) (stages : List Stage) (a : ℕ) (x : Stage) → a < length stages
+    → tell f counts (set stages a x) a ≡ f x (get_or counts a 0)
 staged_same f counts stages a x lt = ap (λ s. f s (get_or counts a 0)) (get_or-set_same stages a x Idle lt)
 
-pub staged_other : (f : Stage → ℕ → ℕ) (counts : List ℕ) (stages : List Stage) (a b : ℕ) (x : Stage) → b ≢ a → tell f counts (set stages a x) b ≡ tell f counts stages b
+pub staged_other : (f : Stage → ℕ → ℕ) (counts : List ℕ) (stages : List Stage) (a b : ℕ) (x : Stage) → b ≢ a
+    → tell f counts (set stages a x) b ≡ tell f counts stages b
 staged_other f counts stages a b x ne = ap (λ s. f s (get_or counts b 0)) (get_or-set_other stages a b x Idle ne)
 
 -- a stage at which the count is the same
-pub staged_as : (f : Stage → ℕ → ℕ) (counts : List ℕ) (stages : List Stage) (a : ℕ) (x y : Stage) → a < length stages → get_or stages a Idle ≡ y → f x (get_or counts a 0) ≡ f y (get_or counts a 0) → (b : ℕ) → tell f counts (set stages a x) b ≡ tell f counts stages b
+pub staged_as : (f : Stage → ℕ → ℕ) (counts : List ℕ) (stages : List Stage) (a : ℕ) (x y : Stage) → a < length stages → get_or stages a Idle ≡ y
+    → f x (get_or counts a 0) ≡ f y (get_or counts a 0) → (b : ℕ) → tell f counts (set stages a x) b ≡ tell f counts stages b
 staged_as f counts stages a x y lt at same b = elim (eqb_tells b a) [
   | inl e ↦ subst (λ (d : ℕ). tell f counts (set stages a x) d ≡ tell f counts stages d) (sym e.1)
       (staged_same f counts stages a x lt ∙ same ∙ ap (λ s. f s (get_or counts a 0)) (sym at))
@@ -73,7 +76,8 @@ staged_as f counts stages a x y lt at same b = elim (eqb_tells b a) [
 ]
 
 -- a finish counts what was written before
-pub finished_as : (f : Stage → ℕ → ℕ) (counts : List ℕ) (stages : List Stage) (a : ℕ) → a < length counts → a < length stages → get_or stages a Idle ≡ Written → ((n : ℕ) → f Idle (suc n) ≡ f Written n) → (b : ℕ) → tell f (set counts a (suc (get_or counts a 0))) (set stages a Idle) b ≡ tell f counts stages b
+pub finished_as : (f : Stage → ℕ → ℕ) (counts : List ℕ) (stages : List Stage) (a : ℕ) → a < length counts → a < length stages → get_or stages a Idle ≡ Written
+    → ((n : ℕ) → f Idle (suc n) ≡ f Written n) → (b : ℕ) → tell f (set counts a (suc (get_or counts a 0))) (set stages a Idle) b ≡ tell f counts stages b
 finished_as f counts stages a ltc lts at same b = elim (eqb_tells b a) [
   | inl e ↦ subst (λ (d : ℕ). tell f (set counts a (suc (get_or counts a 0))) (set stages a Idle) d ≡ tell f counts stages d) (sym e.1)
       (staged_same f (set counts a (suc (get_or counts a 0))) stages a Idle lts

@@ -1,5 +1,6 @@
 -- Every state that the step reaches is fit.
-use Rattle.std.proofs.Common.{◌≡◌, ◌≢◌, ℕ, ◌<◌, ◌≤◌, suc, List, [], ◌∷◌, inl, inr, length, get_or, set, map, refl, subst, ap, sym, ◌∙◌, arith, Option, Some, None, false}
+use Rattle.std.proofs.Common.{◌≡◌, ◌≢◌, ℕ, ◌<◌, ◌≤◌, suc, List, [], ◌∷◌, inl, inr, length, get_or, set, map, refl, subst, ap, sym, ◌∙◌, arith, Option, Some}
+use Rattle.std.proofs.Common.{None, false}
 use Rattle.std.specs.Prelude.{ℤ, slice_index}
 use Rattle.std.specs.List.{zip, AllByRecursion}
 use Rattle.std.proofs.lemmas.List.{get_or-set_other, get_or-set_same, length-set}
@@ -17,7 +18,8 @@ use Rattle.csdf_core.specs.Ready.{IsReady, AreBelow, IsFit}
 use Rattle.csdf_core.specs.Streams.{AreWithin}
 use Rattle.csdf_core.proofs.Kept.{begins, reads, writes, finishes, closes}
 use Rattle.csdf_core.proofs.Ready.{begin_all, read_all, write_all, finish_all, are_there}
-use Rattle.csdf_core.proofs.Next.{begun, fetched, written, finished, closed, next, present_accepted, lawful_accepted}
+use Rattle.csdf_core.specs.Next.{begun, fetched, written, finished, closed, next}
+use Rattle.csdf_core.proofs.Next.{present_accepted, lawful_accepted}
 use Rattle.csdf_core.proofs.RoomLemmas.{room_begun, room_fetched, room_written, room_finished}
 use Rattle.csdf_core.proofs.ClosedLemmas.{still_begun, still_fetched, still_after, still_closed}
 
@@ -27,14 +29,15 @@ length-left a k [] ts e = refl
 length-left a k (c ∷ cs) [] e = absurd (omega arith)
 length-left a k (c ∷ cs) (t ∷ ts) e = ap suc (length-left a k cs ts (omega arith))
 
-length-joined : (a k : ℕ) (cs : List Channel) (ts : List (List ℤ)) (v : List ℤ) → length ts ≡ length cs → length (joined ts (shares a k cs v)) ≡ length cs
+pub length-joined : (a k : ℕ) (cs : List Channel) (ts : List (List ℤ)) (v : List ℤ) → length ts ≡ length cs → length (joined ts (shares a k cs v)) ≡ length cs
 length-joined a k [] [] v e = refl
 length-joined a k [] (t ∷ ts) v e = absurd (omega arith)
 length-joined a k (c ∷ cs) [] v e = absurd (omega arith)
 length-joined a k (c ∷ cs) (t ∷ ts) v e = ap suc (length-joined a k cs ts _ (omega arith))
 
 -- an actor at work stays below its limit, where the stage of a changes and a is below its own
-below_set : (plan : Plan) (p : Present) (a : ℕ) (x : Stage) → count p a < slice_index plan.limits a → AreBelow plan p → (b : ℕ) → get_or (set p.stages a x) b Idle ≢ Idle → count p b < slice_index plan.limits b
+below_set : (plan : Plan) (p : Present) (a : ℕ) (x : Stage) → count p a < slice_index plan.limits a → AreBelow plan p → (b : ℕ)
+    → get_or (set p.stages a x) b Idle ≢ Idle → count p b < slice_index plan.limits b
 below_set plan p a x here old b busy = elim (eqb_tells b a) [
   | inl e ↦ subst (λ (c : ℕ). count p c < slice_index plan.limits c) (sym e.1) here
   | inr e ↦ old b (λ idle. busy (get_or-set_other p.stages a b x Idle e.1 ∙ idle))
@@ -109,7 +112,8 @@ fit_finished plan p a s none =
       queued = s.queued;
       below = λ b at_work. elim (eqb_tells b a) [
         | inl e ↦ absurd (at_work (subst (λ (c : ℕ). get_or (set p.stages a Idle) c Idle ≡ Idle) (sym e.1) (get_or-set_same p.stages a Idle Idle lt)))
-        | inr e ↦ subst (λ (n : ℕ). n < slice_index plan.limits b) (sym (get_or-set_other p.counts a b (suc (count p a)) 0 e.1)) (s.below b (λ idle. at_work (get_or-set_other p.stages a b Idle Idle e.1 ∙ idle)))
+        | inr e ↦ subst (λ (n : ℕ). n < slice_index plan.limits b) (sym (get_or-set_other p.counts a b (suc (count p a)) 0 e.1))
+            (s.below b (λ idle. at_work (get_or-set_other p.stages a b Idle Idle e.1 ∙ idle)))
       ];
       ready = finish_all p a (suc (count p a)) plan.channels p.tokens lt s.ready;
       closed = still_after p.stages a Idle plan.channels p.opens lt idle_not_begun idle_not_fetched s.closed;
@@ -149,7 +153,8 @@ reached_accepted plan s m r none = record {
 }
 
 -- by the refusal
-by_refusal : (plan : Plan) (s : State) (m : Move) (o : Option Refusal) → o ≡ refusal plan (present s) m → IsReached plan s → IsReached plan (state_by o (accepted plan s m) s)
+by_refusal : (plan : Plan) (s : State) (m : Move) (o : Option Refusal) → o ≡ refusal plan (present s) m → IsReached plan s
+    → IsReached plan (state_by o (accepted plan s m) s)
 by_refusal plan s m None e r = reached_accepted plan s m r (sym e)
 by_refusal plan s m (Some why) e r = r
 
@@ -160,7 +165,8 @@ pub reached_all : (plan : Plan) (s : State) (ms : List Move) → IsReached plan 
 reached_all plan s [] r = r
 reached_all plan s (m ∷ ms) r = reached_all plan (after plan s m) ms (reached_after plan s m r)
 
-within : (counts : List ℕ) (stages : List Stage) (cs : List Channel) (ts : List (List ℤ)) → AllByRecursion (λ (row : Row). IsReady counts stages row.0 row.1) (zip cs ts) → AllByRecursion (λ (row : Row). length row.1 ≤ row.0.capacity) (zip cs ts)
+within : (counts : List ℕ) (stages : List Stage) (cs : List Channel) (ts : List (List ℤ))
+    → AllByRecursion (λ (row : Row). IsReady counts stages row.0 row.1) (zip cs ts) → AllByRecursion (λ (row : Row). length row.1 ≤ row.0.capacity) (zip cs ts)
 within counts stages [] ts r = tt
 within counts stages (c ∷ cs) [] r = tt
 within counts stages (c ∷ cs) (t ∷ ts) r = (r.0.fits, within counts stages cs ts r.1)

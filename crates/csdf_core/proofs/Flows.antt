@@ -23,7 +23,8 @@ pub waiting-drained : (a k : ℕ) (cs : List Channel) (sts : List Stream) → ma
 waiting-drained a k [] sts = refl
 waiting-drained a k (c ∷ cs) [] = refl
 waiting-drained a k (c ∷ cs) (s ∷ sts) =
-    let here : drop (s.taken + takes_of a k c) s.written ≡ drop (takes_of a k c) (drop s.taken s.written) = sym (drop-drop (takes_of a k c) s.taken s.written) in
+    let here : drop (s.taken + takes_of a k c) s.written ≡ drop (takes_of a k c) (drop s.taken s.written) =
+    sym (drop-drop (takes_of a k c) s.taken s.written) in
     let rest = waiting-drained a k cs sts in cc
 
 pub lawful-drained : (a k : ℕ) (cs : List Channel) (sts : List Stream) → AreThere a k cs (map waiting sts) → AreLawful sts → AreLawful (drained a k cs sts)

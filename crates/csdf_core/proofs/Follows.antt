@@ -1,6 +1,6 @@
 -- A core's call follows the step.
 use Rattle.std.proofs.Common.{◌≡◌, ℕ, ◌≤◌, max, List, [], ◌∷◌, length, map, refl, ap, subst, ◌∙◌, sym, arith, Option, Some, None}
-use Rattle.std.specs.Prelude.{ℤ, Ok, Err}
+use Rattle.std.specs.Prelude.{ℤ, Ok, Err, IfSome}
 use Rattle.csdf_pool.specs.Pool.{held_tokens}
 use Rattle.csdf_core.specs.Moves.{Move}
 use Rattle.csdf_core.specs.declared.refusal.Refusal.{Refusal}
@@ -8,7 +8,8 @@ use Rattle.csdf_core.specs.State.{present}
 use Rattle.csdf_core.specs.Step.{refusal, answer, accepted, reply_by, state_by}
 use Rattle.csdf_core.specs.Shows.{View, Shows, Follows, raised, ArePeaks, AreSharedOut}
 use Rattle.csdf_core.specs.Ready.{IsFit}
-use Rattle.csdf_core.proofs.Next.{next, present_accepted, lawful_accepted}
+use Rattle.csdf_core.specs.Next.{next}
+use Rattle.csdf_core.proofs.Next.{present_accepted, lawful_accepted}
 
 -- peaks that are no less than the lengths stay
 pub raised_same : (peaks : List ℕ) (tokens : List (List ℤ)) → length peaks ≡ length tokens → ArePeaks peaks tokens → raised peaks tokens ≡ peaks
@@ -29,7 +30,8 @@ length-raised [] (t ∷ tokens) e = absurd (omega arith)
 length-raised (p ∷ peaks) [] e = absurd (omega arith)
 length-raised (p ∷ peaks) (t ∷ tokens) e = let rest = length-raised peaks tokens (omega arith) in omega (arith, rest)
 
-pub follows_refused : (v : View) (m : Move) (e : Refusal) → refusal v.plan v.now m ≡ Some e → raised v.peaks v.now.tokens ≡ v.peaks → AreSharedOut v.plan v.pool → Follows v v m (Err e)
+pub follows_refused : (v : View) (m : Move) (e : Refusal) → refusal v.plan v.now m ≡ Some e → raised v.peaks v.now.tokens ≡ v.peaks
+    → AreSharedOut v.plan v.pool → Follows v v m (Err e)
 follows_refused v m e why peaks cells = record {
   plan = refl;
   reply_is = λ s shown.
@@ -42,8 +44,15 @@ follows_refused v m e why peaks cells = record {
   cells = cells;
 }
 
+-- the same of what a test answers
+pub follows_told : (v : View) (m : Move) (o : Option Refusal) → o ≡ refusal v.plan v.now m → raised v.peaks v.now.tokens ≡ v.peaks → AreSharedOut v.plan v.pool
+    → IfSome o (λ why. Follows v v m (Err why))
+follows_told v m None is peaks cells = tt
+follows_told v m (Some why) is peaks cells = follows_refused v m why (sym is) peaks cells
+
 pub follows_accepted : (old new : View) (m : Move) (ts : List ℤ) → new.plan ≡ old.plan → refusal old.plan old.now m ≡ None → ts ≡ answer old.plan old.now m
-    → new.now ≡ next old.plan old.now m → IsFit old.plan old.now → map held_tokens new.pool.chains ≡ new.now.tokens → AreSharedOut new.plan new.pool → new.peaks ≡ raised old.peaks new.now.tokens → Follows old new m (Ok ts)
+    → new.now ≡ next old.plan old.now m → IsFit old.plan old.now → map held_tokens new.pool.chains ≡ new.now.tokens → AreSharedOut new.plan new.pool
+    → new.peaks ≡ raised old.peaks new.now.tokens → Follows old new m (Ok ts)
 follows_accepted old new m ts same why handed now fit chains cells peaks = record {
   plan = same;
   reply_is = λ s shown.

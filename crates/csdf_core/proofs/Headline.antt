@@ -39,7 +39,8 @@ within_capacity (suc c) (d ∷ cs) (st ∷ sts) e within lawful = within_capacit
 
 -- after all moves from the opening state
 all_within : (plan : Plan) (c : ℕ) (ms : List Move) → IsPlayable plan
-    → length (initial plan c) + length (written_to plan c ms (replies_of plan (opening plan) ms)) ≤ capacity_of plan c + length (tokens_taken plan c ms (replies_of plan (opening plan) ms))
+    → length (initial plan c) + length (written_to plan c ms (replies_of plan (opening plan) ms)) ≤ capacity_of plan c + length
+    (tokens_taken plan c ms (replies_of plan (opening plan) ms))
 all_within plan c ms h =
     let s : State = state_after plan (opening plan) ms in
     let reached = reached_all plan (opening plan) ms (reached_opening plan h) in
@@ -73,7 +74,8 @@ module _ (old new : View) (ms : List Move) (rs : List Reply) (shown : Shows old 
   pub closed_kept : KeepsClosed new.plan ms rs
   closed_kept = subst (λ (l : List Reply). KeepsClosed new.plan ms l) (sym replies_are) (keeps_closed new.plan ms h)
 
-  pub peaks_hold : old.peaks ≡ map length (map (λ (d : Channel). d.initial) old.plan.channels) → (c : ℕ) → get_or new.peaks c 0 ≡ peak_of new.plan (opening new.plan) c ms
+  pub peaks_hold : old.peaks ≡ map length (map (λ (d : Channel). d.initial) old.plan.channels) → (c : ℕ)
+      → get_or new.peaks c 0 ≡ peak_of new.plan (opening new.plan) c ms
   peaks_hold first c =
       let over : new.peaks ≡ raised_over old.plan (opening old.plan) (map length (map (λ (d : Channel). d.initial) old.plan.channels)) ms =
       p.peaks (opening old.plan) shown ∙ ap (λ (l : List ℕ). raised_over old.plan (opening old.plan) l ms) first in

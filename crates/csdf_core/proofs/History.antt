@@ -1,5 +1,6 @@
 -- What went into each stream and out of it is what the moves and replies say.
-use Rattle.std.proofs.Common.{◌≡◌, ℕ, ◌+◌, zero, suc, List, [], ◌∷◌, ◌++◌, length, take, drop, map, refl, ap, ◌∙◌, sym, arith, append_assoc, append-nil, Option, Some, None}
+use Rattle.std.proofs.Common.{◌≡◌, ℕ, ◌+◌, zero, suc, List, [], ◌∷◌, ◌++◌, length, take, drop, map, refl, ap, ◌∙◌, sym, arith, append_assoc, append-nil, Option}
+use Rattle.std.proofs.Common.{Some, None}
 use Rattle.std.specs.Prelude.{ℤ, Ok, Err}
 use Rattle.std.proofs.Math.Seq.{take-add}
 use Rattle.std.proofs.lemmas.List.{take_at, drop_at, take-append-le, take-append-drop, length-take-le, length-map}
@@ -47,10 +48,12 @@ gone-drained a k (c ∷ cs) (s ∷ sts) e there =
     let here : List ℤ = take n (waiting s) in
     let others : List ℤ = taken a k cs (map waiting sts) in
     let len : length here ≡ n = length-take-le n (waiting s) there.0 in
-    let whole : take (s.taken + n) s.written ≡ take s.taken s.written ++ take n (here ++ others) = take-add s.taken n s.written ∙ ap (λ (x : List ℤ). take s.taken s.written ++ x) (sym (take_at here others n len)) in
+    let whole : take (s.taken + n) s.written ≡ take s.taken s.written ++ take n (here ++ others) = take-add s.taken n s.written
+    ∙ ap (λ (x : List ℤ). take s.taken s.written ++ x) (sym (take_at here others n len)) in
     let rest : drop n (here ++ others) ≡ others = drop_at here others n len in
     ap (λ (x : List ℤ). x ∷ map gone (drained a k cs sts)) whole
-    ∙ ap (λ (xs : List (List ℤ)). (take s.taken s.written ++ take n (here ++ others)) ∷ xs) (gone-drained a k cs sts (omega arith) there.1 ∙ ap (λ (x : List ℤ). joined (map gone sts) (cut (takes_of a k) cs x)) (sym rest))
+    ∙ ap (λ (xs : List (List ℤ)). (take s.taken s.written ++ take n (here ++ others)) ∷ xs)
+    (gone-drained a k cs sts (omega arith) there.1 ∙ ap (λ (x : List ℤ). joined (map gone sts) (cut (takes_of a k) cs x)) (sym rest))
 
 written-drained : (a k : ℕ) (cs : List Channel) (sts : List Stream) → length sts ≡ length cs → map in_written (drained a k cs sts) ≡ map in_written sts
 written-drained a k [] [] e = refl
@@ -95,7 +98,8 @@ grows_refused plan s c (Write a v) why = record { counts = refl; written = nothi
 grows_refused plan s c (Finish a) why = record { counts = refl; written = nothing_more _; gone = nothing_more _ }
 grows_refused plan s c (Close d) why = record { counts = refl; written = nothing_more _; gone = nothing_more _ }
 
-grows_accepted : (plan : Plan) (s : State) (c : ℕ) (m : Move) → IsReached plan s → refusal plan (present s) m ≡ None → Grows plan s (accepted plan s m) c m (Ok (answer plan (present s) m))
+grows_accepted : (plan : Plan) (s : State) (c : ℕ) (m : Move) → IsReached plan s → refusal plan (present s) m ≡ None
+    → Grows plan s (accepted plan s m) c m (Ok (answer plan (present s) m))
 grows_accepted plan s c (Begin a) r none = record { counts = refl; written = nothing_more _; gone = nothing_more _ }
 grows_accepted plan s c (Finish a) r none = record { counts = refl; written = nothing_more _; gone = nothing_more _ }
 grows_accepted plan s c (Close d) r none = record { counts = refl; written = nothing_more _; gone = nothing_more _ }
@@ -108,7 +112,9 @@ grows_accepted plan s c (Read a) r none =
     record {
       counts = refl;
       written = ap (part c) (written-drained a k plan.channels s.streams len) ∙ nothing_more _;
-      gone = ap (part c) (gone-drained a k plan.channels s.streams len there) ∙ part-joined c (map gone s.streams) (cut (takes_of a k) plan.channels tokens) (length-map s.streams gone ∙ len ∙ sym (length-cut (takes_of a k) plan.channels tokens));
+      gone = ap (part c) (gone-drained a k plan.channels s.streams len there)
+          ∙ part-joined c (map gone s.streams) (cut (takes_of a k) plan.channels tokens)
+          (length-map s.streams gone ∙ len ∙ sym (length-cut (takes_of a k) plan.channels tokens));
     }
 grows_accepted plan s c (Write a v) r none =
     let k : ℕ = count (present s) a in
@@ -121,7 +127,8 @@ grows_accepted plan s c (Write a v) r none =
       gone = ap (part c) (gone-filled s.streams parts len' r.lawful) ∙ nothing_more _;
     }
 
-grows_by : (plan : Plan) (s : State) (c : ℕ) (m : Move) (o : Option Refusal) → o ≡ refusal plan (present s) m → IsReached plan s → Grows plan s (state_by o (accepted plan s m) s) c m (reply_by o (answer plan (present s) m))
+grows_by : (plan : Plan) (s : State) (c : ℕ) (m : Move) (o : Option Refusal) → o ≡ refusal plan (present s) m → IsReached plan s
+    → Grows plan s (state_by o (accepted plan s m) s) c m (reply_by o (answer plan (present s) m))
 grows_by plan s c m None e r = grows_accepted plan s c m r (sym e)
 grows_by plan s c m (Some why) e r = grows_refused plan s c m why
 
@@ -141,8 +148,10 @@ grown plan s c (m ∷ ms) r =
     let next : State = after plan s m in
     let more = grown plan next c ms (reached_after plan s m r) in
     record {
-      written = more.written ∙ ap (λ (x : List ℤ). x ++ written_from plan next.counts c ms (replies_of plan next ms)) g.written ∙ append_assoc (written_at c s) _ _
-          ∙ ap (λ (ks : List ℕ). written_at c s ++ (written_by plan s.counts c m (reply_to plan s m) ++ written_from plan ks c ms (replies_of plan next ms))) g.counts;
+      written = more.written ∙ ap (λ (x : List ℤ). x ++ written_from plan next.counts c ms (replies_of plan next ms)) g.written
+          ∙ append_assoc (written_at c s) _ _
+          ∙ ap (λ (ks : List ℕ). written_at c s ++ (written_by plan s.counts c m (reply_to plan s m) ++ written_from plan ks c ms (replies_of plan next ms)))
+          g.counts;
       gone = more.gone ∙ ap (λ (x : List ℤ). x ++ taken_from plan next.counts c ms (replies_of plan next ms)) g.gone ∙ append_assoc (gone_at c s) _ _
           ∙ ap (λ (ks : List ℕ). gone_at c s ++ (taken_by plan s.counts c m (reply_to plan s m) ++ taken_from plan ks c ms (replies_of plan next ms))) g.counts;
     }
@@ -177,7 +186,8 @@ streams_told plan c ms h =
     }
 
 -- the tokens taken from a channel are a prefix of its initial tokens followed by those written to it
-pub taken_prefix : (plan : Plan) (c : ℕ) (ms : List Move) → IsPlayable plan → IsPrefix (tokens_taken plan c ms (replies_of plan (opening plan) ms)) (initial plan c ++ written_to plan c ms (replies_of plan (opening plan) ms))
+pub taken_prefix : (plan : Plan) (c : ℕ) (ms : List Move) → IsPlayable plan
+    → IsPrefix (tokens_taken plan c ms (replies_of plan (opening plan) ms)) (initial plan c ++ written_to plan c ms (replies_of plan (opening plan) ms))
 taken_prefix plan c ms h =
     let told = streams_told plan c ms h in
     let p = gone_prefix c (state_after plan (opening plan) ms).streams in

@@ -1,5 +1,6 @@
 -- What every core keeps is kept by each accepted move.
-use Rattle.std.proofs.Common.{◌≡◌, ◌≢◌, ℕ, ◌+◌, ◌<◌, List, [], ◌∷◌, ◌⊎◌, inl, inr, length, get_or, set, refl, subst, ◌∙◌, sym, arith, Bool, true, false, Option, Some, None, cond}
+use Rattle.std.proofs.Common.{◌≡◌, ◌≢◌, ℕ, ◌+◌, ◌<◌, List, [], ◌∷◌, ◌⊎◌, inl, inr, length, get_or, set, refl, subst, ◌∙◌, sym, arith, Bool, true, false, Option}
+use Rattle.std.proofs.Common.{Some, None, cond}
 use Rattle.std.specs.Prelude.{ℤ, not, ◌||◌, slice_index, option_map}
 use Rattle.std.specs.List.{zip, AllByRecursion, position_from}
 use Rattle.std.proofs.lemmas.List.{get_or-set_other, get_or-set_same}
@@ -10,11 +11,13 @@ use Rattle.csdf_core.specs.declared.stage.Stage.{Stage}
 use Rattle.csdf_core.specs.declared.stage.Stage.TheVariants.{Idle, Begun, Fetched, Written}
 use Rattle.csdf_core.specs.Moves.{Begin, Read, Finish, Close}
 use Rattle.csdf_core.specs.declared.refusal.Refusal.{Refusal}
-use Rattle.csdf_core.specs.declared.refusal.Refusal.TheVariants.{Unknown, Busy, Spent, Closed, Dry, Short, Full, Stopped, NoCells, NotBegun, NotRead, NotWritten, WrongCount}
+use Rattle.csdf_core.specs.declared.refusal.Refusal.TheVariants.{Unknown, Busy, Spent, Closed, Dry, Short, Full, Stopped, NoCells, NotBegun, NotRead}
+use Rattle.csdf_core.specs.declared.refusal.Refusal.TheVariants.{NotWritten, WrongCount}
 use Rattle.csdf_core.specs.Plan.{Channel}
 use Rattle.csdf_core.specs.Rows.{Row, first, is_closed, is_short, is_full, gift}
 use Rattle.csdf_core.specs.State.{Present}
-use Rattle.csdf_core.specs.Step.{count, stage, is_stage, is_open, producer, is_spent, is_dry, is_stopped, lacks_cells, refusal, first_of, when, begin_table, read_table, write_table, finish_table, close_table}
+use Rattle.csdf_core.specs.Step.{count, stage, is_stage, is_open, producer, is_spent, is_dry, is_stopped, lacks_cells, refusal, first_of, when, begin_table}
+use Rattle.csdf_core.specs.Step.{read_table, write_table, finish_table, close_table}
 use Rattle.csdf_core.proofs.Totals.{gift-given}
 
 -- a table that refuses nothing
@@ -106,7 +109,8 @@ reads plan p a e =
     let rows = all_none (read_table plan p a) e in
     record { there = ltb-true _ _ (not_false _ (when_none _ Unknown rows.0)); at = is_stage_true _ _ (not_false _ (when_none _ NotBegun rows.1.0)) }
 
-pub writes : (plan : Plan) (p : Present) (a : ℕ) (v : List ℤ) → first_of (write_table plan p a v) ≡ None → AtWork plan p a Fetched × (length v ≡ gift a (count p a) plan.channels)
+pub writes : (plan : Plan) (p : Present) (a : ℕ) (v : List ℤ) → first_of (write_table plan p a v) ≡ None → AtWork plan p a Fetched
+    × (length v ≡ gift a (count p a) plan.channels)
 writes plan p a v e =
     let rows = all_none (write_table plan p a v) e in (
       record { there = ltb-true _ _ (not_false _ (when_none _ Unknown rows.0)); at = is_stage_true _ _ (not_false _ (when_none _ NotRead rows.1.0)) },
@@ -144,7 +148,8 @@ closes plan p c e =
     }
 
 -- the stage of b after that of a became x
-pub stage_set : (ss : List Stage) (a b : ℕ) (x y : Stage) → a < length ss → get_or (set ss a x) b Idle ≡ y → ((b ≡ a) × (x ≡ y)) ⊎ ((b ≢ a) × (get_or ss b Idle ≡ y))
+pub stage_set : (ss : List Stage) (a b : ℕ) (x y : Stage) → a < length ss → get_or (set ss a x) b Idle ≡ y
+    → ((b ≡ a) × (x ≡ y)) ⊎ ((b ≢ a) × (get_or ss b Idle ≡ y))
 stage_set ss a b x y lt e = elim (eqb_tells b a) [
   | inl h ↦ inl (h.1, let j : get_or (set ss a x) b Idle ≡ x = rw h.1 (get_or-set_same ss a x Idle lt) in cc)
   | inr h ↦ inr (h.1, sym (get_or-set_other ss a b x Idle h.1) ∙ e)

@@ -1,8 +1,7 @@
 -- The graph's lists beside the plan's.
-use Rattle.std.proofs.Common.{◌≡◌, ℕ, zero, suc, ◌+◌, ◌<◌, ◌≤◌, List, [], ◌∷◌, length, get_or, map, refl, ap, subst, ◌∙◌, sym, arith, Bool, cond}
-use Rattle.std.specs.List.{zip, range_with_len}
+use Rattle.std.proofs.Common.{◌≡◌, ℕ, zero, suc, ◌<◌, ◌≤◌, List, [], ◌∷◌, length, get_or, map, refl, ap, subst, ◌∙◌, sym, arith, Bool, cond}
+use Rattle.std.specs.List.{zip}
 use Rattle.std.proofs.lemmas.List.{length-map}
-use Rattle.std.proofs.lemmas.List.FromFn.{length-map-range_with_len}
 use Rattle.std.proofs.Common.{◌%◌}
 use Rattle.std.specs.Prelude.{All}
 use Rattle.std.specs.List.{AllByRecursion}
@@ -20,19 +19,23 @@ length-capacities (g ∷ gs) [] e = absurd (omega arith)
 length-capacities (g ∷ gs) (b ∷ caps) e = ap suc (length-capacities gs caps (omega arith))
 
 -- a part of each channel that its capacity doesn't change
-pub map-capacities : {K : Type 0} (f : Channel → K) (h : graph.Channel → K) → ((g : graph.Channel) (b : ℕ) → f (with_capacity (g, b)) ≡ h g) → (gs : List graph.Channel) (caps : List ℕ) → length caps ≡ length gs → map f (map with_capacity (zip gs caps)) ≡ map h gs
+pub map-capacities : {K : Type 0} (f : Channel → K) (h : graph.Channel → K) → ((g : graph.Channel) (b : ℕ) → f (with_capacity (g, b)) ≡ h g)
+    → (gs : List graph.Channel) (caps : List ℕ) → length caps ≡ length gs → map f (map with_capacity (zip gs caps)) ≡ map h gs
 map-capacities f h same [] [] e = refl
 map-capacities f h same [] (b ∷ caps) e = absurd (omega arith)
 map-capacities f h same (g ∷ gs) [] e = absurd (omega arith)
 map-capacities f h same (g ∷ gs) (b ∷ caps) e = let here = same g b in let rest = map-capacities f h same gs caps (omega arith) in cc
 
-pub capacities-map : (gs : List graph.Channel) (caps : List ℕ) → length caps ≡ length gs → map (λ (c : Channel). c.capacity) (map with_capacity (zip gs caps)) ≡ caps
+pub capacities-map : (gs : List graph.Channel) (caps : List ℕ) → length caps ≡ length gs
+    → map (λ (c : Channel). c.capacity) (map with_capacity (zip gs caps)) ≡ caps
 capacities-map [] [] e = refl
 capacities-map [] (b ∷ caps) e = absurd (omega arith)
 capacities-map (g ∷ gs) [] e = absurd (omega arith)
 capacities-map (g ∷ gs) (b ∷ caps) e = ap (λ t. b ∷ t) (capacities-map gs caps (omega arith))
 
-pub numbers-capacities : (own : Channel → Bool) (mine : graph.Channel → Bool) → ((g : graph.Channel) (b : ℕ) → own (with_capacity (g, b)) ≡ mine g) → (i : ℕ) (gs : List graph.Channel) (caps : List ℕ) → length caps ≡ length gs → numbers_from i own (map with_capacity (zip gs caps)) ≡ numbers_from i mine gs
+pub numbers-capacities : (own : Channel → Bool) (mine : graph.Channel → Bool) → ((g : graph.Channel) (b : ℕ) → own (with_capacity (g, b)) ≡ mine g)
+    → (i : ℕ) (gs : List graph.Channel) (caps : List ℕ) → length caps ≡ length gs
+    → numbers_from i own (map with_capacity (zip gs caps)) ≡ numbers_from i mine gs
 numbers-capacities own mine same i [] [] e = refl
 numbers-capacities own mine same i [] (b ∷ caps) e = absurd (omega arith)
 numbers-capacities own mine same i (g ∷ gs) [] e = absurd (omega arith)
@@ -42,7 +45,8 @@ numbers-capacities own mine same i (g ∷ gs) (b ∷ caps) e =
     ∙ ap (λ ns. cond (mine g) (i ∷ ns) ns) rest
 
 -- an entry of a list that another is seen as
-pub seen_at : {X G K : Type 0} (view : X → G) (h : G → K) (items : List X) (gs : List G) → map view items ≡ gs → (i : ℕ) (x : X) (d : K) → i < length items → x ≡ get_or items i x → h (view x) ≡ get_or (map h gs) i d
+pub seen_at : {X G K : Type 0} (view : X → G) (h : G → K) (items : List X) (gs : List G) → map view items ≡ gs → (i : ℕ) (x : X) (d : K) → i < length items
+    → x ≡ get_or items i x → h (view x) ≡ get_or (map h gs) i d
 seen_at {X = X} view h items gs same i x d lt is = by items i lt is ∙ ap (λ l. get_or (map h l) i d) same
   where
     by : (xs : List X) (j : ℕ) → j < length xs → x ≡ get_or xs j x → h (view x) ≡ get_or (map h (map view xs)) j d
@@ -50,22 +54,19 @@ seen_at {X = X} view h items gs same i x d lt is = by items i lt is ∙ ap (λ l
     by (y ∷ xs) zero lt e = ap (λ z. h (view z)) e
     by (y ∷ xs) (suc j) lt e = by xs j (omega arith) e
 
--- entry a of a list made from the numbers 0, 1, ..
-pub range_at : (f : ℕ → List ℕ) (k n a : ℕ) → a < n → get_or (map f (range_with_len k n)) a [] ≡ f (k + a)
-range_at f k zero a lt = absurd (omega arith)
-range_at f k (suc n) zero lt = ap f (let e : k ≡ k + 0 = omega arith in e)
-range_at f k (suc n) (suc a) lt = range_at f (k + 1) n a (omega arith) ∙ ap f (let e : (k + 1) + a ≡ k + suc a = omega arith in e)
-
 -- a number of the plan's channels is one of the graph's
-pub in_graph : {X : Type 0} (view : X → graph.Channel) (items : List X) (gs : List graph.Channel) (caps : List ℕ) (i : ℕ) → map view items ≡ gs → length caps ≡ length gs → i < length (map with_capacity (zip gs caps)) → i < length items
+pub in_graph : {X : Type 0} (view : X → graph.Channel) (items : List X) (gs : List graph.Channel) (caps : List ℕ) (i : ℕ) → map view items ≡ gs
+    → length caps ≡ length gs → i < length (map with_capacity (zip gs caps)) → i < length items
 in_graph view items gs caps i same e lt =
     let a : length items ≡ length gs = sym (length-map items view) ∙ ap length same in
     let b : length (map with_capacity (zip gs caps)) ≡ length gs = length-capacities gs caps e in
     omega arith
 
 -- what the plan says of a channel, by the graph's
-pub channel_value : {X : Type 0} (view : X → graph.Channel) (f : Channel → ℕ) (h : graph.Channel → ℕ) → ((g : graph.Channel) (b : ℕ) → f (with_capacity (g, b)) ≡ h g)
-    → (items : List X) (gs : List graph.Channel) (caps : List ℕ) (i : ℕ) (x : X) → map view items ≡ gs → length caps ≡ length gs → i < length (map with_capacity (zip gs caps)) → x ≡ get_or items i x → h (view x) ≡ get_or (map f (map with_capacity (zip gs caps))) i 0
+pub channel_value : {X : Type 0} (view : X → graph.Channel) (f : Channel → ℕ) (h : graph.Channel → ℕ)
+    → ((g : graph.Channel) (b : ℕ) → f (with_capacity (g, b)) ≡ h g)
+    → (items : List X) (gs : List graph.Channel) (caps : List ℕ) (i : ℕ) (x : X) → map view items ≡ gs → length caps ≡ length gs
+    → i < length (map with_capacity (zip gs caps)) → x ≡ get_or items i x → h (view x) ≡ get_or (map f (map with_capacity (zip gs caps))) i 0
 channel_value view f h same items gs caps i x seen e lt is =
     seen_at view h items gs seen i x 0 (in_graph view items gs caps i seen e lt) is ∙ ap (λ l. get_or l i 0) (sym (map-capacities f h same gs caps e))
 
@@ -78,7 +79,8 @@ pub rate_small : (rates : List ℕ) (k : ℕ) → All (λ n. n ≤ 64) rates →
 rate_small rates k h = small_at rates (k % length rates) (recursion_from_All (λ n. n ≤ 64) rates h)
 
 -- a channel of a graph as the code holds it
-pub known_at : {X : Type 0} (view : X → graph.Channel) (P : graph.Channel → Type 0) (items : List X) (gs : List graph.Channel) (i : ℕ) (x : X) → map view items ≡ gs → All P gs → i < length items → x ≡ get_or items i x → P (view x)
+pub known_at : {X : Type 0} (view : X → graph.Channel) (P : graph.Channel → Type 0) (items : List X) (gs : List graph.Channel) (i : ℕ) (x : X)
+    → map view items ≡ gs → All P gs → i < length items → x ≡ get_or items i x → P (view x)
 known_at view P items gs i x same all lt is =
     let len : length items ≡ length gs = sym (length-map items view) ∙ ap length same in
     let here : view x ≡ get_or gs i (view x) = seen_at view (λ g. g) items gs same i x (view x) lt is ∙ ap (λ l. get_or l i (view x)) (map_same gs) in
@@ -87,22 +89,3 @@ known_at view P items gs i x same all lt is =
     map_same : (l : List graph.Channel) → map (λ g. g) l ≡ l
     map_same [] = refl
     map_same (g ∷ l) = ap (λ t. g ∷ t) (map_same l)
-
--- a part of an entry, where the list of these parts is known
-pub part_at : {X K : Type 0} (f : X → K) (items : List X) (ks : List K) → map f items ≡ ks → (i : ℕ) (x : X) (d : K) → i < length items → x ≡ get_or items i x → f x ≡ get_or ks i d
-part_at {X = X} f items ks same i x d lt is = by items i lt is ∙ ap (λ l. get_or l i d) same
-  where
-    by : (xs : List X) (j : ℕ) → j < length xs → x ≡ get_or xs j x → f x ≡ get_or (map f xs) j d
-    by [] j lt e = absurd (omega arith)
-    by (y ∷ xs) zero lt e = ap f e
-    by (y ∷ xs) (suc j) lt e = by xs j (omega arith) e
-
--- as many entries as numbers
-pub count_by_range : {X : Type 0} (f : X → List ℕ) (h : ℕ → List ℕ) (items : List X) (n : ℕ) → map f items ≡ map h (range_with_len 0 n) → length items ≡ n
-count_by_range f h items n same = sym (length-map items f) ∙ ap length same ∙ length-map-range_with_len h 0 n
-
--- an actor's own channels, by the ports that were gathered
-pub ports_at : {X : Type 0} (f : X → List ℕ) (h : ℕ → List ℕ) (items : List X) (n a : ℕ) (x : X) → map f items ≡ map h (range_with_len 0 n) → a < n → x ≡ get_or items a x → f x ≡ h a
-ports_at f h items n a x same lt is =
-    part_at f items (map h (range_with_len 0 n)) same a x [] (subst (λ k. a < k) (sym (count_by_range f h items n same)) lt) is
-    ∙ range_at h 0 n a lt ∙ ap h (let e : 0 + a ≡ a = omega arith in e)

@@ -1,40 +1,17 @@
 -- What is present after each accepted move.
-use Rattle.std.proofs.Common.{◌≡◌, ℕ, suc, List, set, map, refl, None, false}
-use Rattle.std.specs.Prelude.{ℤ}
-use Rattle.csdf_core.specs.declared.stage.Stage.TheVariants.{Idle, Begun, Fetched, Written}
+use Rattle.std.proofs.Common.{◌≡◌, map, refl, None}
 use Rattle.csdf_core.specs.Moves.{Move}
 use Rattle.csdf_core.specs.Moves.{Begin, Read, Write, Finish, Close}
+use Rattle.csdf_core.specs.Next.{next}
 use Rattle.csdf_core.specs.Plan.{Plan}
-use Rattle.csdf_core.specs.Rows.{left, joined, shares}
-use Rattle.csdf_core.specs.State.{State, Present, present, waiting, IsLawful}
+use Rattle.csdf_core.specs.Rows.{shares}
+use Rattle.csdf_core.specs.State.{State, present, waiting, IsLawful}
 use Rattle.csdf_core.specs.Step.{count, refusal, accepted}
 use Rattle.csdf_core.specs.Ready.{IsFit}
 use Rattle.csdf_core.proofs.Presents.{present_same}
 use Rattle.csdf_core.proofs.Flows.{waiting-drained, lawful-drained, waiting-filled, lawful-filled}
 use Rattle.csdf_core.proofs.Kept.{reads}
 use Rattle.csdf_core.proofs.Ready.{are_there}
-
-abbrev pub begun : Present → ℕ → Present
-begun p a = record { counts = p.counts; stages = set p.stages a Begun; opens = p.opens; tokens = p.tokens }
-
-abbrev pub fetched : Plan → Present → ℕ → Present
-fetched plan p a = record { counts = p.counts; stages = set p.stages a Fetched; opens = p.opens; tokens = left a (count p a) plan.channels p.tokens }
-
-abbrev pub written : Plan → Present → ℕ → List ℤ → Present
-written plan p a v = record { counts = p.counts; stages = set p.stages a Written; opens = p.opens; tokens = joined p.tokens (shares a (count p a) plan.channels v) }
-
-abbrev pub finished : Present → ℕ → Present
-finished p a = record { counts = set p.counts a (suc (count p a)); stages = set p.stages a Idle; opens = p.opens; tokens = p.tokens }
-
-abbrev pub closed : Present → ℕ → Present
-closed p c = record { counts = p.counts; stages = p.stages; opens = set p.opens c false; tokens = p.tokens }
-
-abbrev pub next : Plan → Present → Move → Present
-next plan p (Begin a) = begun p a
-next plan p (Read a) = fetched plan p a
-next plan p (Write a v) = written plan p a v
-next plan p (Finish a) = finished p a
-next plan p (Close c) = closed p c
 
 pub present_accepted : (plan : Plan) (s : State) (m : Move) → IsLawful s → present (accepted plan s m) ≡ next plan (present s) m
 present_accepted plan s (Begin a) l = refl
@@ -43,7 +20,8 @@ present_accepted plan s (Write a v) l = present_same _ _ refl refl refl (waiting
 present_accepted plan s (Finish a) l = refl
 present_accepted plan s (Close c) l = refl
 
-pub lawful_accepted : (plan : Plan) (s : State) (m : Move) → IsFit plan (present s) → refusal plan (present s) m ≡ None → IsLawful s → IsLawful (accepted plan s m)
+pub lawful_accepted : (plan : Plan) (s : State) (m : Move) → IsFit plan (present s) → refusal plan (present s) m ≡ None → IsLawful s
+    → IsLawful (accepted plan s m)
 lawful_accepted plan s (Begin a) fit none l = l
 lawful_accepted plan s (Read a) fit none l =
     let w = reads plan (present s) a none in

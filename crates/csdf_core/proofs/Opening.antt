@@ -19,16 +19,19 @@ alike zero a x = refl
 alike (suc n) zero x = refl
 alike (suc n) (suc a) x = alike n a x
 
-pub waiting-opening : (cs : List Channel) → map waiting (map (λ (c : Channel). record { written = c.initial; taken = 0 }) cs) ≡ map (λ (c : Channel). c.initial) cs
+pub waiting-opening : (cs : List Channel)
+    → map waiting (map (λ (c : Channel). record { written = c.initial; taken = 0 }) cs) ≡ map (λ (c : Channel). c.initial) cs
 waiting-opening [] = refl
 waiting-opening (c ∷ cs) = ap (λ r. c.initial ∷ r) (waiting-opening cs)
 
-lawful-opening : (cs : List Channel) → AllByRecursion (λ (stream : Stream). stream.taken ≤ length stream.written) (map (λ (c : Channel). record { written = c.initial; taken = 0 }) cs)
+lawful-opening : (cs : List Channel)
+    → AllByRecursion (λ (stream : Stream). stream.taken ≤ length stream.written) (map (λ (c : Channel). record { written = c.initial; taken = 0 }) cs)
 lawful-opening [] = tt
 lawful-opening (c ∷ cs) = (omega arith, lawful-opening cs)
 
 -- with every actor idle, a channel within its capacity is ready
-all-ready : (p : Present) → ((a : ℕ) → stage p a ≡ Idle) → (cs : List Channel) → AllByRecursion (λ (c : Channel). length c.initial ≤ c.capacity) cs → AllByRecursion (λ (row : Row). IsReady p.counts p.stages row.0 row.1) (zip cs (map (λ (c : Channel). c.initial) cs))
+all-ready : (p : Present) → ((a : ℕ) → stage p a ≡ Idle) → (cs : List Channel) → AllByRecursion (λ (c : Channel). length c.initial ≤ c.capacity) cs
+    → AllByRecursion (λ (row : Row). IsReady p.counts p.stages row.0 row.1) (zip cs (map (λ (c : Channel). c.initial) cs))
 all-ready p idle [] fits = tt
 all-ready p idle (c ∷ cs) fits = (
   record {
@@ -40,7 +43,9 @@ all-ready p idle (c ∷ cs) fits = (
   all-ready p idle cs fits.1,
 )
 
-all-still : (p : Present) → ((a : ℕ) → stage p a ≡ Idle) → (cs : List Channel) (n : ℕ) → AllByRecursion (λ (row : Channel × Bool). row.1 ≡ false → (stage p row.0.from ≡ Begun → ⊥) × (stage p row.0.from ≡ Fetched → ⊥)) (zip cs (replicate n true))
+all-still : (p : Present) → ((a : ℕ) → stage p a ≡ Idle) → (cs : List Channel) (n : ℕ)
+    → AllByRecursion (λ (row : Channel × Bool). row.1 ≡ false → (stage p row.0.from ≡ Begun → ⊥) × (stage p row.0.from ≡ Fetched → ⊥))
+    (zip cs (replicate n true))
 all-still p idle [] n = tt
 all-still p idle (c ∷ cs) zero = tt
 all-still p idle (c ∷ cs) (suc n) = ((λ shut. absurd (cc)), all-still p idle cs n)
@@ -53,7 +58,12 @@ none_reserved plan p idle k (suc n) =
 
 pub held-initial : (cs : List Channel) → sum_by length (map (λ (c : Channel). c.initial) cs) ≡ sum_by (λ (c : Channel). length c.initial) cs
 held-initial [] = refl
-held-initial (c ∷ cs) = omega (arith, sum_by-cons length c.initial (map (λ (d : Channel). d.initial) cs), sum_by-cons (λ (d : Channel). length d.initial) c cs, held-initial cs)
+held-initial (c ∷ cs) = omega (
+  arith,
+  sum_by-cons length c.initial (map (λ (d : Channel). d.initial) cs),
+  sum_by-cons (λ (d : Channel). length d.initial) c cs,
+  held-initial cs,
+)
 
 pub fit_opening : (plan : Plan) → IsPlayable plan → IsFit plan (present (opening plan))
 fit_opening plan h =
@@ -68,7 +78,8 @@ fit_opening plan h =
       opened = length-replicate (length plan.channels) true;
       queued = ap length tokens ∙ length-map plan.channels (λ (c : Channel). c.initial);
       below = λ a busy. absurd (busy (idle a));
-      ready = subst (λ (ts : List (List ℤ)). AllByRecursion (λ (row : Row). IsReady p.counts p.stages row.0 row.1) (zip plan.channels ts)) (sym tokens) (all-ready p idle plan.channels h.fits);
+      ready = subst (λ (ts : List (List ℤ)). AllByRecursion (λ (row : Row). IsReady p.counts p.stages row.0 row.1) (zip plan.channels ts)) (sym tokens)
+          (all-ready p idle plan.channels h.fits);
       closed = all-still p idle plan.channels (length plan.channels);
       room = omega (arith, empty, full, h.cells);
     }

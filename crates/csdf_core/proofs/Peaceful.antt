@@ -7,5 +7,6 @@ use Rattle.csdf_core.specs.Shows.{raised}
 use Rattle.csdf_core.specs.Sound.{IsSound}
 use Rattle.csdf_core.proofs.Follows.{raised_same}
 
-pub peaks_stay : (plan : Plan) (p : Present) (peaks sums : List ℕ) (started kept : ℕ) (pool : Shared) → IsSound plan p peaks sums started kept pool → raised peaks p.tokens ≡ peaks
+pub peaks_stay : (plan : Plan) (p : Present) (peaks sums : List ℕ) (started kept : ℕ) (pool : Shared) → IsSound plan p peaks sums started kept pool
+    → raised peaks p.tokens ≡ peaks
 peaks_stay plan p peaks sums started kept pool s = raised_same peaks p.tokens (s.peaked ∙ sym s.fit.queued) s.high

@@ -13,7 +13,8 @@ use Rattle.csdf_core.proofs.Follows.{length-raised}
 use Rattle.csdf_core.specs.Playable.{IsPlayable}
 use Rattle.csdf_core.proofs.Opening.{waiting-opening, reached_opening}
 
-raised_at : (peaks : List ℕ) (tokens : List (List ℤ)) (c : ℕ) → length peaks ≡ length tokens → get_or (raised peaks tokens) c 0 ≡ max (get_or peaks c 0) (length (part c tokens))
+pub raised_at : (peaks : List ℕ) (tokens : List (List ℤ)) (c : ℕ) → length peaks ≡ length tokens
+    → get_or (raised peaks tokens) c 0 ≡ max (get_or peaks c 0) (length (part c tokens))
 raised_at [] [] c e = refl
 raised_at [] (t ∷ tokens) c e = absurd (omega arith)
 raised_at (p ∷ peaks) [] c e = absurd (omega arith)
@@ -25,7 +26,8 @@ at_least plan s c [] = omega arith
 at_least plan s c (m ∷ ms) = omega arith
 
 -- over a list of moves each peak becomes the greater of itself and the greatest length
-pub peaks_over : (plan : Plan) (s : State) (peaks : List ℕ) (c : ℕ) (ms : List Move) → IsReached plan s → length peaks ≡ length plan.channels → length_of s c ≤ get_or peaks c 0 → get_or (raised_over plan s peaks ms) c 0 ≡ max (get_or peaks c 0) (peak_of plan s c ms)
+pub peaks_over : (plan : Plan) (s : State) (peaks : List ℕ) (c : ℕ) (ms : List Move) → IsReached plan s → length peaks ≡ length plan.channels
+    → length_of s c ≤ get_or peaks c 0 → get_or (raised_over plan s peaks ms) c 0 ≡ max (get_or peaks c 0) (peak_of plan s c ms)
 peaks_over plan s peaks c [] r len le = omega arith
 peaks_over plan s peaks c (m ∷ ms) r len le =
     let next : State = after plan s m in
@@ -33,7 +35,8 @@ peaks_over plan s peaks c (m ∷ ms) r len le =
     let queued = reached.fit.queued in
     let same : length peaks ≡ length (present next).tokens = len ∙ sym queued in
     let here : get_or (raised peaks (present next).tokens) c 0 ≡ max (get_or peaks c 0) (length_of next c) = raised_at peaks (present next).tokens c same in
-    let rest = peaks_over plan next (raised peaks (present next).tokens) c ms reached (length-raised peaks (present next).tokens same ∙ queued) (omega (arith, here)) in
+    let rest = peaks_over plan next (raised peaks (present next).tokens) c ms reached (length-raised peaks (present next).tokens same ∙ queued)
+    (omega (arith, here)) in
     let least = at_least plan next c ms in
     omega (arith, here, rest, least, le)
 
@@ -43,10 +46,13 @@ part-lengths zero (t ∷ ts) = refl
 part-lengths (suc c) (t ∷ ts) = part-lengths c ts
 
 -- from the opening state, with each peak the number of initial tokens
-pub peaks_from_opening : (plan : Plan) (c : ℕ) (ms : List Move) → IsPlayable plan → get_or (raised_over plan (opening plan) (map length (map (λ (channel : Channel). channel.initial) plan.channels)) ms) c 0 ≡ peak_of plan (opening plan) c ms
+pub peaks_from_opening : (plan : Plan) (c : ℕ) (ms : List Move) → IsPlayable plan
+    → get_or (raised_over plan (opening plan) (map length (map (λ (channel : Channel). channel.initial) plan.channels)) ms) c 0 ≡ peak_of plan (opening plan) c
+    ms
 peaks_from_opening plan c ms h =
     let first : List (List ℤ) = map (λ (channel : Channel). channel.initial) plan.channels in
-    let here : get_or (map length first) c 0 ≡ length_of (opening plan) c = part-lengths c first ∙ ap (λ ts. length (part c ts)) (sym (waiting-opening plan.channels)) in
+    let here : get_or (map length first) c 0 ≡ length_of (opening plan) c = part-lengths c first
+    ∙ ap (λ ts. length (part c ts)) (sym (waiting-opening plan.channels)) in
     let len : length (map length first) ≡ length plan.channels = length-map first length ∙ length-map plan.channels (λ (channel : Channel). channel.initial) in
     let all = peaks_over plan (opening plan) (map length first) c ms (reached_opening plan h) len (omega (arith, here)) in
     let least = at_least plan (opening plan) c ms in

@@ -1,5 +1,6 @@
 -- After whole periods a channel has lost what it was given; and a firing of a later period, by the counts of the first.
-use Rattle.std.proofs.Common.{◌≡◌, ℕ, zero, suc, ◌+◌, ◌*◌, ◌<◌, ◌≤◌, ◌==◌, ◌&&◌, nat_lt, cond, inl, inr, List, [], ◌∷◌, length, get_or, map, sum, refl, ap, sym, ◌∙◌, arith, Bool, true, false, Some, take_all, le-ltb, mul_comm, mul_assoc, mul-suc}
+use Rattle.std.proofs.Common.{◌≡◌, ℕ, zero, suc, ◌+◌, ◌*◌, ◌<◌, ◌≤◌, ◌==◌, ◌&&◌, nat_lt, cond, inl, inr, List, [], ◌∷◌, length, get_or, map, sum, refl, ap, sym}
+use Rattle.std.proofs.Common.{◌∙◌, arith, Bool, true, false, Some, take_all, le-ltb, mul_comm, mul_assoc, mul-suc}
 use Rattle.std.specs.Prelude.{sum_by, slice_get, if◌then◌else◌}
 use Rattle.std.specs.List.{zip, AllByRecursion}
 use Rattle.std.proofs.Math.Nat.{mul-add-mod_self_left}
@@ -20,7 +21,8 @@ use Rattle.csdf_core.specs.Step.{given}
 use Rattle.csdf_core.proofs.Able.{IsAbleAt, later}
 
 total_after : (rates : List ℕ) (k m : ℕ) → total rates (length rates * k + m) ≡ total rates (length rates * k) + total rates m
-total_after rates k zero = let e : length rates * k + 0 ≡ length rates * k = omega arith in ap (total rates) e ∙ sym (let z : total rates (length rates * k) + 0 ≡ total rates (length rates * k) = omega arith in z)
+total_after rates k zero = let e : length rates * k + 0 ≡ length rates * k = omega arith in ap (total rates) e
+    ∙ sym (let z : total rates (length rates * k) + 0 ≡ total rates (length rates * k) = omega arith in z)
 total_after rates k (suc m) =
     let before : total rates (length rates * k + m) ≡ total rates (length rates * k) + total rates m = total_after rates k m in
     let next : length rates * k + suc m ≡ suc (length rates * k + m) = omega arith in
@@ -33,8 +35,10 @@ total_cycles rates zero = let e : length rates * 0 ≡ 0 = omega arith in ap (to
 total_cycles rates (suc k) =
     let before : total rates (length rates * k) ≡ sum rates * k = total_cycles rates k in
     let next : length rates * suc k ≡ length rates * k + length rates = omega (arith, mul-suc (length rates) k) in
-    let cycle : total rates (length rates) ≡ sum rates = total_front rates (length rates) (omega arith) ∙ ap sum (take_all (length rates) rates (omega arith)) in
-    let whole : total rates (length rates * suc k) ≡ total rates (length rates * k) + total rates (length rates) = ap (total rates) next ∙ total_after rates k (length rates) in
+    let cycle : total rates (length rates) ≡ sum rates = total_front rates (length rates) (omega arith)
+    ∙ ap sum (take_all (length rates) rates (omega arith)) in
+    let whole : total rates (length rates * suc k) ≡ total rates (length rates * k) + total rates (length rates) = ap (total rates) next
+    ∙ total_after rates k (length rates) in
     omega (arith, mul-suc (sum rates) k)
 
 -- j periods of n firings more, where a period has len * r firings
@@ -71,7 +75,8 @@ periodic actors r q c is balanced from to =
     record {
       moved = λ j. sum c.produce * (rf * j);
       put = λ j n. shifted c.produce (phases_of actors c.from) rf (get_or q c.from 0) j n lp from;
-      taken = λ j n. shifted c.consume (phases_of actors c.to) rt (get_or q c.to 0) j n lc to ∙ ap (λ x. x + total c.consume n) (sym (same_moved rf (sum c.produce) rt (sum c.consume) j cycles));
+      taken = λ j n. shifted c.consume (phases_of actors c.to) rt (get_or q c.to 0) j n lc to
+          ∙ ap (λ x. x + total c.consume n) (sym (same_moved rf (sum c.produce) rt (sum c.consume) j cycles));
     }
 
 -- ---- the firings of a later period
@@ -80,7 +85,8 @@ periodic actors r q c is balanced from to =
 abbrev pub at_period : List ℕ → ℕ → List ℕ → ℕ → ℕ
 at_period q j n b = j * get_or q b 0 + get_or n b 0
 
-pub able_row : (channels : List graph.Channel) (q bounds n : List ℕ) (j a i : ℕ) (c : graph.Channel) (b : ℕ) → a < length n → IsPeriodic q c → b ≡ get_or bounds i 0 → slice_get channels i ≡ Some c → IsFed channels n → CanFire channels bounds n a
+pub able_row : (channels : List graph.Channel) (q bounds n : List ℕ) (j a i : ℕ) (c : graph.Channel) (b : ℕ) → a < length n → IsPeriodic q c
+    → b ≡ get_or bounds i 0 → slice_get channels i ≡ Some c → IsFed channels n → CanFire channels bounds n a
     → IsAbleAt (at_period q j n) (at_period q j n) a (at_period q j n a) (with_capacity (c, b))
 able_row channels q bounds n j a i c b lt periodic cap is fed can =
     let able = able_of channels bounds n a fed can in
@@ -108,7 +114,8 @@ able_row channels q bounds n j a i c b lt periodic cap is fed can =
           omega arith),
     )
 
-pub able_rows : (P : Channel → Type 0) (gs : List graph.Channel) (caps : List ℕ) → length caps ≡ length gs → ((i : ℕ) (c : graph.Channel) → slice_get gs i ≡ Some c → P (with_capacity (c, get_or caps i 0))) → AllByRecursion P (map with_capacity (zip gs caps))
+pub able_rows : (P : Channel → Type 0) (gs : List graph.Channel) (caps : List ℕ) → length caps ≡ length gs
+    → ((i : ℕ) (c : graph.Channel) → slice_get gs i ≡ Some c → P (with_capacity (c, get_or caps i 0))) → AllByRecursion P (map with_capacity (zip gs caps))
 able_rows P [] caps len each = tt
 able_rows P (c ∷ gs) [] len each = absurd (omega arith)
 able_rows P (c ∷ gs) (b ∷ caps) len each = (each 0 c refl, able_rows P gs caps (omega arith) (λ i d is. each (suc i) d is))
@@ -122,10 +129,17 @@ given_row a n m c le = by (c.from == a)
     by true = total_mono c.produce n m le
     by false = omega arith
 
-given_sums : (a n m : ℕ) (cs : List Channel) → n ≤ m → sum_by (λ (c : Channel). if c.from == a then total c.produce n else 0) cs ≤ sum_by (λ (c : Channel). if c.from == a then total c.produce m else 0) cs
+given_sums : (a n m : ℕ) (cs : List Channel) → n ≤ m
+    → sum_by (λ (c : Channel). if c.from == a then total c.produce n else 0) cs ≤ sum_by (λ (c : Channel). if c.from == a then total c.produce m else 0) cs
 given_sums a n m [] le = omega arith
 given_sums a n m (c ∷ cs) le =
-    omega (arith, sum_by-cons (λ (d : Channel). if d.from == a then total d.produce n else 0) c cs, sum_by-cons (λ (d : Channel). if d.from == a then total d.produce m else 0) c cs, given_row a n m c le, given_sums a n m cs le)
+    omega (
+      arith,
+      sum_by-cons (λ (d : Channel). if d.from == a then total d.produce n else 0) c cs,
+      sum_by-cons (λ (d : Channel). if d.from == a then total d.produce m else 0) c cs,
+      given_row a n m c le,
+      given_sums a n m cs le,
+    )
 
 pub given_mono : (plan : Plan) (a n m : ℕ) → n ≤ m → given plan a n ≤ given plan a m
 unfolding given

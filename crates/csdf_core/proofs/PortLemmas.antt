@@ -1,19 +1,21 @@
 -- What a firing does to its actor's own channels, and what the model says of all channels.
-use Rattle.std.proofs.Common.{◌≡◌, ℕ, zero, suc, ◌+◌, ◌<◌, ◌≤◌, ◌==◌, max, List, [], ◌∷◌, ◌++◌, length, get_or, set, take, drop, map, inl, inr, refl, ap, subst, ◌∙◌, sym, arith, append_assoc, append-nil, Bool, true, false, cond, Option, Some, None}
+use Rattle.std.proofs.Common.{◌≡◌, ℕ, zero, suc, ◌+◌, ◌<◌, ◌≤◌, ◌==◌, max, List, [], ◌∷◌, ◌++◌, length, get_or, set, take, drop, map, inl, inr, refl, ap, subst}
+use Rattle.std.proofs.Common.{◌∙◌, sym, arith, append_assoc, append-nil, Bool, true, false, cond, Option, Some, None}
 use Rattle.std.proofs.Common.{◌-◌}
 use Rattle.std.specs.Prelude.{ℤ, ◌&&◌, not, nat_lt, sum_by, find, All}
 use Rattle.std.proofs.lemmas.List.{get_or_default, drop_all}
-use Rattle.std.proofs.lemmas.List.Elements.{All-from_recursion}
 use Rattle.std.specs.List.{zip, flat_map, position_from, AllByRecursion}
 use Rattle.std.proofs.lemmas.List.Sums.{sum_by-cons}
 use Rattle.std.proofs.lemmas.Bool.{cases_Bool, le-ltb, eq-eqb, ne_eqb}
 use Rattle.csdf_pool.specs.Pool.{Held, held_tokens}
 use Rattle.csdf_graph.specs.Graph.{numbers_from}
 use Rattle.csdf_graph.specs.Rates.{rate}
+use Rattle.csdf_graph.proofs.PortLemmas as graph
 use Rattle.csdf_core.specs.Plan.{Channel, takes_of}
 use Rattle.csdf_core.specs.Rows.{Row, is_closed, is_short, is_full, first, cut, joined, need, gift}
 use Rattle.csdf_core.specs.Shows.{raised}
-use Rattle.csdf_core.specs.Ports.{inputs_at, outputs_at, take_at, give_at, tokens_at, takes_over, taken_over, EnoughOver, puts_over, raise_over, closed_at, short_at, own_take_at, full_at}
+use Rattle.csdf_core.specs.Ports.{inputs_at, outputs_at, take_at, give_at, tokens_at, takes_over, taken_over, EnoughOver, puts_over, raise_over, closed_at}
+use Rattle.csdf_core.specs.Ports.{short_at, own_take_at, full_at}
 
 -- a place after a front
 at_seam : {A : Type 0} (done : List A) (x d : A) (rest : List A) → get_or (done ++ x ∷ rest) (length done) d ≡ x
@@ -41,12 +43,14 @@ first_of_own own test t i (c ∷ cs) [] len says = absurd (omega arith)
 first_of_own own test t i (c ∷ cs) (x ∷ xs) len says =
     let here : test (c, x) ≡ (own c && t i) = says 0 c x (omega arith) ∙ ap (λ k. own c && t k) (let e : i + 0 ≡ i = omega arith in e) in
     let rest : find t (numbers_from (suc i) own cs) ≡ position_from test (suc i) (zip cs xs) =
-    first_of_own own test t (suc i) cs xs (omega arith) (λ j d y lt. says (suc j) d y (omega arith) ∙ ap (λ k. own (get_or cs j d) && t k) (let e : i + suc j ≡ suc i + j = omega arith in e)) in
+    first_of_own own test t (suc i) cs xs (omega arith)
+    (λ j d y lt. says (suc j) d y (omega arith) ∙ ap (λ k. own (get_or cs j d) && t k) (let e : i + suc j ≡ suc i + j = omega arith in e)) in
     let next : i + 1 ≡ suc i = omega arith in
     by_cases (own c) (t i) here rest next refl
   where
     by_cases : (b u : Bool) → test (c, x) ≡ (b && u) → find t (numbers_from (suc i) own cs) ≡ position_from test (suc i) (zip cs xs) → i + 1 ≡ suc i
-        → t i ≡ u → find t (cond b (i ∷ numbers_from (suc i) own cs) (numbers_from (suc i) own cs)) ≡ cond (test (c, x)) (Some i) (position_from test (i + 1) (zip cs xs))
+        → t i ≡ u → find t (cond b (i ∷ numbers_from (suc i) own cs) (numbers_from (suc i) own cs)) ≡ cond (test (c, x)) (Some i)
+        (position_from test (i + 1) (zip cs xs))
     by_cases false u here rest next same = rw (here, next) rest
     by_cases true true here rest next same = rw (here, same) refl
     by_cases true false here rest next same = rw (here, same, next) rest
@@ -85,12 +89,16 @@ module _ (own : Channel → Bool) (rate_of : Channel → ℕ) (amount : ℕ → 
       elim (cases_Bool (own c)) [
         | inl o ↦
             let m : moved c ≡ rate_of c = ap (λ b. cond b (rate_of c) 0) o in
-            let n : numbers_from i own (c ∷ cs) ≡ i ∷ numbers_from (suc i) own cs = ap (λ b. cond b (i ∷ numbers_from (suc i) own cs) (numbers_from (suc i) own cs)) o in
-            ap (sum_by amount) n ∙ (let s : sum_by amount (i ∷ numbers_from (suc i) own cs) ≡ sum_by moved (c ∷ cs) = omega (arith, sum_by-cons amount i (numbers_from (suc i) own cs), sum_by-cons moved c cs, rest, here, m) in s)
+            let n : numbers_from i own (c ∷ cs) ≡ i ∷ numbers_from (suc i) own cs =
+            ap (λ b. cond b (i ∷ numbers_from (suc i) own cs) (numbers_from (suc i) own cs)) o in
+            ap (sum_by amount) n ∙ (let s : sum_by amount (i ∷ numbers_from (suc i) own cs) ≡ sum_by moved (c ∷ cs) = omega
+            (arith, sum_by-cons amount i (numbers_from (suc i) own cs), sum_by-cons moved c cs, rest, here, m) in s)
         | inr o ↦
             let m : moved c ≡ 0 = ap (λ b. cond b (rate_of c) 0) o in
-            let n : numbers_from i own (c ∷ cs) ≡ numbers_from (suc i) own cs = ap (λ b. cond b (i ∷ numbers_from (suc i) own cs) (numbers_from (suc i) own cs)) o in
-            ap (sum_by amount) n ∙ (let s : sum_by amount (numbers_from (suc i) own cs) ≡ sum_by moved (c ∷ cs) = omega (arith, sum_by-cons moved c cs, rest, m) in s)
+            let n : numbers_from i own (c ∷ cs) ≡ numbers_from (suc i) own cs =
+            ap (λ b. cond b (i ∷ numbers_from (suc i) own cs) (numbers_from (suc i) own cs)) o in
+            ap (sum_by amount) n ∙ (let s : sum_by amount (numbers_from (suc i) own cs) ≡ sum_by moved (c ∷ cs) = omega
+            (arith, sum_by-cons moved c cs, rest, m) in s)
       ]
 
   pub takes_all : (i : ℕ) (done : List (List ℤ)) (cs : List Channel) (ts : List (List ℤ)) → length done ≡ i → length ts ≡ length cs → AreRates i cs
@@ -101,15 +109,18 @@ module _ (own : Channel → Bool) (rate_of : Channel → ℕ) (amount : ℕ → 
   takes_all i done (c ∷ cs) (t ∷ ts) e len h = elim (cases_Bool (own c)) [
     | inl o ↦
         let m : moved c ≡ amount i = ap (λ b. cond b (rate_of c) 0) o ∙ sym (first_rate i c cs h) in
-        let n : numbers_from i own (c ∷ cs) ≡ i ∷ numbers_from (suc i) own cs = ap (λ b. cond b (i ∷ numbers_from (suc i) own cs) (numbers_from (suc i) own cs)) o in
+        let n : numbers_from i own (c ∷ cs) ≡ i ∷ numbers_from (suc i) own cs =
+        ap (λ b. cond b (i ∷ numbers_from (suc i) own cs) (numbers_from (suc i) own cs)) o in
         let x : set (done ++ t ∷ ts) i (drop (amount i) (tokens_at (done ++ t ∷ ts) i)) ≡ (done ++ drop (moved c) t ∷ []) ++ ts =
-        ap (λ u. set (done ++ t ∷ ts) i (drop (amount i) u)) (at_place done i t [] ts e) ∙ ap (λ k. set (done ++ t ∷ ts) i (drop k t)) (sym m) ∙ set_place done i t (drop (moved c) t) ts e in
+        ap (λ u. set (done ++ t ∷ ts) i (drop (amount i) u)) (at_place done i t [] ts e) ∙ ap (λ k. set (done ++ t ∷ ts) i (drop k t)) (sym m)
+        ∙ set_place done i t (drop (moved c) t) ts e in
         ap (λ ns. takes_over amount ns (done ++ t ∷ ts)) n ∙ ap (takes_over amount (numbers_from (suc i) own cs)) x
         ∙ takes_all (suc i) (done ++ drop (moved c) t ∷ []) cs ts (one_done done i (drop (moved c) t) e) (omega arith) (more_rates i c cs h)
         ∙ step_seam done (drop (moved c) t) (map (λ (row : Row). drop (moved row.0) row.1) (zip cs ts))
     | inr o ↦
         let m : moved c ≡ 0 = ap (λ b. cond b (rate_of c) 0) o in
-        let n : numbers_from i own (c ∷ cs) ≡ numbers_from (suc i) own cs = ap (λ b. cond b (i ∷ numbers_from (suc i) own cs) (numbers_from (suc i) own cs)) o in
+        let n : numbers_from i own (c ∷ cs) ≡ numbers_from (suc i) own cs =
+        ap (λ b. cond b (i ∷ numbers_from (suc i) own cs) (numbers_from (suc i) own cs)) o in
         ap (λ ns. takes_over amount ns (done ++ t ∷ ts)) n ∙ ap (takes_over amount (numbers_from (suc i) own cs)) (sym (step_seam done t ts))
         ∙ takes_all (suc i) (done ++ t ∷ []) cs ts (one_done done i t e) (omega arith) (more_rates i c cs h)
         ∙ step_seam done t (map (λ (row : Row). drop (moved row.0) row.1) (zip cs ts))
@@ -124,18 +135,24 @@ module _ (own : Channel → Bool) (rate_of : Channel → ℕ) (amount : ℕ → 
   taken_all i done (c ∷ cs) (t ∷ ts) e len h = elim (cases_Bool (own c)) [
     | inl o ↦
         let m : moved c ≡ amount i = ap (λ b. cond b (rate_of c) 0) o ∙ sym (first_rate i c cs h) in
-        let n : numbers_from i own (c ∷ cs) ≡ i ∷ numbers_from (suc i) own cs = ap (λ b. cond b (i ∷ numbers_from (suc i) own cs) (numbers_from (suc i) own cs)) o in
+        let n : numbers_from i own (c ∷ cs) ≡ i ∷ numbers_from (suc i) own cs =
+        ap (λ b. cond b (i ∷ numbers_from (suc i) own cs) (numbers_from (suc i) own cs)) o in
         let at : tokens_at (done ++ t ∷ ts) i ≡ t = at_place done i t [] ts e in
         let x : set (done ++ t ∷ ts) i (drop (amount i) (tokens_at (done ++ t ∷ ts) i)) ≡ (done ++ drop (moved c) t ∷ []) ++ ts =
-        ap (λ u. set (done ++ t ∷ ts) i (drop (amount i) u)) at ∙ ap (λ k. set (done ++ t ∷ ts) i (drop k t)) (sym m) ∙ set_place done i t (drop (moved c) t) ts e in
+        ap (λ u. set (done ++ t ∷ ts) i (drop (amount i) u)) at ∙ ap (λ k. set (done ++ t ∷ ts) i (drop k t)) (sym m)
+        ∙ set_place done i t (drop (moved c) t) ts e in
         ap (λ ns. taken_over amount ns (done ++ t ∷ ts)) n
-        ∙ ap (λ u. take (amount i) u ++ taken_over amount (numbers_from (suc i) own cs) (set (done ++ t ∷ ts) i (drop (amount i) (tokens_at (done ++ t ∷ ts) i)))) at
-        ∙ ap (λ k. take k t ++ taken_over amount (numbers_from (suc i) own cs) (set (done ++ t ∷ ts) i (drop (amount i) (tokens_at (done ++ t ∷ ts) i)))) (sym m)
+        ∙ ap (λ u. take (amount i) u ++ taken_over amount (numbers_from (suc i) own cs)
+        (set (done ++ t ∷ ts) i (drop (amount i) (tokens_at (done ++ t ∷ ts) i)))) at
+        ∙ ap (λ k. take k t ++ taken_over amount (numbers_from (suc i) own cs) (set (done ++ t ∷ ts) i (drop (amount i) (tokens_at (done ++ t ∷ ts) i))))
+        (sym m)
         ∙ ap (λ all. take (moved c) t ++ taken_over amount (numbers_from (suc i) own cs) all) x
-        ∙ ap (λ xs. take (moved c) t ++ xs) (taken_all (suc i) (done ++ drop (moved c) t ∷ []) cs ts (one_done done i (drop (moved c) t) e) (omega arith) (more_rates i c cs h))
+        ∙ ap (λ xs. take (moved c) t ++ xs)
+        (taken_all (suc i) (done ++ drop (moved c) t ∷ []) cs ts (one_done done i (drop (moved c) t) e) (omega arith) (more_rates i c cs h))
     | inr o ↦
         let m : moved c ≡ 0 = ap (λ b. cond b (rate_of c) 0) o in
-        let n : numbers_from i own (c ∷ cs) ≡ numbers_from (suc i) own cs = ap (λ b. cond b (i ∷ numbers_from (suc i) own cs) (numbers_from (suc i) own cs)) o in
+        let n : numbers_from i own (c ∷ cs) ≡ numbers_from (suc i) own cs =
+        ap (λ b. cond b (i ∷ numbers_from (suc i) own cs) (numbers_from (suc i) own cs)) o in
         ap (λ ns. taken_over amount ns (done ++ t ∷ ts)) n ∙ ap (taken_over amount (numbers_from (suc i) own cs)) (sym (step_seam done t ts))
         ∙ taken_all (suc i) (done ++ t ∷ []) cs ts (one_done done i t e) (omega arith) (more_rates i c cs h)
         ∙ ap (λ k. take k t ++ flat_map (λ (row : Row). take (moved row.0) row.1) (zip cs ts)) (sym m)
@@ -149,18 +166,25 @@ module _ (own : Channel → Bool) (rate_of : Channel → ℕ) (amount : ℕ → 
   enough_all i done (c ∷ cs) (t ∷ ts) e len h there = elim (cases_Bool (own c)) [
     | inl o ↦
         let m : moved c ≡ amount i = ap (λ b. cond b (rate_of c) 0) o ∙ sym (first_rate i c cs h) in
-        let n : numbers_from i own (c ∷ cs) ≡ i ∷ numbers_from (suc i) own cs = ap (λ b. cond b (i ∷ numbers_from (suc i) own cs) (numbers_from (suc i) own cs)) o in
+        let n : numbers_from i own (c ∷ cs) ≡ i ∷ numbers_from (suc i) own cs =
+        ap (λ b. cond b (i ∷ numbers_from (suc i) own cs) (numbers_from (suc i) own cs)) o in
         let at : tokens_at (done ++ t ∷ ts) i ≡ t = at_place done i t [] ts e in
         let x : set (done ++ t ∷ ts) i (drop (amount i) (tokens_at (done ++ t ∷ ts) i)) ≡ (done ++ drop (moved c) t ∷ []) ++ ts =
-        ap (λ u. set (done ++ t ∷ ts) i (drop (amount i) u)) at ∙ ap (λ k. set (done ++ t ∷ ts) i (drop k t)) (sym m) ∙ set_place done i t (drop (moved c) t) ts e in
+        ap (λ u. set (done ++ t ∷ ts) i (drop (amount i) u)) at ∙ ap (λ k. set (done ++ t ∷ ts) i (drop k t)) (sym m)
+        ∙ set_place done i t (drop (moved c) t) ts e in
         let size : length (tokens_at (done ++ t ∷ ts) i) ≡ length t = ap length at in
         let fits : amount i ≤ length (tokens_at (done ++ t ∷ ts) i) = omega (arith, m, size, there.0) in
-        subst (λ ns. EnoughOver amount ns (done ++ t ∷ ts)) (sym n)
-        (fits, subst (EnoughOver amount (numbers_from (suc i) own cs)) (sym x) (enough_all (suc i) (done ++ drop (moved c) t ∷ []) cs ts (one_done done i (drop (moved c) t) e) (omega arith) (more_rates i c cs h) there.1))
+        subst (λ ns. EnoughOver amount ns (done ++ t ∷ ts)) (sym n) (
+          fits,
+          subst (EnoughOver amount (numbers_from (suc i) own cs)) (sym x)
+              (enough_all (suc i) (done ++ drop (moved c) t ∷ []) cs ts (one_done done i (drop (moved c) t) e) (omega arith) (more_rates i c cs h) there.1),
+        )
     | inr o ↦
-        let n : numbers_from i own (c ∷ cs) ≡ numbers_from (suc i) own cs = ap (λ b. cond b (i ∷ numbers_from (suc i) own cs) (numbers_from (suc i) own cs)) o in
+        let n : numbers_from i own (c ∷ cs) ≡ numbers_from (suc i) own cs =
+        ap (λ b. cond b (i ∷ numbers_from (suc i) own cs) (numbers_from (suc i) own cs)) o in
         subst (λ ns. EnoughOver amount ns (done ++ t ∷ ts)) (sym n)
-        (subst (EnoughOver amount (numbers_from (suc i) own cs)) (step_seam done t ts) (enough_all (suc i) (done ++ t ∷ []) cs ts (one_done done i t e) (omega arith) (more_rates i c cs h) there.1))
+        (subst (EnoughOver amount (numbers_from (suc i) own cs)) (step_seam done t ts)
+        (enough_all (suc i) (done ++ t ∷ []) cs ts (one_done done i t e) (omega arith) (more_rates i c cs h) there.1))
   ]
 
   pub puts_all : (i : ℕ) (done : List (List ℤ)) (cs : List Channel) (ts : List (List ℤ)) (v : List ℤ) → length done ≡ i → length ts ≡ length cs → AreRates i cs
@@ -171,16 +195,20 @@ module _ (own : Channel → Bool) (rate_of : Channel → ℕ) (amount : ℕ → 
   puts_all i done (c ∷ cs) (t ∷ ts) v e len h = elim (cases_Bool (own c)) [
     | inl o ↦
         let m : moved c ≡ amount i = ap (λ b. cond b (rate_of c) 0) o ∙ sym (first_rate i c cs h) in
-        let n : numbers_from i own (c ∷ cs) ≡ i ∷ numbers_from (suc i) own cs = ap (λ b. cond b (i ∷ numbers_from (suc i) own cs) (numbers_from (suc i) own cs)) o in
+        let n : numbers_from i own (c ∷ cs) ≡ i ∷ numbers_from (suc i) own cs =
+        ap (λ b. cond b (i ∷ numbers_from (suc i) own cs) (numbers_from (suc i) own cs)) o in
         let x : set (done ++ t ∷ ts) i (tokens_at (done ++ t ∷ ts) i ++ take (amount i) v) ≡ (done ++ (t ++ take (moved c) v) ∷ []) ++ ts =
-        ap (λ u. set (done ++ t ∷ ts) i (u ++ take (amount i) v)) (at_place done i t [] ts e) ∙ ap (λ k. set (done ++ t ∷ ts) i (t ++ take k v)) (sym m) ∙ set_place done i t (t ++ take (moved c) v) ts e in
+        ap (λ u. set (done ++ t ∷ ts) i (u ++ take (amount i) v)) (at_place done i t [] ts e) ∙ ap (λ k. set (done ++ t ∷ ts) i (t ++ take k v)) (sym m)
+        ∙ set_place done i t (t ++ take (moved c) v) ts e in
         ap (λ ns. puts_over amount ns (done ++ t ∷ ts) v) n ∙ ap (λ all. puts_over amount (numbers_from (suc i) own cs) all (drop (amount i) v)) x
         ∙ ap (λ k. puts_over amount (numbers_from (suc i) own cs) ((done ++ (t ++ take (moved c) v) ∷ []) ++ ts) (drop k v)) (sym m)
-        ∙ puts_all (suc i) (done ++ (t ++ take (moved c) v) ∷ []) cs ts (drop (moved c) v) (one_done done i (t ++ take (moved c) v) e) (omega arith) (more_rates i c cs h)
+        ∙ puts_all (suc i) (done ++ (t ++ take (moved c) v) ∷ []) cs ts (drop (moved c) v) (one_done done i (t ++ take (moved c) v) e) (omega arith)
+        (more_rates i c cs h)
         ∙ step_seam done (t ++ take (moved c) v) (joined ts (cut moved cs (drop (moved c) v)))
     | inr o ↦
         let m : moved c ≡ 0 = ap (λ b. cond b (rate_of c) 0) o in
-        let n : numbers_from i own (c ∷ cs) ≡ numbers_from (suc i) own cs = ap (λ b. cond b (i ∷ numbers_from (suc i) own cs) (numbers_from (suc i) own cs)) o in
+        let n : numbers_from i own (c ∷ cs) ≡ numbers_from (suc i) own cs =
+        ap (λ b. cond b (i ∷ numbers_from (suc i) own cs) (numbers_from (suc i) own cs)) o in
         ap (λ ns. puts_over amount ns (done ++ t ∷ ts) v) n ∙ ap (λ all. puts_over amount (numbers_from (suc i) own cs) all v) (sym (step_seam done t ts))
         ∙ puts_all (suc i) (done ++ t ∷ []) cs ts v (one_done done i t e) (omega arith) (more_rates i c cs h)
         ∙ step_seam done t (joined ts (cut moved cs v))
@@ -189,7 +217,8 @@ module _ (own : Channel → Bool) (rate_of : Channel → ℕ) (amount : ℕ → 
   ]
 
 -- ---- peaks
-pub raise_all : (own : Channel → Bool) (i : ℕ) (done : List ℕ) (front : List (List ℤ)) (cs : List Channel) (ts : List (List ℤ)) (ps : List ℕ) → length done ≡ i → length front ≡ i → length ts ≡ length cs → length ps ≡ length cs
+pub raise_all : (own : Channel → Bool) (i : ℕ) (done : List ℕ) (front : List (List ℤ)) (cs : List Channel) (ts : List (List ℤ)) (ps : List ℕ) → length done ≡ i
+    → length front ≡ i → length ts ≡ length cs → length ps ≡ length cs
     → AllByRecursion (λ (row : Channel × (ℕ × List ℤ)). own row.0 ≡ false → length row.1.1 ≤ row.1.0) (zip cs (zip ps ts))
     → raise_over (numbers_from i own cs) (front ++ ts) (done ++ ps) ≡ done ++ raised ps ts
 raise_all own i done front [] [] [] e f len lenp high = refl
@@ -203,31 +232,26 @@ raise_all own i done front (c ∷ cs) (t ∷ ts) (p ∷ ps) e f len lenp high =
     ∙ step_seam done x (raised ps ts) in
     elim (cases_Bool (own c)) [
       | inl o ↦
-          let n : numbers_from i own (c ∷ cs) ≡ i ∷ numbers_from (suc i) own cs = ap (λ b. cond b (i ∷ numbers_from (suc i) own cs) (numbers_from (suc i) own cs)) o in
+          let n : numbers_from i own (c ∷ cs) ≡ i ∷ numbers_from (suc i) own cs =
+          ap (λ b. cond b (i ∷ numbers_from (suc i) own cs) (numbers_from (suc i) own cs)) o in
           let x : set (done ++ p ∷ ps) i (max (get_or (done ++ p ∷ ps) i 0) (length (tokens_at (front ++ t ∷ ts) i))) ≡ (done ++ max p (length t) ∷ []) ++ ps =
-          ap (λ q. set (done ++ p ∷ ps) i (max q (length (tokens_at (front ++ t ∷ ts) i)))) (at_place done i p 0 ps e) ∙ ap (λ u. set (done ++ p ∷ ps) i (max p (length u))) (at_place front i t [] ts f) ∙ set_place done i p (max p (length t)) ps e in
-          ap (λ ns. raise_over ns (front ++ t ∷ ts) (done ++ p ∷ ps)) n ∙ ap (raise_over (numbers_from (suc i) own cs) (front ++ t ∷ ts)) x ∙ more (max p (length t))
+          ap (λ q. set (done ++ p ∷ ps) i (max q (length (tokens_at (front ++ t ∷ ts) i)))) (at_place done i p 0 ps e)
+          ∙ ap (λ u. set (done ++ p ∷ ps) i (max p (length u))) (at_place front i t [] ts f) ∙ set_place done i p (max p (length t)) ps e in
+          ap (λ ns. raise_over ns (front ++ t ∷ ts) (done ++ p ∷ ps)) n ∙ ap (raise_over (numbers_from (suc i) own cs) (front ++ t ∷ ts)) x
+          ∙ more (max p (length t))
       | inr o ↦
-          let n : numbers_from i own (c ∷ cs) ≡ numbers_from (suc i) own cs = ap (λ b. cond b (i ∷ numbers_from (suc i) own cs) (numbers_from (suc i) own cs)) o in
+          let n : numbers_from i own (c ∷ cs) ≡ numbers_from (suc i) own cs =
+          ap (λ b. cond b (i ∷ numbers_from (suc i) own cs) (numbers_from (suc i) own cs)) o in
           let le : length t ≤ p = high.0 o in
           let same : p ≡ max p (length t) = omega (arith, le) in
-          ap (λ ns. raise_over ns (front ++ t ∷ ts) (done ++ p ∷ ps)) n ∙ ap (raise_over (numbers_from (suc i) own cs) (front ++ t ∷ ts)) (sym (step_seam done p ps)) ∙ more p ∙ ap (λ q. done ++ q ∷ raised ps ts) same
+          ap (λ ns. raise_over ns (front ++ t ∷ ts) (done ++ p ∷ ps)) n
+          ∙ ap (raise_over (numbers_from (suc i) own cs) (front ++ t ∷ ts)) (sym (step_seam done p ps)) ∙ more p ∙ ap (λ q. done ++ q ∷ raised ps ts) same
     ]
 
 -- ---- numbers
 
-below_from : (own : Channel → Bool) (i n : ℕ) (cs : List Channel) → i + length cs ≤ n → AllByRecursion (λ c. c < n) (numbers_from i own cs)
-below_from own i n [] le = tt
-below_from own i n (c ∷ cs) le =
-    let rest = below_from own (suc i) n cs (omega arith) in
-    let here : i < n = omega arith in
-    elim (cases_Bool (own c)) [
-      | inl o ↦ subst (λ b. AllByRecursion (λ k. k < n) (cond b (i ∷ numbers_from (suc i) own cs) (numbers_from (suc i) own cs))) (sym o) (here, rest)
-      | inr o ↦ subst (λ b. AllByRecursion (λ k. k < n) (cond b (i ∷ numbers_from (suc i) own cs) (numbers_from (suc i) own cs))) (sym o) rest
-    ]
-
 pub numbers_within : (own : Channel → Bool) (cs : List Channel) → All (λ c. c < length cs) (numbers_from 0 own cs)
-numbers_within own cs = All-from_recursion (λ c. c < length cs) (numbers_from 0 own cs) (below_from own 0 (length cs) cs (omega arith))
+numbers_within own cs = graph.numbers_within own cs
 
 -- ---- amounts by number
 
@@ -238,7 +262,8 @@ map_at f (x ∷ xs) (suc j) d lt = map_at f xs j d (omega arith)
 
 -- the rates by number are those of the channels
 pub rates_by_number : (own : Channel → Bool) (rate_of : Channel → ℕ) (cs : List Channel) → AreRates own rate_of (λ c. get_or (map rate_of cs) c 0) 0 cs
-rates_by_number own rate_of cs = record { each = λ j d lt. ap (λ k. get_or (map rate_of cs) k 0) (let e : 0 + j ≡ j = omega arith in e) ∙ map_at rate_of cs j d lt }
+rates_by_number own rate_of cs =
+    record { each = λ j d lt. ap (λ k. get_or (map rate_of cs) k 0) (let e : 0 + j ≡ j = omega arith in e) ∙ map_at rate_of cs j d lt }
 
 -- ---- first closed, short and full
 
@@ -246,20 +271,24 @@ pub first_closed : (a : ℕ) (cs : List Channel) (os : List Bool) → length os 
 first_closed a cs os len = first_of_own (λ c. c.from == a) (is_closed a) (closed_at os) 0 cs os len says
   where
     says : (j : ℕ) (c : Channel) (x : Bool) → j < length cs → is_closed a (get_or cs j c, get_or os j x) ≡ ((get_or cs j c).from == a && closed_at os (0 + j))
-    says j c x lt = ap (λ o. (get_or cs j c).from == a && not o) (get_or_default os j x false (omega (arith, len)) ∙ ap (λ k. get_or os k false) (let e : j ≡ 0 + j = omega arith in e))
+    says j c x lt = ap (λ o. (get_or cs j c).from == a && not o)
+        (get_or_default os j x false (omega (arith, len)) ∙ ap (λ k. get_or os k false) (let e : j ≡ 0 + j = omega arith in e))
 
 lt_none : (n : ℕ) (b : Bool) (r : ℕ) → nat_lt n (cond b r 0) ≡ (b && nat_lt n r)
 lt_none n true r = refl
 lt_none n false r = le-ltb n 0 (omega arith)
 
-pub first_short : (a k : ℕ) (cs : List Channel) (ts : List (List ℤ)) → length ts ≡ length cs → find (short_at cs k ts) (inputs_at cs a) ≡ first (is_short a k) cs ts
+pub first_short : (a k : ℕ) (cs : List Channel) (ts : List (List ℤ)) → length ts ≡ length cs
+    → find (short_at cs k ts) (inputs_at cs a) ≡ first (is_short a k) cs ts
 first_short a k cs ts len = first_of_own (λ c. c.to == a) (is_short a k) (short_at cs k ts) 0 cs ts len says
   where
-    says : (j : ℕ) (c : Channel) (x : List ℤ) → j < length cs → is_short a k (get_or cs j c, get_or ts j x) ≡ ((get_or cs j c).to == a && short_at cs k ts (0 + j))
+    says : (j : ℕ) (c : Channel) (x : List ℤ) → j < length cs
+        → is_short a k (get_or cs j c, get_or ts j x) ≡ ((get_or cs j c).to == a && short_at cs k ts (0 + j))
     says j c x lt =
         let e : 0 + j ≡ j = omega arith in
         let t : get_or ts j x ≡ tokens_at ts (0 + j) = get_or_default ts j x [] (omega (arith, len)) ∙ ap (tokens_at ts) (sym e) in
-        let r : rate (get_or cs j c).consume k ≡ take_at cs k (0 + j) = sym (map_at (λ (ch : Channel). rate ch.consume k) cs j c lt) ∙ ap (take_at cs k) (sym e) in
+        let r : rate (get_or cs j c).consume k ≡ take_at cs k (0 + j) = sym (map_at (λ (ch : Channel). rate ch.consume k) cs j c lt)
+        ∙ ap (take_at cs k) (sym e) in
         lt_none (length (get_or ts j x)) ((get_or cs j c).to == a) (rate (get_or cs j c).consume k)
         ∙ ap (λ l. (get_or cs j c).to == a && nat_lt (length l) (rate (get_or cs j c).consume k)) t
         ∙ ap (λ n. (get_or cs j c).to == a && nat_lt (length (tokens_at ts (0 + j))) n) r
@@ -268,17 +297,20 @@ full_if : (b : Bool) (cap n r : ℕ) → (b && nat_lt cap (n + cond b r 0)) ≡ 
 full_if true cap n r = refl
 full_if false cap n r = refl
 
-pub first_full : (a k : ℕ) (cs : List Channel) (ts : List (List ℤ)) → length ts ≡ length cs → find (full_at cs a k ts) (outputs_at cs a) ≡ first (is_full a k) cs ts
+pub first_full : (a k : ℕ) (cs : List Channel) (ts : List (List ℤ)) → length ts ≡ length cs
+    → find (full_at cs a k ts) (outputs_at cs a) ≡ first (is_full a k) cs ts
 first_full a k cs ts len = first_of_own (λ c. c.from == a) (is_full a k) (full_at cs a k ts) 0 cs ts len says
   where
-    says : (j : ℕ) (c : Channel) (x : List ℤ) → j < length cs → is_full a k (get_or cs j c, get_or ts j x) ≡ ((get_or cs j c).from == a && full_at cs a k ts (0 + j))
+    says : (j : ℕ) (c : Channel) (x : List ℤ) → j < length cs
+        → is_full a k (get_or cs j c, get_or ts j x) ≡ ((get_or cs j c).from == a && full_at cs a k ts (0 + j))
     says j c x lt =
         let e : 0 + j ≡ j = omega arith in
         let ch : Channel = get_or cs j c in
         let t : get_or ts j x ≡ tokens_at ts (0 + j) = get_or_default ts j x [] (omega (arith, len)) ∙ ap (tokens_at ts) (sym e) in
         let z : takes_of a k ch ≡ own_take_at cs a k (0 + j) = sym (map_at (takes_of a k) cs j c lt) ∙ ap (own_take_at cs a k) (sym e) in
         let r : rate ch.produce k ≡ give_at cs k (0 + j) = sym (map_at (λ (d : Channel). rate d.produce k) cs j c lt) ∙ ap (give_at cs k) (sym e) in
-        let b : ch.capacity ≡ get_or (map (λ (d : Channel). d.capacity) cs) (0 + j) 0 = sym (map_at (λ (d : Channel). d.capacity) cs j c lt) ∙ ap (λ n. get_or (map (λ (d : Channel). d.capacity) cs) n 0) (sym e) in
+        let b : ch.capacity ≡ get_or (map (λ (d : Channel). d.capacity) cs) (0 + j) 0 = sym (map_at (λ (d : Channel). d.capacity) cs j c lt)
+        ∙ ap (λ n. get_or (map (λ (d : Channel). d.capacity) cs) n 0) (sym e) in
         full_if (ch.from == a) ch.capacity (length (get_or ts j x) - takes_of a k ch) (rate ch.produce k)
         ∙ ap (λ l. ch.from == a && nat_lt ch.capacity (length l - takes_of a k ch + rate ch.produce k)) t
         ∙ ap (λ n. ch.from == a && nat_lt ch.capacity (length (tokens_at ts (0 + j)) - n + rate ch.produce k)) z
@@ -286,7 +318,8 @@ first_full a k cs ts len = first_of_own (λ c. c.from == a) (is_full a k) (full_
         ∙ ap (λ n. ch.from == a && nat_lt n (length (tokens_at ts (0 + j)) - own_take_at cs a k (0 + j) + give_at cs k (0 + j))) b
 
 -- ---- a search over numbers
-pub find_here : (p : ℕ → Bool) (xs : List ℕ) (i d : ℕ) (total : Option ℕ) → i < length xs → p (get_or xs i d) ≡ true → find p (drop i xs) ≡ total → Some (get_or xs i d) ≡ total
+pub find_here : (p : ℕ → Bool) (xs : List ℕ) (i d : ℕ) (total : Option ℕ) → i < length xs → p (get_or xs i d) ≡ true → find p (drop i xs) ≡ total
+    → Some (get_or xs i d) ≡ total
 find_here p [] i d total lt pass so_far = absurd (omega arith)
 find_here p (x ∷ xs) zero d total lt pass so_far = sym (ap (λ b. cond b (Some x) (find p xs)) pass) ∙ so_far
 find_here p (x ∷ xs) (suc i) d total lt pass so_far = find_here p xs i d total (omega arith) pass so_far
@@ -305,17 +338,9 @@ own_take_none a k [] c other = refl
 own_take_none a k (ch ∷ cs) zero other = sym (ap (λ b. cond b (rate ch.consume k) 0) (ne_eqb ch.to a other))
 own_take_none a k (ch ∷ cs) (suc c) other = own_take_none a k cs c other
 
-pub few_numbers : (own : Channel → Bool) (i : ℕ) (cs : List Channel) → length (numbers_from i own cs) ≤ length cs
-few_numbers own i [] = omega arith
-few_numbers own i (c ∷ cs) =
-    let rest = few_numbers own (suc i) cs in
-    elim (cases_Bool (own c)) [
-      | inl o ↦ subst (λ b. length (cond b (i ∷ numbers_from (suc i) own cs) (numbers_from (suc i) own cs)) ≤ suc (length cs)) (sym o) (let h : suc (length (numbers_from (suc i) own cs)) ≤ suc (length cs) = omega arith in h)
-      | inr o ↦ subst (λ b. length (cond b (i ∷ numbers_from (suc i) own cs) (numbers_from (suc i) own cs)) ≤ suc (length cs)) (sym o) (let h : length (numbers_from (suc i) own cs) ≤ suc (length cs) = omega arith in h)
-    ]
-
 -- ---- a pool's tokens where one chain changes
-pub tokens_in-set : (chains : List (List Held)) (c : ℕ) (chain : List Held) → map held_tokens (set chains c chain) ≡ set (map held_tokens chains) c (held_tokens chain)
+pub tokens_in-set : (chains : List (List Held)) (c : ℕ) (chain : List Held)
+    → map held_tokens (set chains c chain) ≡ set (map held_tokens chains) c (held_tokens chain)
 tokens_in-set [] c chain = refl
 tokens_in-set (x ∷ chains) zero chain = refl
 tokens_in-set (x ∷ chains) (suc c) chain = ap (λ ts. held_tokens x ∷ ts) (tokens_in-set chains c chain)
@@ -336,10 +361,3 @@ pub sum_done : (f : ℕ → ℕ) (xs : List ℕ) (i s : ℕ) → length xs ≤ i
 sum_done f xs i s le so_far =
     let none : sum_by f (drop i xs) ≡ 0 = ap (sum_by f) (drop_all i xs le) in
     omega (arith, none, so_far)
-
--- the tokens of a chain with more at its end
-pub held_tokens-put : (chain : List Held) (free : List ℕ) (tokens : List ℤ) → length tokens ≤ length free → held_tokens (chain ++ zip (take (length tokens) free) tokens) ≡ held_tokens chain ++ tokens
-held_tokens-put [] free [] le = refl
-held_tokens-put [] [] (t ∷ tokens) le = absurd (omega arith)
-held_tokens-put [] (f ∷ free) (t ∷ tokens) le = ap (λ ts. t ∷ ts) (held_tokens-put [] free tokens (omega arith))
-held_tokens-put (x ∷ chain) free tokens le = ap (λ ts. x.1 ∷ ts) (held_tokens-put chain free tokens le)

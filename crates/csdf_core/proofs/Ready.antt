@@ -1,6 +1,6 @@
 -- One channel stays ready at each accepted move.
-use Rattle.std.proofs.Common.{◌≡◌, ◌≢◌, ℕ, ◌+◌, ◌-◌, ◌<◌, ◌≤◌, List, [], ◌∷◌, ◌++◌, inl, inr, length, set, take, drop, refl, ap, subst, ◌∙◌, sym, arith, Bool, true, false}
-use Rattle.std.specs.Prelude.{ℤ, ◌==◌, ◌&&◌, if◌then◌else◌}
+use Rattle.std.proofs.Common.{◌≡◌, ℕ, ◌+◌, ◌-◌, ◌<◌, ◌≤◌, List, [], ◌∷◌, ◌++◌, inl, inr, length, set, take, drop, ap, subst, ◌∙◌, sym, arith, false}
+use Rattle.std.specs.Prelude.{ℤ}
 use Rattle.std.specs.List.{zip, AllByRecursion}
 use Rattle.std.proofs.lemmas.List.{get_or-set_other, length-drop, length-append, length-take}
 use Rattle.std.proofs.lemmas.Bool.{ltb-false, eq-eqb}
@@ -9,29 +9,16 @@ use Rattle.csdf_core.specs.Plan.{Channel}
 use Rattle.csdf_core.specs.declared.stage.Stage.{Stage}
 use Rattle.csdf_core.specs.declared.stage.Stage.TheVariants.{Idle, Begun, Fetched, Written}
 use Rattle.csdf_core.specs.Plan.{takes_of, gives_of}
-use Rattle.csdf_graph.specs.Rates.{rate}
 use Rattle.csdf_core.specs.Rows.{Row, is_short, is_full, left, joined, shares, AreThere, HaveRoom}
 use Rattle.csdf_core.specs.State.{Present}
 use Rattle.csdf_core.specs.Step.{count, stage}
 use Rattle.csdf_core.specs.Ready.{IsReady}
 use Rattle.csdf_core.proofs.Kept.{stage_set}
+use Rattle.csdf_core.proofs.RoomLemmas.{second_false}
+use Rattle.csdf_core.proofs.Tallies.{takes_none, gives_none}
 
-second_false : (b c : Bool) → b ≡ true → (b && c) ≡ false → c ≡ false
-second_false true c e h = h
-second_false false c e h = absurd (cc)
-
-none_if_false : (b : Bool) (n : ℕ) → b ≡ false → (if b then n else 0) ≡ 0
-none_if_false false n e = refl
-none_if_false true n e = absurd (cc)
-
--- a channel that is no input of a loses nothing, and one that is no output gains nothing
-takes_none : (a k : ℕ) (c : Channel) → c.to ≢ a → takes_of a k c ≡ 0
-takes_none a k c ne = elim (eqb_tells c.to a) [ inl h ↦ absurd (ne h.1) | inr h ↦ none_if_false (c.to == a) (rate c.consume k) h.0 ]
-
-gives_none : (a k : ℕ) (c : Channel) → c.from ≢ a → gives_of a k c ≡ 0
-gives_none a k c ne = elim (eqb_tells c.from a) [ inl h ↦ absurd (ne h.1) | inr h ↦ none_if_false (c.from == a) (rate c.produce k) h.0 ]
-
-pub begin_ready : (p : Present) (a : ℕ) (c : Channel) (held : List ℤ) → a < length p.stages → is_short a (count p a) (c, held) ≡ false → is_full a (count p a) (c, held) ≡ false → IsReady p.counts p.stages c held → IsReady p.counts (set p.stages a Begun) c held
+pub begin_ready : (p : Present) (a : ℕ) (c : Channel) (held : List ℤ) → a < length p.stages → is_short a (count p a) (c, held) ≡ false
+    → is_full a (count p a) (c, held) ≡ false → IsReady p.counts p.stages c held → IsReady p.counts (set p.stages a Begun) c held
 begin_ready p a c held lt enough room r = record {
   fits = r.fits;
   input = λ h. elim (stage_set p.stages a c.to Begun Begun lt h) [
@@ -39,7 +26,8 @@ begin_ready p a c held lt enough room r = record {
     | inr e ↦ r.input e.1
   ];
   begun = λ h. elim (stage_set p.stages a c.from Begun Begun lt h) [
-    | inl e ↦ subst (λ (b : ℕ). length held - takes_of b (count p b) c + gives_of b (count p b) c ≤ c.capacity) (sym e.0) (ltb-false _ _ (second_false _ _ (eq-eqb c.from a e.0) room))
+    | inl e ↦ subst (λ (b : ℕ). length held - takes_of b (count p b) c + gives_of b (count p b) c ≤ c.capacity) (sym e.0)
+        (ltb-false _ _ (second_false _ _ (eq-eqb c.from a e.0) room))
     | inr e ↦ r.begun e.1
   ];
   fetched = λ h. elim (stage_set p.stages a c.from Begun Fetched lt h) [
@@ -48,7 +36,8 @@ begin_ready p a c held lt enough room r = record {
   ];
 }
 
-pub read_ready : (p : Present) (a : ℕ) (c : Channel) (held : List ℤ) → a < length p.stages → stage p a ≡ Begun → IsReady p.counts p.stages c held → IsReady p.counts (set p.stages a Fetched) c (drop (takes_of a (count p a) c) held)
+pub read_ready : (p : Present) (a : ℕ) (c : Channel) (held : List ℤ) → a < length p.stages → stage p a ≡ Begun → IsReady p.counts p.stages c held
+    → IsReady p.counts (set p.stages a Fetched) c (drop (takes_of a (count p a) c) held)
 read_ready p a c held lt was r =
     let len : length (drop (takes_of a (count p a) c) held) ≡ length held - takes_of a (count p a) c = length-drop _ held in
     record {
@@ -63,18 +52,23 @@ read_ready p a c held lt was r =
       ];
       fetched = λ h. elim (stage_set p.stages a c.from Fetched Fetched lt h) [
         | inl e ↦ subst (λ (b : ℕ). length (drop (takes_of a (count p a) c) held) + gives_of b (count p b) c ≤ c.capacity) (sym e.0)
-            (let old : length held - takes_of a (count p a) c + gives_of a (count p a) c ≤ c.capacity = subst (λ (b : ℕ). length held - takes_of b (count p b) c + gives_of b (count p b) c ≤ c.capacity) e.0 (r.begun (ap (stage p) e.0 ∙ was)) in omega arith)
+            (let old : length held - takes_of a (count p a) c + gives_of a (count p a) c ≤ c.capacity = subst
+            (λ (b : ℕ). length held - takes_of b (count p b) c + gives_of b (count p b) c ≤ c.capacity) e.0 (r.begun (ap (stage p) e.0 ∙ was)) in
+            omega arith)
         | inr e ↦ let old = r.fetched e.1 in omega arith
       ];
     }
 
-pub write_ready : (p : Present) (a : ℕ) (c : Channel) (held v : List ℤ) → a < length p.stages → stage p a ≡ Fetched → IsReady p.counts p.stages c held → IsReady p.counts (set p.stages a Written) c (held ++ take (gives_of a (count p a) c) v)
+pub write_ready : (p : Present) (a : ℕ) (c : Channel) (held v : List ℤ) → a < length p.stages → stage p a ≡ Fetched → IsReady p.counts p.stages c held
+    → IsReady p.counts (set p.stages a Written) c (held ++ take (gives_of a (count p a) c) v)
 write_ready p a c held v lt was r =
-    let len : length (held ++ take (gives_of a (count p a) c) v) ≤ length held + gives_of a (count p a) c = omega (arith, length-append held (take (gives_of a (count p a) c) v), length-take (gives_of a (count p a) c) v) in
+    let len : length (held ++ take (gives_of a (count p a) c) v) ≤ length held + gives_of a (count p a) c =
+    omega (arith, length-append held (take (gives_of a (count p a) c) v), length-take (gives_of a (count p a) c) v) in
     let more : length held ≤ length (held ++ take (gives_of a (count p a) c) v) = omega (arith, length-append held (take (gives_of a (count p a) c) v)) in
     record {
       fits = elim (eqb_tells c.from a) [
-        | inl e ↦ let old : length held + gives_of a (count p a) c ≤ c.capacity = subst (λ (b : ℕ). length held + gives_of b (count p b) c ≤ c.capacity) e.1 (r.fetched (ap (stage p) e.1 ∙ was)) in omega arith
+        | inl e ↦ let old : length held + gives_of a (count p a) c ≤ c.capacity =
+            subst (λ (b : ℕ). length held + gives_of b (count p b) c ≤ c.capacity) e.1 (r.fetched (ap (stage p) e.1 ∙ was)) in omega arith
         | inr e ↦ let none = gives_none a (count p a) c e.1 in let old = r.fits in omega arith
       ];
       input = λ h. elim (stage_set p.stages a c.to Written Begun lt h) [
@@ -91,7 +85,8 @@ write_ready p a c held v lt was r =
       ];
     }
 
-pub finish_ready : (p : Present) (a n : ℕ) (c : Channel) (held : List ℤ) → a < length p.stages → IsReady p.counts p.stages c held → IsReady (set p.counts a n) (set p.stages a Idle) c held
+pub finish_ready : (p : Present) (a n : ℕ) (c : Channel) (held : List ℤ) → a < length p.stages → IsReady p.counts p.stages c held
+    → IsReady (set p.counts a n) (set p.stages a Idle) c held
 finish_ready p a n c held lt r = record {
   fits = r.fits;
   input = λ h. elim (stage_set p.stages a c.to Idle Begun lt h) [
@@ -100,7 +95,8 @@ finish_ready p a n c held lt r = record {
   ];
   begun = λ h. elim (stage_set p.stages a c.from Idle Begun lt h) [
     | inl e ↦ let bad = e.1 in absurd (cc)
-    | inr e ↦ subst (λ (k : ℕ). length held - takes_of c.from k c + gives_of c.from k c ≤ c.capacity) (sym (get_or-set_other p.counts a c.from n 0 e.0)) (r.begun e.1)
+    | inr e ↦ subst (λ (k : ℕ). length held - takes_of c.from k c + gives_of c.from k c ≤ c.capacity) (sym (get_or-set_other p.counts a c.from n 0 e.0))
+        (r.begun e.1)
   ];
   fetched = λ h. elim (stage_set p.stages a c.from Idle Fetched lt h) [
     | inl e ↦ let bad = e.1 in absurd (cc)
@@ -109,7 +105,8 @@ finish_ready p a n c held lt r = record {
 }
 
 -- the tokens of a begun firing are there
-pub are_there : (p : Present) (a : ℕ) (cs : List Channel) (ts : List (List ℤ)) → stage p a ≡ Begun → AllByRecursion (λ (row : Row). IsReady p.counts p.stages row.0 row.1) (zip cs ts) → AreThere a (count p a) cs ts
+pub are_there : (p : Present) (a : ℕ) (cs : List Channel) (ts : List (List ℤ)) → stage p a ≡ Begun
+    → AllByRecursion (λ (row : Row). IsReady p.counts p.stages row.0 row.1) (zip cs ts) → AreThere a (count p a) cs ts
 are_there p a [] ts was r = tt
 are_there p a (c ∷ cs) [] was r = tt
 are_there p a (c ∷ cs) (t ∷ ts) was r = (
@@ -121,7 +118,8 @@ are_there p a (c ∷ cs) (t ∷ ts) was r = (
 )
 
 -- there is room for the tokens of a firing that has read
-pub have_room : (p : Present) (a : ℕ) (cs : List Channel) (ts : List (List ℤ)) → stage p a ≡ Fetched → AllByRecursion (λ (row : Row). IsReady p.counts p.stages row.0 row.1) (zip cs ts) → HaveRoom a (count p a) cs ts
+pub have_room : (p : Present) (a : ℕ) (cs : List Channel) (ts : List (List ℤ)) → stage p a ≡ Fetched
+    → AllByRecursion (λ (row : Row). IsReady p.counts p.stages row.0 row.1) (zip cs ts) → HaveRoom a (count p a) cs ts
 have_room p a [] ts was r = tt
 have_room p a (c ∷ cs) [] was r = tt
 have_room p a (c ∷ cs) (t ∷ ts) was r = (
@@ -136,7 +134,8 @@ abbrev pub AreReady : List ℕ → List Stage → List Channel → List (List �
 AreReady counts stages cs ts = AllByRecursion (λ (row : Row). IsReady counts stages row.0 row.1) (zip cs ts)
 
 pub begin_all : (p : Present) (a : ℕ) (cs : List Channel) (ts : List (List ℤ)) → a < length p.stages
-    → AllByRecursion (λ (row : Row). is_short a (count p a) row ≡ false) (zip cs ts) → AllByRecursion (λ (row : Row). is_full a (count p a) row ≡ false) (zip cs ts)
+    → AllByRecursion (λ (row : Row). is_short a (count p a) row ≡ false) (zip cs ts)
+    → AllByRecursion (λ (row : Row). is_full a (count p a) row ≡ false) (zip cs ts)
     → AreReady p.counts p.stages cs ts → AreReady p.counts (set p.stages a Begun) cs ts
 begin_all p a [] ts lt enough room r = tt
 begin_all p a (c ∷ cs) [] lt enough room r = tt

@@ -1,9 +1,8 @@
 -- What a core keeps of its setup can be played.
-use Rattle.std.proofs.Common.{◌≡◌, ℕ, suc, ◌+◌, ◌*◌, ◌<◌, ◌≤◌, List, [], ◌∷◌, ◌++◌, length, map, refl, ap, ◌∙◌, sym, arith, Option, Some, None}
+use Rattle.std.proofs.Common.{◌≡◌, ℕ, suc, ◌*◌, ◌<◌, ◌≤◌, List, [], ◌∷◌, length, map, refl, ◌∙◌, sym, arith, Option, Some, None}
 use Rattle.std.specs.Prelude.{All, sum, sum_by, unwrap_or, IfSome}
-use Rattle.std.specs.List.{zip, range_with_len, AllByRecursion}
-use Rattle.std.proofs.lemmas.List.{length-map, map-append}
-use Rattle.std.proofs.lemmas.List.FromFn.{map-range_with_len_more}
+use Rattle.std.specs.List.{zip, AllByRecursion}
+use Rattle.std.proofs.lemmas.List.{length-map}
 use Rattle.std.proofs.lemmas.List.Sums.{sum_by-cons, sum_by-le}
 use Rattle.std.proofs.lemmas.List.Elements.{recursion_from_All}
 use Rattle.csdf_graph.specs.Graph as graph
@@ -11,21 +10,16 @@ use Rattle.csdf_graph.specs.Graph.{Graph, inputs_of, outputs_of}
 use Rattle.csdf_graph.specs.WellFormed.{IsChannel, IsCells, initial_total}
 use Rattle.csdf_analysis.specs.Period.{HoldInitial}
 use Rattle.csdf_analysis.specs.Acceptance.{Accepted, IsAccepted, cells_of}
-use Rattle.csdf_graph.specs.declared.ports.Ports.{Ports}
 use Rattle.csdf_core.specs.Plan.{Channel}
 use Rattle.csdf_core.specs.Playable.{IsPlayable}
 use Rattle.csdf_core.specs.Layout.{with_capacity, is_source_kernel, plan_for, IsLaidOut}
 use Rattle.csdf_core.proofs.LayoutLemmas.{length-capacities}
 
--- one more actor's channels at the end
-pub gathered_more : {X : Type 0} (f : X → List ℕ) (h : ℕ → List ℕ) (items : List X) (x : X) (n : ℕ) → map f items ≡ map h (range_with_len 0 n) → f x ≡ h n → map f (items ++ x ∷ []) ≡ map h (range_with_len 0 (n + 1))
-gathered_more f h items x n same is =
-    map-append f items (x ∷ []) ∙ ap (λ l. l ++ f x ∷ []) same ∙ ap (λ y. map h (range_with_len 0 n) ++ y ∷ []) is ∙ sym (map-range_with_len_more h 0 n n (let e : 0 + n ≡ n = omega arith in e))
-
 -- each channel beside its capacity, which has room for the initial tokens, and the capacities add up to more than these
 module _ (n : ℕ) (actors : List graph.Actor) (e : n ≡ length actors) where
   rows : (gs : List graph.Channel) (caps : List ℕ) → length caps ≡ length gs → AllByRecursion (IsChannel actors) gs → HoldInitial gs caps
-      → AllByRecursion (λ (c : Channel). length c.initial ≤ c.capacity) (map with_capacity (zip gs caps)) × AllByRecursion (λ (c : Channel). (c.from < n) × (c.to < n)) (map with_capacity (zip gs caps))
+      → AllByRecursion (λ (c : Channel). length c.initial ≤ c.capacity) (map with_capacity (zip gs caps))
+      × AllByRecursion (λ (c : Channel). (c.from < n) × (c.to < n)) (map with_capacity (zip gs caps))
   rows [] caps len is hold = (tt, tt)
   rows (g ∷ gs) [] len is hold = absurd (omega arith)
   rows (g ∷ gs) (b ∷ caps) len is hold =
@@ -34,19 +28,31 @@ module _ (n : ℕ) (actors : List graph.Actor) (e : n ≡ length actors) where
       let to = is.0.to in
       ((hold 0 g refl, rest.0), ((omega arith, omega arith), rest.1))
 
-totals : (gs : List graph.Channel) (caps : List ℕ) → length caps ≡ length gs → sum_by (λ (c : Channel). length c.initial) (map with_capacity (zip gs caps)) ≡ initial_total gs
+totals : (gs : List graph.Channel) (caps : List ℕ) → length caps ≡ length gs
+    → sum_by (λ (c : Channel). length c.initial) (map with_capacity (zip gs caps)) ≡ initial_total gs
 totals [] [] len = refl
 totals [] (b ∷ caps) len = absurd (omega arith)
 totals (g ∷ gs) [] len = absurd (omega arith)
 totals (g ∷ gs) (b ∷ caps) len =
-    omega (arith, sum_by-cons (λ (c : Channel). length c.initial) (with_capacity (g, b)) (map with_capacity (zip gs caps)), sum_by-cons (λ (c : graph.Channel). length c.initial) g gs, totals gs caps (omega arith))
+    omega (
+      arith,
+      sum_by-cons (λ (c : Channel). length c.initial) (with_capacity (g, b)) (map with_capacity (zip gs caps)),
+      sum_by-cons (λ (c : graph.Channel). length c.initial) g gs,
+      totals gs caps (omega arith),
+    )
 
 totals_fit : (gs : List graph.Channel) (caps : List ℕ) → length caps ≡ length gs → HoldInitial gs caps → initial_total gs ≤ sum caps
 totals_fit [] caps len hold = omega arith
 totals_fit (g ∷ gs) [] len hold = absurd (omega arith)
 totals_fit (g ∷ gs) (b ∷ caps) len hold =
     let here = hold 0 g refl in
-    omega (arith, sum_by-cons (λ (c : graph.Channel). length c.initial) g gs, sum_by-cons (λ k. k) b caps, here, totals_fit gs caps (omega arith) (λ i c at. hold (suc i) c at))
+    omega (
+      arith,
+      sum_by-cons (λ (c : graph.Channel). length c.initial) g gs,
+      sum_by-cons (λ k. k) b caps,
+      here,
+      totals_fit gs caps (omega arith) (λ i c at. hold (suc i) c at),
+    )
 
 cells_enough : (a : Accepted) → IsAccepted a → IsCells a.graph.channels (cells_of a)
 cells_enough a h = by a.graph.cells h.well_formed.fitting.cells
@@ -62,12 +68,15 @@ cells_enough a h = by a.graph.cells h.well_formed.fitting.cells
           omega arith;
     }
 
-pub playable_setup : (a : Accepted) (limits supplies : List ℕ) (firings : Option ℕ) → IsAccepted a → length limits ≡ length a.graph.actors → All (λ n. n ≤ 16384000) limits → IsPlayable (plan_for a limits supplies firings)
+pub playable_setup : (a : Accepted) (limits supplies : List ℕ) (firings : Option ℕ) → IsAccepted a → length limits ≡ length a.graph.actors
+    → All (λ n. n ≤ 16384000) limits → IsPlayable (plan_for a limits supplies firings)
 playable_setup a limits supplies firings h counted few =
     let g : Graph = a.graph in
-    let len : length (map (λ (d : graph.Actor). is_source_kernel d.kernel) g.actors) ≡ length g.actors = length-map g.actors (λ (d : graph.Actor). is_source_kernel d.kernel) in
+    let len : length (map (λ (d : graph.Actor). is_source_kernel d.kernel) g.actors) ≡ length g.actors =
+    length-map g.actors (λ (d : graph.Actor). is_source_kernel d.kernel) in
     let each = h.least.completes.each_channel in
-    let both = rows (length (map (λ (d : graph.Actor). is_source_kernel d.kernel) g.actors)) g.actors len g.channels a.capacities each (recursion_from_All (IsChannel g.actors) g.channels h.well_formed.fitting.channels) h.least.completes.initial in
+    let both = rows (length (map (λ (d : graph.Actor). is_source_kernel d.kernel) g.actors)) g.actors len g.channels a.capacities each
+    (recursion_from_All (IsChannel g.actors) g.channels h.well_formed.fitting.channels) h.least.completes.initial in
     let cells = cells_enough a h in
     let few_actors = h.well_formed.fitting.few_actors in
     let few_channels = h.well_formed.fitting.few_channels in
@@ -83,15 +92,12 @@ playable_setup a limits supplies firings h counted few =
       few_firings = few;
     }
 
-pub laid_out : (a : Accepted) (limits supplies : List ℕ) (firings : Option ℕ) (ports : List Ports) → IsAccepted a
+pub laid_out : (a : Accepted) (limits supplies : List ℕ) (firings : Option ℕ) → IsAccepted a
     → length limits ≡ length a.graph.actors → length supplies ≡ length a.graph.actors → All (λ n. n ≤ 16384000) limits
-    → map (λ (p : Ports). p.inputs.items) ports ≡ map (inputs_of a.graph.channels) (range_with_len 0 (length a.graph.actors)) → map (λ (p : Ports). p.outputs.items) ports ≡ map (outputs_of a.graph.channels) (range_with_len 0 (length a.graph.actors))
-    → IsLaidOut a.graph a.capacities limits supplies firings (cells_of a) ports
-laid_out a limits supplies firings ports h limited supplied few inputs outputs = record {
+    → IsLaidOut a.graph a.capacities limits supplies firings (cells_of a)
+laid_out a limits supplies firings h limited supplied few = record {
   well_formed = h.well_formed;
   roomy = h.least.completes.each_channel;
   supplied = supplied;
-  inputs = inputs;
-  outputs = outputs;
   playable = playable_setup a limits supplies firings h limited few;
 }

@@ -1,5 +1,6 @@
 -- A core stays sound at each accepted move.
-use Rattle.std.proofs.Common.{◌≡◌, ℕ, zero, suc, ◌+◌, ◌-◌, ◌*◌, ◌<◌, ◌≤◌, List, [], ◌∷◌, inl, inr, length, get_or, set, drop, ap, subst, ◌∙◌, sym, arith, None, cond}
+use Rattle.std.proofs.Common.{◌≡◌, ℕ, zero, suc, ◌+◌, ◌-◌, ◌*◌, ◌<◌, ◌≤◌, List, [], ◌∷◌, inl, inr, length, get_or, set, drop, ap, subst, ◌∙◌, sym, arith, None}
+use Rattle.std.proofs.Common.{cond}
 use Rattle.std.specs.Prelude.{ℤ, slice_index, sum, sum_by, count_by, not, All}
 use Rattle.std.proofs.lemmas.List.{get_or-set_other, get_or-set_same, get_or_default, length-set, length-drop}
 use Rattle.std.proofs.lemmas.List.Sums.{sum_by-cons, sum_by-le}
@@ -16,7 +17,7 @@ use Rattle.csdf_core.specs.Shows.{ArePeaks, raised, AreSharedOut}
 use Rattle.csdf_core.specs.Sound.{IsSound}
 use Rattle.csdf_core.proofs.Kept.{begins, reads, writes, finishes}
 use Rattle.csdf_core.proofs.Totals.{given-suc}
-use Rattle.csdf_core.proofs.Next.{begun, fetched, written, finished, closed}
+use Rattle.csdf_core.specs.Next.{begun, fetched, written, finished, closed}
 use Rattle.csdf_core.proofs.RoomLemmas.{reserved_begun, reserved_fetched, reserved_written, reserved_finished}
 use Rattle.csdf_core.proofs.FitLemmas.{fit_begun, fit_fetched, fit_written, fit_finished, fit_closed}
 use Rattle.csdf_core.proofs.Follows.{raised_are, length-raised}
@@ -34,7 +35,8 @@ abbrev at_work : Stage → ℕ
 at_work s = cond (not (is_stage s Idle)) 1 0
 
 -- the firings that were begun, where the stage of one actor changes
-busy_set : (p : Present) (a : ℕ) (x y : Stage) → a < length p.stages → stage p a ≡ y → count_by (λ s. not (is_stage s Idle)) (set p.stages a x) + at_work y ≡ count_by (λ s. not (is_stage s Idle)) p.stages + at_work x
+busy_set : (p : Present) (a : ℕ) (x y : Stage) → a < length p.stages → stage p a ≡ y
+    → count_by (λ s. not (is_stage s Idle)) (set p.stages a x) + at_work y ≡ count_by (λ s. not (is_stage s Idle)) p.stages + at_work x
 busy_set p a x y lt at = ap (λ s. count_by (λ t. not (is_stage t Idle)) (set p.stages a x) + at_work s) (sym at) ∙ sum_set at_work p.stages a x Idle lt
 
 high_left : (a k : ℕ) (cs : List Channel) (peaks : List ℕ) (ts : List (List ℤ)) → length ts ≡ length cs → ArePeaks peaks ts → ArePeaks peaks (left a k cs ts)
@@ -42,7 +44,10 @@ high_left a k [] peaks [] len h = h
 high_left a k [] peaks (t ∷ ts) len h = absurd (omega arith)
 high_left a k (c ∷ cs) peaks [] len h = absurd (omega arith)
 high_left a k (c ∷ cs) [] (t ∷ ts) len h = tt
-high_left a k (c ∷ cs) (p ∷ peaks) (t ∷ ts) len h = ((let e = length-drop (takes_of a k c) t in let g = h.0 in let r : length (drop (takes_of a k c) t) ≤ p = omega arith in r), high_left a k cs peaks ts (omega arith) h.1)
+high_left a k (c ∷ cs) (p ∷ peaks) (t ∷ ts) len h = (
+  (let e = length-drop (takes_of a k c) t in let g = h.0 in let r : length (drop (takes_of a k c) t) ≤ p = omega arith in r),
+  high_left a k cs peaks ts (omega arith) h.1,
+)
 
 module _ (plan : Plan) (p : Present) (peaks sums : List ℕ) (started kept : ℕ) (pool : Shared) where
   pub sound_begun : (a started' kept' : ℕ) → IsSound plan p peaks sums started kept pool → refusal plan p (Begin a) ≡ None → started' ≡ started + 1
@@ -90,7 +95,8 @@ module _ (plan : Plan) (p : Present) (peaks sums : List ℕ) (started kept : ℕ
         keeps = omega (arith, more, room, s.keeps);
       }
 
-  pub sound_written : (a kept' : ℕ) (v : List ℤ) (peaks' : List ℕ) (pool' : Shared) → IsSound plan p peaks sums started kept pool → first_of (write_table plan p a v) ≡ None
+  pub sound_written : (a kept' : ℕ) (v : List ℤ) (peaks' : List ℕ) (pool' : Shared) → IsSound plan p peaks sums started kept pool
+      → first_of (write_table plan p a v) ≡ None
       → kept' + gift a (count p a) plan.channels ≡ kept → peaks' ≡ raised peaks (written plan p a v).tokens
       → length pool'.chains ≡ length pool.chains → AreSharedOut plan pool' → IsSound plan (written plan p a v) peaks' sums started kept' pool'
   sound_written a kept' v peaks' pool' s none more raise chains cells =
@@ -115,7 +121,8 @@ module _ (plan : Plan) (p : Present) (peaks sums : List ℕ) (started kept : ℕ
       }
 
   pub sound_finished : (a total : ℕ) → IsSound plan p peaks sums started kept pool → refusal plan p (Finish a) ≡ None
-      → total ≡ slice_index sums a + gift a (count p a) plan.channels → gift a (count p a) plan.channels ≤ 8192 → IsSound plan (finished p a) peaks (set sums a total) started kept pool
+      → total ≡ slice_index sums a + gift a (count p a) plan.channels → gift a (count p a) plan.channels ≤ 8192
+      → IsSound plan (finished p a) peaks (set sums a total) started kept pool
   sound_finished a total s none is few =
       let w = finishes plan p a none in
       let lt : a < length p.stages = let there = w.there in let staged = s.fit.staged in omega arith in
@@ -133,25 +140,30 @@ module _ (plan : Plan) (p : Present) (peaks sums : List ℕ) (started kept : ℕ
         chained = s.chained;
         cells = s.cells;
         within = λ b. elim (eqb_tells b a) [
-          | inl e ↦ subst (λ c. get_or (set p.counts a (suc (count p a))) c 0 ≤ slice_index plan.limits c) (sym e.1) (let x = get_or-set_same p.counts a (suc (count p a)) 0 lt' in omega arith)
+          | inl e ↦ subst (λ c. get_or (set p.counts a (suc (count p a))) c 0 ≤ slice_index plan.limits c) (sym e.1)
+              (let x = get_or-set_same p.counts a (suc (count p a)) 0 lt' in omega arith)
           | inr e ↦ (let x = get_or-set_other p.counts a b (suc (count p a)) 0 e.1 in let y = s.within b in omega arith)
         ];
         tallied = length-set sums a total ∙ s.tallied;
         summed = λ b lb. elim (eqb_tells b a) [
           | inl e ↦ subst (λ (c : ℕ). get_or (set sums a total) c 0 ≡ given plan c (get_or (set p.counts a (suc (count p a))) c 0)) (sym e.1)
-              (get_or-set_same sums a total 0 lt'' ∙ is ∙ ap (λ x. x + gift a (count p a) plan.channels) (s.summed a w.there) ∙ sym (given-suc plan a (count p a)) ∙ ap (given plan a) (sym (get_or-set_same p.counts a (suc (count p a)) 0 lt')))
+              (get_or-set_same sums a total 0 lt'' ∙ is ∙ ap (λ x. x + gift a (count p a) plan.channels) (s.summed a w.there)
+              ∙ sym (given-suc plan a (count p a)) ∙ ap (given plan a) (sym (get_or-set_same p.counts a (suc (count p a)) 0 lt')))
           | inr e ↦ get_or-set_other sums a b total 0 e.1 ∙ s.summed b lb ∙ ap (given plan b) (sym (get_or-set_other p.counts a b (suc (count p a)) 0 e.1))
         ];
         small = λ b lb. elim (eqb_tells b a) [
           | inl e ↦ subst (λ (c : ℕ). get_or (set sums a total) c 0 ≤ 8192 * get_or (set p.counts a (suc (count p a))) c 0) (sym e.1)
-              (let old = s.small a w.there in let x = get_or-set_same sums a total 0 lt'' in let y = get_or-set_same p.counts a (suc (count p a)) 0 lt' in omega arith)
-          | inr e ↦ let old = s.small b lb in let x = get_or-set_other sums a b total 0 e.1 in let y = get_or-set_other p.counts a b (suc (count p a)) 0 e.1 in omega arith
+              (let old = s.small a w.there in let x = get_or-set_same sums a total 0 lt'' in let y = get_or-set_same p.counts a (suc (count p a)) 0 lt' in
+              omega arith)
+          | inr e ↦ let old = s.small b lb in let x = get_or-set_other sums a b total 0 e.1 in let y = get_or-set_other p.counts a b (suc (count p a)) 0 e.1 in
+              omega arith
         ];
         starts = omega (arith, busy, more, s.starts);
         keeps = s.keeps ∙ sym room;
       }
 
-  pub sound_closed : (c : ℕ) → IsSound plan p peaks sums started kept pool → refusal plan p (Close c) ≡ None → IsSound plan (closed p c) peaks sums started kept pool
+  pub sound_closed : (c : ℕ) → IsSound plan p peaks sums started kept pool → refusal plan p (Close c) ≡ None
+      → IsSound plan (closed p c) peaks sums started kept pool
   sound_closed c s none = record {
     fit = fit_closed plan p c s.fit none;
     playable = s.playable;
@@ -177,7 +189,8 @@ module _ (plan : Plan) (p : Present) (peaks sums : List ℕ) (started kept : ℕ
       omega arith
       ) in
       let counts : sum p.counts ≤ length p.counts * 16384000 = sum_by-le (λ n. n) 16384000 p.counts small in
-      let busy : count_by (λ t. not (is_stage t Idle)) p.stages ≤ length p.stages * 1 = sum_by-le at_work 1 p.stages (λ k d lt. at_most_one (get_or p.stages k d)) in
+      let busy : count_by (λ t. not (is_stage t Idle)) p.stages ≤ length p.stages * 1 =
+      sum_by-le at_work 1 p.stages (λ k d lt. at_most_one (get_or p.stages k d)) in
       omega (arith, counts, busy, s.starts, s.fit.counted, s.fit.staged, s.playable.few_actors)
     where
       limit_at : (k : ℕ) → k < length plan.limits → IsSound plan p peaks sums started kept pool → slice_index plan.limits k ≤ 16384000

@@ -18,7 +18,8 @@ IsFed put a k c = c.to ≡ a → total c.consume (suc k) ≤ length c.initial + 
 
 module _ (put got begun put2 got2 begun2 : ℕ → ℕ) where
   -- all counts as before
-  pub tallied_same : (cs : List Channel) (sts : List Stream) → ((b : ℕ) → put2 b ≡ put b) → ((b : ℕ) → got2 b ≡ got b) → ((b : ℕ) → begun2 b ≡ begun b) → AreTallied put got begun cs sts → AreTallied put2 got2 begun2 cs sts
+  pub tallied_same : (cs : List Channel) (sts : List Stream) → ((b : ℕ) → put2 b ≡ put b) → ((b : ℕ) → got2 b ≡ got b) → ((b : ℕ) → begun2 b ≡ begun b)
+      → AreTallied put got begun cs sts → AreTallied put2 got2 begun2 cs sts
   tallied_same [] sts p g b t = tt
   tallied_same (c ∷ cs) [] p g b t = tt
   tallied_same (c ∷ cs) (st ∷ sts) p g b t = (
@@ -31,7 +32,8 @@ module _ (put got begun put2 got2 begun2 : ℕ → ℕ) where
   )
 
   -- actor a begins firing k
-  pub tallied_begun : (a k : ℕ) (cs : List Channel) (sts : List Stream) → ((b : ℕ) → put2 b ≡ put b) → ((b : ℕ) → got2 b ≡ got b) → ((b : ℕ) → b ≢ a → begun2 b ≡ begun b) → begun2 a ≡ suc k
+  pub tallied_begun : (a k : ℕ) (cs : List Channel) (sts : List Stream) → ((b : ℕ) → put2 b ≡ put b) → ((b : ℕ) → got2 b ≡ got b)
+      → ((b : ℕ) → b ≢ a → begun2 b ≡ begun b) → begun2 a ≡ suc k
       → AllByRecursion (IsFed put a k) cs → AreTallied put got begun cs sts → AreTallied put2 got2 begun2 cs sts
   tallied_begun a k [] sts p g other own fed t = tt
   tallied_begun a k (c ∷ cs) [] p g other own fed t = tt
@@ -48,7 +50,8 @@ module _ (put got begun put2 got2 begun2 : ℕ → ℕ) where
   )
 
   -- it reads
-  pub tallied_read : (a k : ℕ) (cs : List Channel) (sts : List Stream) → ((b : ℕ) → put2 b ≡ put b) → ((b : ℕ) → b ≢ a → got2 b ≡ got b) → got a ≡ k → got2 a ≡ suc k → ((b : ℕ) → begun2 b ≡ begun b)
+  pub tallied_read : (a k : ℕ) (cs : List Channel) (sts : List Stream) → ((b : ℕ) → put2 b ≡ put b) → ((b : ℕ) → b ≢ a → got2 b ≡ got b) → got a ≡ k
+      → got2 a ≡ suc k → ((b : ℕ) → begun2 b ≡ begun b)
       → AreTallied put got begun cs sts → AreTallied put2 got2 begun2 cs (drained a k cs sts)
   tallied_read a k [] sts p other was own b t = tt
   tallied_read a k (c ∷ cs) [] p other was own b t = tt
@@ -74,7 +77,8 @@ module _ (put got begun put2 got2 begun2 : ℕ → ℕ) where
   )
 
   -- it writes
-  pub tallied_written : (a k : ℕ) (v : List ℤ) (cs : List Channel) (sts : List Stream) → length sts ≡ length cs → length v ≡ gift a k cs → ((b : ℕ) → b ≢ a → put2 b ≡ put b) → put a ≡ k → put2 a ≡ suc k → ((b : ℕ) → got2 b ≡ got b) → ((b : ℕ) → begun2 b ≡ begun b)
+  pub tallied_written : (a k : ℕ) (v : List ℤ) (cs : List Channel) (sts : List Stream) → length sts ≡ length cs → length v ≡ gift a k cs
+      → ((b : ℕ) → b ≢ a → put2 b ≡ put b) → put a ≡ k → put2 a ≡ suc k → ((b : ℕ) → got2 b ≡ got b) → ((b : ℕ) → begun2 b ≡ begun b)
       → AreTallied put got begun cs sts → AreTallied put2 got2 begun2 cs (filled sts (shares a k cs v))
   tallied_written a k v [] sts len whole other was own g b t = tt
   tallied_written a k v (c ∷ cs) [] len whole other was own g b t = tt
@@ -87,7 +91,8 @@ module _ (put got begun put2 got2 begun2 : ℕ → ℕ) where
         record {
           written = elim (eqb_tells c.from a) [
             | inl e ↦
-                let before : length st.written ≡ length c.initial + total c.produce k = t.0.written ∙ ap (λ m. length c.initial + total c.produce m) (ap put e.1 ∙ was) in
+                let before : length st.written ≡ length c.initial + total c.produce k = t.0.written
+                ∙ ap (λ m. length c.initial + total c.produce m) (ap put e.1 ∙ was) in
                 let now : total c.produce (put2 c.from) ≡ total c.produce (suc k) = ap (total c.produce) (ap put2 e.1 ∙ own) in
                 let last : total c.produce (suc k) ≡ total c.produce k + rate c.produce k = refl in
                 let gives = gives_own a k c e.1 in
@@ -99,7 +104,8 @@ module _ (put got begun put2 got2 begun2 : ℕ → ℕ) where
                 omega arith
           ];
           taken = t.0.taken ∙ ap (total c.consume) (sym (g c.to));
-          covered = (let now : total c.consume (begun2 c.to) ≡ total c.consume (begun c.to) = ap (total c.consume) (b c.to) in let before = t.0.covered in omega arith);
+          covered = (let now : total c.consume (begun2 c.to) ≡ total c.consume (begun c.to) = ap (total c.consume) (b c.to) in let before = t.0.covered in
+              omega arith);
         },
         tallied_written a k (drop n v) cs sts (omega arith) left other was own g b t.1,
       )

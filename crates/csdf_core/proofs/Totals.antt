@@ -31,7 +31,8 @@ unfolding given
 given-suc plan a k = given_from a k plan.channels
 
 -- whether a source is dry, by the sums that the core keeps
-pub dry_is : (plan : Plan) (a k supply sum gives : ℕ) → is_source plan a ≡ true → supply ≡ slice_index plan.supplies a → sum ≡ given plan a k → gives ≡ gift a k plan.channels
+pub dry_is : (plan : Plan) (a k supply sum gives : ℕ) → is_source plan a ≡ true → supply ≡ slice_index plan.supplies a → sum ≡ given plan a k
+    → gives ≡ gift a k plan.channels
     → nat_lt supply (sum + gives) ≡ (is_source plan a && nat_lt (slice_index plan.supplies a) (given plan a (suc k)))
 dry_is plan a k supply sum gives src s e g =
     let t : sum + gives ≡ given plan a (suc k) = ap (λ x. x + gives) e ∙ ap (λ x. given plan a k + x) g ∙ sym (given-suc plan a k) in

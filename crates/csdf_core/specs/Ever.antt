@@ -1,5 +1,6 @@
 -- A period of an accepted graph, played on a core over and over.
-use Rattle.std.specs.Prelude.{ℕ, zero, suc, ◌≡◌, ◌≤◌, ◌<◌, ◌*◌, ◌%◌, List, [], ◌∷◌, ◌++◌, ℤ, Option, None, IfSome, true, length, take, replicate, slice_index, sum}
+use Rattle.std.specs.Prelude.{ℕ, zero, suc, ◌≡◌, ◌≤◌, ◌<◌, ◌*◌, ◌%◌, List, [], ◌∷◌, ◌++◌, ℤ, Option, None, IfSome, true, length, take, replicate, slice_index}
+use Rattle.std.specs.Prelude.{sum}
 use Rattle.std.specs.List.{AllByRecursion}
 use Rattle.csdf_analysis.specs.Acceptance.{Accepted, IsAccepted}
 use Rattle.csdf_analysis.specs.Period.{fired, IsSchedule, counts_after, no_firings, IsScheduleOf}
@@ -97,7 +98,8 @@ HasPeriod = (a : Accepted) → IsAccepted a → (schedule : List ℕ) × IsPerio
 
 -- a graph that gives no number of cells has enough
 abbrev pub AmpleByDefault : Type 0
-AmpleByDefault = (a : Accepted) (limits supplies : List ℕ) (firings : Option ℕ) → IsAccepted a → a.graph.cells ≡ None → HasAmpleCells (plan_for a limits supplies firings)
+AmpleByDefault = (a : Accepted) (limits supplies : List ℕ) (firings : Option ℕ) → IsAccepted a → a.graph.cells ≡ None
+    → HasAmpleCells (plan_for a limits supplies firings)
 
 -- the whole firings of these actors, where firing k of actor a writes `tokens a k`
 abbrev pub whole_firings : (ℕ → ℕ → List ℤ) → List ℕ → List ℕ → List Move
@@ -106,7 +108,8 @@ whole_firings tokens n (a ∷ actors) = Begin a ∷ Read a ∷ Write a (tokens a
 
 -- such moves there are, whatever tokens are written
 abbrev pub HasFirings : Type 0
-HasFirings = (plan : Plan) (tokens : ℕ → ℕ → List ℤ) (n actors : List ℕ) → ((a k : ℕ) → length (tokens a k) ≡ gift a k plan.channels) → AreFirings plan n actors (whole_firings tokens n actors)
+HasFirings = (plan : Plan) (tokens : ℕ → ℕ → List ℤ) (n actors : List ℕ) → ((a k : ℕ) → length (tokens a k) ≡ gift a k plan.channels)
+    → AreFirings plan n actors (whole_firings tokens n actors)
 
 -- the phases are as at first
 abbrev pub PhasesReturn : Type 0

@@ -18,7 +18,8 @@ KeepsOrder plan moves replies =
 abbrev pub KeepsCapacities : Plan → List Move → List Reply → Type 0
 KeepsCapacities plan moves replies =
     (c n : ℕ)
-    → length (initial plan c) + length (written_to plan c (take n moves) (take n replies)) ≤ capacity_of plan c + length (tokens_taken plan c (take n moves) (take n replies))
+    → length (initial plan c) + length (written_to plan c (take n moves) (take n replies))
+    ≤ capacity_of plan c + length (tokens_taken plan c (take n moves) (take n replies))
 
 -- where an accepted close of a channel stands in a front of the moves, nothing is written to it after that front
 abbrev pub KeepsClosed : Plan → List Move → List Reply → Type 0

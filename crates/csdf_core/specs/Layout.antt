@@ -1,13 +1,12 @@
 -- What a core keeps of its setup, and what it plays by it.
 use Rattle.std.specs.Prelude.{◌≡◌, ℕ, Bool, true, false, List, Option, length, map}
-use Rattle.std.specs.List.{zip, range_with_len}
+use Rattle.std.specs.List.{zip}
 use Rattle.csdf_graph.specs.declared.graph.Kernel.{Kernel}
 use Rattle.csdf_graph.specs.declared.graph.Kernel.TheVariants as kernel
 use Rattle.csdf_graph.specs.Graph as graph
-use Rattle.csdf_graph.specs.Graph.{Graph, inputs_of, outputs_of}
+use Rattle.csdf_graph.specs.Graph.{Graph}
 use Rattle.csdf_graph.specs.WellFormed.{IsWellFormed}
 use Rattle.csdf_analysis.specs.Acceptance.{Accepted, cells_of}
-use Rattle.csdf_graph.specs.declared.ports.Ports.{Ports}
 use Rattle.csdf_core.specs.Plan.{Channel, Plan}
 use Rattle.csdf_core.specs.Playable.{IsPlayable}
 
@@ -44,10 +43,8 @@ abbrev pub plan_for : Accepted → List ℕ → List ℕ → Option ℕ → Plan
 plan_for a limits supplies firings = plan_of a.graph a.capacities limits supplies firings (cells_of a)
 
 -- the facts that a layout keeps
-pub record IsLaidOut (g : Graph) (capacities limits supplies : List ℕ) (firings : Option ℕ) (cells : ℕ) (ports : List Ports) : Type 0 where
+pub record IsLaidOut (g : Graph) (capacities limits supplies : List ℕ) (firings : Option ℕ) (cells : ℕ) : Type 0 where
   pub well_formed : IsWellFormed g
   pub roomy : length capacities ≡ length g.channels
   pub supplied : length supplies ≡ length g.actors
-  pub inputs : map (λ (p : Ports). p.inputs.items) ports ≡ map (inputs_of g.channels) (range_with_len 0 (length g.actors))
-  pub outputs : map (λ (p : Ports). p.outputs.items) ports ≡ map (outputs_of g.channels) (range_with_len 0 (length g.actors))
   pub playable : IsPlayable (plan_of g capacities limits supplies firings cells)

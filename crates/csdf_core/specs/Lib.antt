@@ -4,6 +4,7 @@ pub mod State
 pub mod Rows
 pub mod Step
 pub mod Ready
+pub mod Next
 pub mod Shows
 pub mod Streams
 pub mod Going

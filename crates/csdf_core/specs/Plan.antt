@@ -11,7 +11,8 @@ pub record Channel : Type 0 where
   pub initial : List ℤ
   pub capacity : ℕ
 
--- per actor whether it is a source, its greatest number of firings and the tokens in its file; the greatest number of firings of all actors, where there is one; and the number of cells that all channels share
+-- per actor whether it is a source, its greatest number of firings and the tokens in its file;
+-- the greatest number of firings of all actors, where there is one; and the number of cells that all channels share
 pub record Plan : Type 0 where
   pub sources : List Bool
   pub channels : List Channel

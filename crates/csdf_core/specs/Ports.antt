@@ -1,5 +1,6 @@
 -- What a firing does to its actor's own channels, one after another.
-use Rattle.std.specs.Prelude.{ℕ, ◌+◌, ◌-◌, ◌≤◌, ◌==◌, max, Bool, false, not, nat_lt, List, [], ◌∷◌, ◌++◌, ℤ, length, take, drop, map, slice_index, slice_index_or, slice_set}
+use Rattle.std.specs.Prelude.{ℕ, ◌+◌, ◌-◌, ◌≤◌, ◌==◌, max, Bool, false, not, nat_lt, List, [], ◌∷◌, ◌++◌, ℤ, length, take, drop, map, slice_index}
+use Rattle.std.specs.Prelude.{slice_index_or, slice_set}
 use Rattle.csdf_graph.specs.Graph.{numbers_from}
 use Rattle.csdf_graph.specs.Rates.{rate}
 use Rattle.csdf_pool.specs.Pool.{Shared, held_tokens}
@@ -31,12 +32,14 @@ takes_over amount (c ∷ numbers) tokens = takes_over amount numbers (slice_set 
 -- what they give up, in order
 abbrev pub taken_over : (ℕ → ℕ) → List ℕ → List (List ℤ) → List ℤ
 taken_over amount [] tokens = []
-taken_over amount (c ∷ numbers) tokens = take (amount c) (tokens_at tokens c) ++ taken_over amount numbers (slice_set tokens c (drop (amount c) (tokens_at tokens c)))
+taken_over amount (c ∷ numbers) tokens =
+    take (amount c) (tokens_at tokens c) ++ taken_over amount numbers (slice_set tokens c (drop (amount c) (tokens_at tokens c)))
 
 -- each has its amount
 abbrev pub EnoughOver : (ℕ → ℕ) → List ℕ → List (List ℤ) → Type 0
 EnoughOver amount [] tokens = Unit {0}
-EnoughOver amount (c ∷ numbers) tokens = (amount c ≤ length (tokens_at tokens c)) × EnoughOver amount numbers (slice_set tokens c (drop (amount c) (tokens_at tokens c)))
+EnoughOver amount (c ∷ numbers) tokens = (amount c ≤ length (tokens_at tokens c))
+    × EnoughOver amount numbers (slice_set tokens c (drop (amount c) (tokens_at tokens c)))
 
 -- each of the channels gets its amount of v at its end
 abbrev pub puts_over : (ℕ → ℕ) → List ℕ → List (List ℤ) → List ℤ → List (List ℤ)
@@ -67,4 +70,5 @@ own_take_at channels a k c = slice_index (map (takes_of a k) channels) c
 -- the channel would hold more than its capacity
 abbrev pub full_at : List Channel → ℕ → ℕ → List (List ℤ) → ℕ → Bool
 full_at channels a k tokens c =
-    nat_lt (slice_index (map (λ (channel : Channel). channel.capacity) channels) c) (length (tokens_at tokens c) - own_take_at channels a k c + give_at channels k c)
+    nat_lt (slice_index (map (λ (channel : Channel). channel.capacity) channels) c)
+    (length (tokens_at tokens c) - own_take_at channels a k c + give_at channels k c)

@@ -12,8 +12,11 @@ use Rattle.csdf_core.specs.Step.{count, stage, held, reserved}
 pub record IsReady (counts : List ℕ) (stages : List Stage) (channel : Channel) (tokens : List ℤ) : Type 0 where
   pub fits : length tokens ≤ channel.capacity
   pub input : slice_index_or stages channel.to Idle ≡ Begun → takes_of channel.to (slice_index counts channel.to) channel ≤ length tokens
-  pub begun : slice_index_or stages channel.from Idle ≡ Begun → length tokens - takes_of channel.from (slice_index counts channel.from) channel + gives_of channel.from (slice_index counts channel.from) channel ≤ channel.capacity
-  pub fetched : slice_index_or stages channel.from Idle ≡ Fetched → length tokens + gives_of channel.from (slice_index counts channel.from) channel ≤ channel.capacity
+  pub begun : slice_index_or stages channel.from Idle ≡ Begun
+      → length tokens - takes_of channel.from (slice_index counts channel.from) channel + gives_of channel.from (slice_index counts channel.from) channel
+      ≤ channel.capacity
+  pub fetched : slice_index_or stages channel.from Idle ≡ Fetched
+      → length tokens + gives_of channel.from (slice_index counts channel.from) channel ≤ channel.capacity
 
 abbrev pub AllReady : Plan → Present → Type 0
 AllReady plan p = AllByRecursion (λ (row : Row). IsReady p.counts p.stages row.0 row.1) (zip plan.channels p.tokens)
@@ -24,9 +27,14 @@ AreBelow plan p = (a : ℕ) → stage p a ≢ Idle → count p a < slice_index p
 
 -- a closed channel has no producer that is to write
 abbrev pub AreClosed : Plan → Present → Type 0
-AreClosed plan p = AllByRecursion (λ (row : Channel × Bool). row.1 ≡ false → (slice_index_or p.stages row.0.from Idle ≢ Begun) × (slice_index_or p.stages row.0.from Idle ≢ Fetched)) (zip plan.channels p.opens)
+AreClosed plan p =
+    AllByRecursion
+    (λ (row : Channel × Bool). row.1 ≡ false
+    → (slice_index_or p.stages row.0.from Idle ≢ Begun) × (slice_index_or p.stages row.0.from Idle ≢ Fetched))
+    (zip plan.channels p.opens)
 
--- one entry for each actor or channel, each channel ready, each actor at work below its limit, no closed channel about to be written, and no more cells held and reserved than there are
+-- one entry for each actor or channel, each channel ready, each actor at work below its limit, no closed channel about to be written,
+-- and no more cells held and reserved than there are
 pub record IsFit (plan : Plan) (p : Present) : Type 0 where
   pub counted : length p.counts ≡ length plan.sources
   pub staged : length p.stages ≡ length plan.sources

@@ -21,7 +21,8 @@ pub record AreSharedOut (plan : Plan) (pool : Shared) : Type 0 where
   pub size : pool.size ≡ plan.cells
   pub partition : IsPartition pool
 
--- the counts, stages and open marks of the core are those of the state, the tokens of each chain are those that wait in its channel, and the cells are shared out
+-- the counts, stages and open marks of the core are those of the state, the tokens of each chain are those that wait in its channel,
+-- and the cells are shared out
 pub record Shows (core : View) (s : State) : Type 0 where
   pub same : core.now ≡ present s
   pub lawful : IsLawful s
@@ -41,7 +42,8 @@ abbrev pub as_reply : {T : Type 0} → (T → List ℤ) → Result T Refusal →
 as_reply f (Ok x) = Ok (f x)
 as_reply f (Err refusal) = Err refusal
 
--- from old to new, for each state that the old core shows, the move was answered as the step says, and the new core shows the step's next state; its cells are shared out
+-- from old to new, for each state that the old core shows, the move was answered as the step says, and the new core shows the step's next state;
+-- its cells are shared out
 pub record Follows (old new : View) (m : Move) (answered : Reply) : Type 0 where
   pub plan : new.plan ≡ old.plan
   pub reply_is : (s : State) → Shows old s → answered ≡ reply_to old.plan s m

@@ -1,5 +1,6 @@
 -- One move on a plain state: the reply, and the next state.
-use Rattle.std.specs.Prelude.{ℕ, suc, ◌≡◌, ◌≢◌, ◌<◌, ◌+◌, ◌-◌, ◌==◌, ◌&&◌, ◌||◌, Bool, true, false, not, nat_lt, nat_le, if◌then◌else◌, List, [], ◌∷◌, ◌++◌, ℤ, Option, Some, None, Result, Ok, Err, length, map, sum, sum_by, count_by, slice_index, slice_index_or, slice_set, option_map}
+use Rattle.std.specs.Prelude.{ℕ, suc, ◌≡◌, ◌≢◌, ◌<◌, ◌+◌, ◌-◌, ◌==◌, ◌&&◌, ◌||◌, Bool, true, false, not, nat_lt, nat_le, if◌then◌else◌, List, [], ◌∷◌, ◌++◌, ℤ}
+use Rattle.std.specs.Prelude.{Option, Some, None, Result, Ok, Err, length, map, sum, sum_by, count_by, slice_index, slice_index_or, slice_set, option_map}
 use Rattle.std.specs.List.{zip, range_with_len}
 use Rattle.csdf_graph.specs.Rates.{total}
 use Rattle.csdf_core.specs.declared.stage.Stage.{Stage}
@@ -7,7 +8,8 @@ use Rattle.csdf_core.specs.declared.stage.Stage.TheVariants.{Idle, Begun, Fetche
 use Rattle.csdf_core.specs.Moves.{Move}
 use Rattle.csdf_core.specs.Moves.{Begin, Read, Write, Finish, Close}
 use Rattle.csdf_core.specs.declared.refusal.Refusal.{Refusal}
-use Rattle.csdf_core.specs.declared.refusal.Refusal.TheVariants.{Unknown, Busy, Spent, Closed, Dry, Short, Full, Stopped, NoCells, NotBegun, NotRead, WrongCount, NotWritten}
+use Rattle.csdf_core.specs.declared.refusal.Refusal.TheVariants.{Unknown, Busy, Spent, Closed, Dry, Short, Full, Stopped, NoCells, NotBegun, NotRead}
+use Rattle.csdf_core.specs.declared.refusal.Refusal.TheVariants.{WrongCount, NotWritten}
 use Rattle.csdf_core.specs.Plan.{Channel, Plan, takes_of}
 use Rattle.csdf_core.specs.Rows.{is_closed, is_short, is_full, first, taken, shares, need, gift}
 use Rattle.csdf_core.specs.State.{Stream, State, Present, present}

@@ -58,7 +58,8 @@ impl Core {
         requires limits { length setup.limits.items ≡ length setup.accepted.now.graph.actors }
         requires supply { length setup.supply.items ≡ length setup.accepted.now.graph.actors }
         requires few { All (λ n. n ≤ 16_384_000) setup.limits.items }
-        ensures plan { IfOk result (λ core. core.plan ≡ plan_for setup.entry.accepted.now setup.entry.limits.items setup.entry.supply.items setup.entry.firings) }
+        ensures plan { IfOk result (λ core. core.plan
+            ≡ plan_for setup.entry.accepted.now setup.entry.limits.items setup.entry.supply.items setup.entry.firings) }
         ensures opening { IfOk result (λ core. Shows core (opening core.plan)) }
         ensures peaks { IfOk result (λ core. core.peaks ≡ map length (map (λ (c : ChannelModel). c.initial) core.plan.channels)) }
         ensures cells { IfOk result (λ core. core.pool ≡ opening_pool core.plan) }
@@ -100,7 +101,8 @@ impl Core {
     /// How many firings of the actor are finished.
     pub fn fired(&self, actor: u32) -> u32
         requires { actor < length self.now.plan.sources }
-        ensures { result ≡ count self.now.now actor }
+        ensures value { result ≡ count self.now.now actor }
+        ensures few { result ≤ 16_384_000 }
     {
         self.counts[actor as usize]
     }

@@ -1,6 +1,6 @@
 //! Which refusal a move of the core meets first.
 
-ghost use Rattle.std.specs.Prelude.{◌≡◌, ◌≢◌, ◌↔◌, ◌||◌, IsTrue, Some, ◌+◌, ◌-◌, ◌<◌, ◌≤◌, length};
+ghost use Rattle.std.specs.Prelude.{◌≡◌, ◌≢◌, ◌↔◌, ◌||◌, IsTrue, Some, Err, IfSome, ◌+◌, ◌-◌, ◌<◌, ◌≤◌, length};
 ghost use Rattle.csdf_core.specs.Step.{is_stage, exceeds};
 
 use crate::firing_core::Core;
@@ -33,9 +33,10 @@ fn exceeds(cells: u64, used: u64, need: u64, gift: u64) -> bool
 
 impl Core {
     ghost use Rattle.csdf_core.specs.State.{State};
-    ghost use Rattle.csdf_core.specs.Shows.{Shows};
+    ghost use Rattle.csdf_core.specs.Shows.{Shows, Follows};
     ghost use Rattle.csdf_core.specs.Moves.{Begin, Read, Finish, Close};
-    ghost use Rattle.csdf_core.specs.Step.{refusal, refused, first_of, firing_table, space_table, write_table, is_dry, is_stopped, lacks_cells, is_stage, held, reserved, count, stage, IsQuiet, Rests};
+    ghost use Rattle.csdf_core.specs.Step.{refusal, refused, first_of, firing_table, space_table, write_table, held, reserved, count, stage};
+    ghost use Rattle.csdf_core.specs.Step.{is_dry, is_spent, is_over, is_stopped, lacks_cells, is_stage, IsQuiet, Rests};
     ghost use Rattle.csdf_core.specs.Rows.{need, gift};
     ghost use Rattle.csdf_core.specs.Plan.{HasAmpleCells};
     ghost use Rattle.csdf_core.specs.declared.refusal.Refusal.TheVariants.{NoCells};
@@ -73,6 +74,23 @@ impl Core {
         self.layout.is_source(actor) && written + gives > u64::from(self.layout.supply(actor))
     }
 
+    /// Whether the actor has made as many firings as it may.
+    pub fn is_spent(&self, actor: u32) -> bool
+        requires { actor < length self.now.plan.sources }
+        ensures { result ≡ is_spent self.now.plan self.now.now actor }
+    {
+        self.counts[actor as usize] >= self.layout.limit(actor)
+    }
+
+    /// Whether the actor makes no firing more: it has made as many as it may, or its file has too few
+    /// tokens for the next.
+    pub fn is_over(&self, actor: u32) -> bool
+        requires { actor < length self.now.plan.sources }
+        ensures { result ≡ is_over self.now.plan self.now.now actor }
+    {
+        self.is_spent(actor) || self.is_dry(actor)
+    }
+
     /// Whether as many firings have begun as may.
     fn is_stopped(&self) -> bool
         ensures { result ≡ is_stopped self.now.plan self.now.now }
@@ -106,6 +124,7 @@ impl Core {
     /// The first refusal of the actor's next firing.
     pub(crate) fn begin_refusal(&self, actor: u32) -> Option<Refusal>
         ensures answer { result ≡ refusal self.now.plan self.now.now (Begin actor) }
+        ensures follows { IfSome result (λ why. Follows self.now self.now (Begin actor) (Err why)) }
         ensures ample { HasAmpleCells self.now.plan → result ≢ Some NoCells }
     {
         if actor as usize >= self.counts.len() {

@@ -1,8 +1,6 @@
-//! What a core plays: its graph, with the channels of each actor gathered once.
+//! What a core plays: a graph with its capacities and limits.
 
 ghost use Rattle.std.specs.Prelude.{◌≡◌, ◌<◌, ◌≤◌, length, map, slice_index, slice_index_or, false, All, IfOk};
-ghost use Rattle.std.specs.List.{range_with_len};
-ghost use Rattle.csdf_graph.specs.Graph.{channel_view, inputs_of, outputs_of};
 ghost use Rattle.csdf_core.specs.Plan.{Channel as ChannelModel};
 ghost use Rattle.csdf_core.specs.Layout.{is_source_kernel, plan_for};
 ghost use Rattle.csdf_core.specs.Playable.{IsPlayable};
@@ -10,7 +8,7 @@ ghost use Rattle.csdf_core.specs.Streams.{part};
 ghost use Rattle.csdf_core.specs.Ports.{inputs_at, outputs_at, take_at, give_at};
 
 use crate::setup::Setup;
-use csdf_graph::{Channel, Graph, Kernel, Ports};
+use csdf_graph::{Graph, Kernel};
 use std::alloc::{AllocError, Global};
 use std::marker::Model;
 
@@ -23,7 +21,6 @@ pub(crate) struct Layout {
     supply: Vec<u32>,
     firings: Option<u32>,
     cells: u32,
-    ports: Vec<Ports>,
 }
 
 impl Model for Layout {
@@ -35,7 +32,7 @@ impl Model for Layout {
 
     ghost view = { λ l. plan_of l.graph l.capacities.items l.limits.items l.supply.items l.firings l.cells };
 
-    ghost invariant = { λ l. IsLaidOut l.graph l.capacities.items l.limits.items l.supply.items l.firings l.cells l.ports.items };
+    ghost invariant = { λ l. IsLaidOut l.graph l.capacities.items l.limits.items l.supply.items l.firings l.cells };
 }
 
 fn is_source(kernel: Kernel) -> bool
@@ -51,21 +48,6 @@ fn copy_of(alloc: Global, numbers: &[u32]) -> Result<Vec<u32>, AllocError>
     numbers.iter().copied().collect(alloc)
 }
 
-/// The channels of each actor.
-fn ports_of(alloc: Global, channels: &[Channel], actors: usize) -> Result<Vec<Ports>, AllocError>
-    requires actors { actors ≤ 64 }
-    requires channels { length channels.now ≤ 128 }
-    ensures inputs { IfOk result (λ ports. map (λ p. p.inputs.items) ports.items ≡ map (inputs_of (map channel_view channels.now)) (range_with_len 0 actors)) }
-    ensures outputs { IfOk result (λ ports. map (λ p. p.outputs.items) ports.items ≡ map (outputs_of (map channel_view channels.now)) (range_with_len 0 actors)) }
-{
-    let mut all = Vec::new(alloc);
-    for actor in 0..actors {
-        let ports = Ports::of(alloc, channels, actor as u32)?;
-        all.push(ports)?;
-    }
-    Ok(all)
-}
-
 impl Layout {
     /// The layout of the setup, whose graph it copies.
     ///
@@ -74,13 +56,13 @@ impl Layout {
         requires limits { length setup.limits.items ≡ length setup.accepted.now.graph.actors }
         requires supply { length setup.supply.items ≡ length setup.accepted.now.graph.actors }
         requires few { All (λ n. n ≤ 16_384_000) setup.limits.items }
-        ensures plan { IfOk result (λ layout. layout ≡ plan_for setup.entry.accepted.now setup.entry.limits.items setup.entry.supply.items setup.entry.firings) }
+        ensures plan { IfOk result (λ layout. layout
+            ≡ plan_for setup.entry.accepted.now setup.entry.limits.items setup.entry.supply.items setup.entry.firings) }
         ensures playable { IfOk result IsPlayable }
     {
         let accepted = setup.accepted;
         let graph = accepted.graph().try_copy()?;
         let capacities = copy_of(alloc, accepted.capacities())?;
-        let ports = ports_of(alloc, graph.channels(), graph.actors().len())?;
         Ok(Layout {
             graph,
             capacities,
@@ -88,7 +70,6 @@ impl Layout {
             supply: setup.supply,
             firings: setup.firings,
             cells: accepted.cells(),
-            ports,
         })
     }
 
@@ -115,8 +96,7 @@ impl Layout {
         ensures within { All (λ c. c < length self.now.channels) result.now }
         ensures few { length result.now ≤ 128 }
     {
-        let ports = &self.ports[actor as usize];
-        &ports.inputs
+        self.graph.inputs(actor)
     }
 
     /// The channels that begin at the actor, in file order.
@@ -126,8 +106,7 @@ impl Layout {
         ensures within { All (λ c. c < length self.now.channels) result.now }
         ensures few { length result.now ≤ 128 }
     {
-        let ports = &self.ports[actor as usize];
-        &ports.outputs
+        self.graph.outputs(actor)
     }
 
     /// How many tokens a firing of the channel's consumer takes out.

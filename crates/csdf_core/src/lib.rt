@@ -12,7 +12,6 @@ mod readiness;
 mod refusal;
 mod setup;
 mod stage;
-mod steps;
 mod transfer;
 
 pub use firing_core::Core;

@@ -355,9 +355,13 @@ fn reserves_cells(rt: HostRuntime) -> Result<(), Fail> {
     expect(&rt, alloc, &three, &AMPLE, script, replies)?;
     let four = format!(in alloc; "cells = 4\n{CHAIN}")?;
     let script =
-        "begin 0 / read 0 / write 0 1 2 / finish 0 / begin 0 / read 0 / write 0 3 4 / finish 0 / begin 1 / read 1 / write 1 9 / finish 1 / begin 0 / read 0 / write 0 5 6 / finish 0 / begin 1 / read 1 / write 1 8 / finish 1 / begin 2 / begin 0 / read 0 / write 0 7 7 / finish 0 / begin 0 / read 2 / begin 0";
+        "begin 0 / read 0 / write 0 1 2 / finish 0 / begin 0 / read 0 / write 0 3 4 / finish 0 / \
+        begin 1 / read 1 / write 1 9 / finish 1 / begin 0 / read 0 / write 0 5 6 / finish 0 / \
+        begin 1 / read 1 / write 1 8 / finish 1 / begin 2 / begin 0 / read 0 / write 0 7 7 / \
+        finish 0 / begin 0 / read 2 / begin 0";
     let replies =
-        "ok / ok / ok / ok / ok / ok / ok / ok / ok / ok 1 2 3 / ok / ok / ok / ok / ok / ok / ok / ok 4 5 6 / ok / ok / ok / ok / ok / ok / ok / NoCells / ok 9 8 / ok";
+        "ok / ok / ok / ok / ok / ok / ok / ok / ok / ok 1 2 3 / ok / ok / ok / ok / ok / ok / \
+        ok / ok 4 5 6 / ok / ok / ok / ok / ok / ok / ok / NoCells / ok 9 8 / ok";
     expect(&rt, alloc, &four, &AMPLE, script, replies)?;
     let one = format!(in alloc; "cells = 1\n{LOOP}")?;
     expect(&rt, alloc, &one, &AMPLE, "begin 0", "ok")?;
@@ -367,7 +371,8 @@ fn reserves_cells(rt: HostRuntime) -> Result<(), Fail> {
 #[test]
 fn shows_its_cells(rt: HostRuntime) -> Result<(), Fail> {
     let script =
-        "begin 0 / read 0 / write 0 1 2 / finish 0 / begin 0 / read 0 / write 0 3 4 / finish 0 / begin 1 / read 1 / write 1 9 / finish 1 / begin 0 / read 0 / write 0 5 6";
+        "begin 0 / read 0 / write 0 1 2 / finish 0 / begin 0 / read 0 / write 0 3 4 / finish 0 / \
+        begin 1 / read 1 / write 1 9 / finish 1 / begin 0 / read 0 / write 0 5 6";
     let state = state_after(rt.alloc(), CHAIN, &AMPLE, script)?;
     assert_eq!(rt; state.as_str(), STATE);
     Ok(())

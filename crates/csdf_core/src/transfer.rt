@@ -4,7 +4,8 @@ ghost use Rattle.std.specs.Prelude.{◌≡◌, ◌+◌, ◌*◌, ◌<◌, ◌≤
 ghost use Rattle.csdf_pool.specs.Pool.{IsPartition, after_takes, after_puts};
 ghost use Rattle.csdf_core.specs.Transfers.{after_read, after_write};
 ghost use Rattle.csdf_core.specs.Rows.{need, gift};
-ghost use Rattle.csdf_core.specs.Ports.{inputs_at, outputs_at, take_at, give_at, tokens_in, tokens_at, takes_over, taken_over, EnoughOver, puts_over, raise_over};
+ghost use Rattle.csdf_core.specs.Ports.{inputs_at, outputs_at, take_at, give_at, tokens_in, tokens_at};
+ghost use Rattle.csdf_core.specs.Ports.{takes_over, taken_over, EnoughOver, puts_over, raise_over};
 
 use crate::layout::Layout;
 use csdf_pool::Pool;
@@ -79,7 +80,8 @@ pub(crate) fn take_inputs(
     requires room { need actor firing layout.now.channels ≤ length into.old }
     requires partition { IsPartition pool.old }
     ensures count { result ≡ need actor firing layout.now.channels }
-    ensures answer { into.new ≡ taken_over (take_at layout.now.channels firing) (inputs_at layout.now.channels actor) (tokens_in pool.old) ++ drop result into.old }
+    ensures answer { into.new
+        ≡ taken_over (take_at layout.now.channels firing) (inputs_at layout.now.channels actor) (tokens_in pool.old) ++ drop result into.old }
     ensures left { tokens_in pool.new ≡ takes_over (take_at layout.now.channels firing) (inputs_at layout.now.channels actor) (tokens_in pool.old) }
     ensures cells { pool.new ≡ after_read layout.now actor firing pool.old }
     ensures partition { IsPartition pool.new }

@@ -23,7 +23,8 @@ loop-channel-init c =
       rest = omega (arith, free, cells);
       same = ap length chains ∙ length-replicate c.channels.result _ ∙ count;
       shared_out = record { size = c.in_ok-pool.ensures.size ∙ cells; partition = c.in_ok-pool.ensures.shared_out };
-      cells = ap (filled_from 0 xs) (pool_is c.in_ok-pool.pool _ _ _ (c.in_ok-pool.ensures.size ∙ cells) (chains ∙ ap (λ (n : ℕ). replicate n []) count) (c.in_ok-pool.ensures.free ∙ ap (range_with_len 0) cells));
+      cells = ap (filled_from 0 xs) (pool_is c.in_ok-pool.pool _ _ _ (c.in_ok-pool.ensures.size ∙ cells) (chains ∙ ap (λ (n : ℕ). replicate n []) count)
+          (c.in_ok-pool.ensures.free ∙ ap (range_with_len 0) cells));
     }
 
 pub loop-channel-preserved : goal.loop-channel-preserved
@@ -31,12 +32,14 @@ loop-channel-preserved c =
     let cs : List Channel = c.args.layout.now.channels in
     let xs : List (List ℤ) = map (λ (d : Channel). d.initial) cs in
     let i : ℕ = c.loop-channel.channel in
-    let lt : i < length xs = (let t = c.loop-channel-test.true in let n = length-map cs (λ (d : Channel). d.initial) in let e = c.channels-channel-end.ensures.count in omega arith) in
+    let lt : i < length xs = (let t = c.loop-channel-test.true in let n = length-map cs (λ (d : Channel). d.initial) in
+    let e = c.channels-channel-end.ensures.count in omega arith) in
     let old = c.loop-channel.invariant in
     let put = c.put_tokens.ensures in
     record {
       front = filled_more xs (tokens_in c.loop-channel.pool) (tokens_in c.put_tokens.new.pool) i c.initial.result.now lt old.front c.initial.ensures put.put;
-      rest = free_more xs i (length c.loop-channel.pool.free) (length c.put_tokens.new.pool.free) c.args.layout.now.cells c.initial.result.now lt c.initial.ensures old.rest put.free;
+      rest = free_more xs i (length c.loop-channel.pool.free) (length c.put_tokens.new.pool.free) c.args.layout.now.cells c.initial.result.now lt
+          c.initial.ensures old.rest put.free;
       same = put.same ∙ old.same;
       shared_out = record { size = put.size ∙ old.shared_out.size; partition = put.partition };
       cells = cells_more xs i c.loop-channel.pool c.put_tokens.new.pool _ c.initial.result.now lt c.initial.ensures put.cells old.cells;

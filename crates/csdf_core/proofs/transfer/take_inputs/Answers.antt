@@ -9,10 +9,13 @@ use Rattle.csdf_core.proofs.transfer.take_inputs.Goals as goal
 
 pub loop-channel-init : goal.loop-channel-init
 loop-channel-init c =
-    let all : sum_by (take_at c.args.layout.now.channels c.args.firing) c.inputs-inputs.result.now ≡ _ = ap (sum_by (take_at c.args.layout.now.channels c.args.firing)) c.inputs-inputs.ensures.value ∙ need_is c.args.actor c.args.firing c.args.layout.now.channels in
+    let all : sum_by (take_at c.args.layout.now.channels c.args.firing) c.inputs-inputs.result.now ≡ _ =
+    ap (sum_by (take_at c.args.layout.now.channels c.args.firing)) c.inputs-inputs.ensures.value
+    ∙ need_is c.args.actor c.args.firing c.args.layout.now.channels in
     record {
       same = c.requires.same;
-      enough = subst (λ ns. EnoughOver (take_at c.args.layout.now.channels c.args.firing) ns (tokens_in c.args.pool.now)) (sym c.inputs-inputs.ensures.value) c.requires.enough;
+      enough = subst (λ ns. EnoughOver (take_at c.args.layout.now.channels c.args.firing) ns (tokens_in c.args.pool.now)) (sym c.inputs-inputs.ensures.value)
+          c.requires.enough;
       count = omega arith;
       whole = omega (arith, all, c.requires.room);
       answer = refl;
@@ -25,7 +28,9 @@ loop-channel-init c =
 
 pub loop-channel-preserved : goal.loop-channel-preserved
 loop-channel-preserved c =
-    let front : take (c.loop-channel.at + c.takes-n.result) (put_mid c.loop-channel.at (c.loop-channel.at + c.takes-n.result - c.loop-channel.at) c.loop-channel.into c.take_tokens.new.into) ≡ take c.loop-channel.at c.loop-channel.into ++ c.take_tokens.new.into = search (rules, overwrites) in
+    let front : take (c.loop-channel.at + c.takes-n.result)
+    (put_mid c.loop-channel.at (c.loop-channel.at + c.takes-n.result - c.loop-channel.at) c.loop-channel.into c.take_tokens.new.into) ≡ take
+    c.loop-channel.at c.loop-channel.into ++ c.take_tokens.new.into = search (rules, overwrites) in
     record {
       same = grind (arith, common_steps);
       enough = grind (arith, common_steps);
@@ -41,5 +46,7 @@ loop-channel-preserved c =
 
 pub returns-clause-count : goal.returns-clause-count
 returns-clause-count c =
-    sum_done (take_at c.args.layout.now.channels c.args.firing) c.inputs-inputs.result.now c.loop-channel.channel-index c.loop-channel.at c.loop-channel-test.false c.loop-channel.invariant.count
-    ∙ ap (sum_by (take_at c.args.layout.now.channels c.args.firing)) c.inputs-inputs.ensures.value ∙ need_is c.args.actor c.args.firing c.args.layout.now.channels
+    sum_done (take_at c.args.layout.now.channels c.args.firing) c.inputs-inputs.result.now c.loop-channel.channel-index c.loop-channel.at
+    c.loop-channel-test.false c.loop-channel.invariant.count
+    ∙ ap (sum_by (take_at c.args.layout.now.channels c.args.firing)) c.inputs-inputs.ensures.value
+    ∙ need_is c.args.actor c.args.firing c.args.layout.now.channels

@@ -2,8 +2,9 @@ use Rattle.std.specs.Prelude.{slice_index}
 use Rattle.csdf_core.specs.declared.stage.Stage.TheVariants.{Idle}
 use Rattle.csdf_core.specs.Sound.{IsSound}
 use Rattle.csdf_core.specs.Inside.{now_in}
-use Rattle.csdf_core.proofs.Next.{finished}
-use Rattle.std.proofs.Common.{◌≡◌, ◌≤◌, ◌<◌, ◌+◌, length, suc, set, None, sym, ◌∙◌, ap, subst, refl, arith}
+use Rattle.csdf_core.specs.Next.{finished}
+use Rattle.std.proofs.Common.{◌≡◌, ◌≤◌, ◌<◌, ◌+◌, length, suc, set, None, sym, ◌∙◌, ap, subst, refl, arith, ℕ}
+use Rattle.csdf_core.specs.Plan.{Plan}
 use Rattle.csdf_core.specs.State.{Present}
 use Rattle.csdf_core.specs.Ports.{tokens_in}
 use Rattle.csdf_core.specs.Moves.{Finish}
@@ -18,25 +19,52 @@ use Rattle.csdf_core.proofs.firing_core.Core.finish.Goals as goal
 
 pub returns-in-Some-clause-step : goal.returns-in-Some-clause-step
 returns-in-Some-clause-step c =
-    rw (← c.self.view_is) (follows_refused _ (Finish c.args.actor) c.in-Some.refusal (rw (← c.self.view_is) at (sym c.finish_refusal.ensures ∙ c.in-Some.is)) (peaks_stay _ _ _ _ _ _ _ c.self.invariant) c.self.invariant.cells)
+    rw (← c.self.view_is) (follows_refused _ (Finish c.args.actor) c.in-Some.refusal (rw (← c.self.view_is) at (sym c.finish_refusal.ensures ∙ c.in-Some.is))
+    (peaks_stay _ _ _ _ _ _ _ c.self.invariant) c.self.invariant.cells)
 
 pub invariant_of-self : goal.invariant_of-self
 invariant_of-self c =
     let p : Present = now_in c.self.inside in
-    let none : refusal c.self.inside.layout p (Finish c.args.actor) ≡ None = rw (← c.self.view_is) at (sym c.finish_refusal.ensures ∙ c.in_default.is) in
-    let one : suc (count p c.args.actor) ≡ c.fired-firing.result + 1 = (let k = rw (← c.self.view_is) at c.fired-firing.ensures in omega (arith, k)) in
-    let lt : c.args.actor < length c.self.inside.sums.items = (let there = (finishes c.self.inside.layout p c.args.actor none).there in let tallied = c.self.invariant.tallied in omega (arith, there, tallied)) in
-    let total : c.index_mut.result.now + c.gives-gives.result ≡ slice_index c.self.inside.sums.items c.args.actor + gift c.args.actor (count p c.args.actor) c.self.inside.layout.channels =
-    (let g = rw (← c.self.view_is) at c.gives-gives.ensures.sum in let old : c.index_mut.result.now ≡ slice_index c.self.inside.sums.items c.args.actor = c.index_mut.ensures.value ∙ get_or_default c.self.inside.sums.items c.args.actor c.index_mut.result.now 0 lt in omega (arith, g, old)) in
-    let few : gift c.args.actor (count p c.args.actor) c.self.inside.layout.channels ≤ 8192 = (let g = rw (← c.self.view_is) at c.gives-gives.ensures.sum in let s = c.gives-gives.ensures.small in omega (arith, g, s)) in
-    subst (λ n. IsSound c.self.inside.layout (record { counts = set c.self.inside.counts.items c.args.actor n; stages = set c.self.inside.stages.items c.args.actor Idle; opens = c.self.inside.opens.items; tokens = tokens_in c.self.inside.pool }) c.self.inside.peaks.items (set c.self.inside.sums.items c.args.actor (c.index_mut.result.now + c.gives-gives.result)) c.self.inside.started c.self.inside.reserved c.self.inside.pool) one
-    (sound_finished c.self.inside.layout p c.self.inside.peaks.items c.self.inside.sums.items c.self.inside.started c.self.inside.reserved c.self.inside.pool c.args.actor (c.index_mut.result.now + c.gives-gives.result) c.self.invariant none total few)
+    let plan : Plan = c.self.inside.layout in
+    let a : ℕ = c.args.actor in
+    let none : refusal plan p (Finish a) ≡ None = rw (← c.self.view_is) at (sym c.finish_refusal.ensures ∙ c.in_default.is) in
+    let one : suc (count p a) ≡ c.fired-firing.result + 1 = (let k = rw (← c.self.view_is) at c.fired-firing.ensures.value in omega (arith, k)) in
+    let lt : a < length c.self.inside.sums.items =
+    (let there = (finishes plan p a none).there in let tallied = c.self.invariant.tallied in omega (arith, there, tallied)) in
+    let total : c.index_mut.result.now + c.gives-gives.result ≡ slice_index c.self.inside.sums.items a + gift a (count p a) plan.channels =
+    (let g = rw (← c.self.view_is) at c.gives-gives.ensures.sum in
+    let old : c.index_mut.result.now ≡ slice_index c.self.inside.sums.items a = c.index_mut.ensures.value
+    ∙ get_or_default c.self.inside.sums.items a c.index_mut.result.now 0 lt in omega (arith, g, old)) in
+    let few : gift a (count p a) plan.channels ≤ 8192 =
+    (let g = rw (← c.self.view_is) at c.gives-gives.ensures.sum in let s = c.gives-gives.ensures.small in omega (arith, g, s)) in
+    subst (λ n. IsSound plan (record {
+      counts = set c.self.inside.counts.items a n;
+      stages = set c.self.inside.stages.items a Idle;
+      opens = c.self.inside.opens.items;
+      tokens = tokens_in c.self.inside.pool;
+    }) c.self.inside.peaks.items (set c.self.inside.sums.items a (c.index_mut.result.now + c.gives-gives.result))
+    c.self.inside.started c.self.inside.reserved c.self.inside.pool) one
+    (sound_finished plan p c.self.inside.peaks.items c.self.inside.sums.items c.self.inside.started c.self.inside.reserved c.self.inside.pool a
+    (c.index_mut.result.now + c.gives-gives.result) c.self.invariant none total few)
 
 pub returns-clause-step : goal.returns-clause-step
 returns-clause-step c =
     let p : Present = now_in c.self.inside in
-    let none : refusal c.self.inside.layout p (Finish c.args.actor) ≡ None = rw (← c.self.view_is) at (sym c.finish_refusal.ensures ∙ c.in_default.is) in
-    let one : suc (count p c.args.actor) ≡ c.fired-firing.result + 1 = (let k = rw (← c.self.view_is) at c.fired-firing.ensures in omega (arith, k)) in
-    let now : record { counts = set c.self.inside.counts.items c.args.actor (c.fired-firing.result + 1); stages = set c.self.inside.stages.items c.args.actor Idle; opens = c.self.inside.opens.items; tokens = tokens_in c.self.inside.pool } ≡ finished p c.args.actor =
-    ap (λ n. record { counts = set c.self.inside.counts.items c.args.actor n; stages = set c.self.inside.stages.items c.args.actor Idle; opens = c.self.inside.opens.items; tokens = tokens_in c.self.inside.pool }) (sym one) in
-    rw (← c.self.view_is) (follows_accepted _ _ (Finish c.args.actor) _ refl none refl now c.self.invariant.fit refl c.self.invariant.cells (sym (peaks_stay _ _ _ _ _ _ _ c.self.invariant)))
+    let plan : Plan = c.self.inside.layout in
+    let a : ℕ = c.args.actor in
+    let none : refusal plan p (Finish a) ≡ None = rw (← c.self.view_is) at (sym c.finish_refusal.ensures ∙ c.in_default.is) in
+    let one : suc (count p a) ≡ c.fired-firing.result + 1 = (let k = rw (← c.self.view_is) at c.fired-firing.ensures.value in omega (arith, k)) in
+    let now : record {
+      counts = set c.self.inside.counts.items a (c.fired-firing.result + 1);
+      stages = set c.self.inside.stages.items a Idle;
+      opens = c.self.inside.opens.items;
+      tokens = tokens_in c.self.inside.pool;
+    } ≡ finished p a =
+    ap (λ n. record {
+      counts = set c.self.inside.counts.items a n;
+      stages = set c.self.inside.stages.items a Idle;
+      opens = c.self.inside.opens.items;
+      tokens = tokens_in c.self.inside.pool;
+    }) (sym one) in
+    rw (← c.self.view_is) (follows_accepted _ _ (Finish a) _ refl none refl now c.self.invariant.fit refl c.self.invariant.cells
+    (sym (peaks_stay _ _ _ _ _ _ _ c.self.invariant)))

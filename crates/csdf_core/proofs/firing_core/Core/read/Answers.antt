@@ -1,5 +1,6 @@
-use Rattle.std.proofs.Common.{◌≡◌, ◌≤◌, ◌+◌, ◌-◌, set, None, sym, ◌∙◌, ap, subst, refl, arith}
+use Rattle.std.proofs.Common.{◌≡◌, ◌≤◌, ◌+◌, ◌-◌, set, None, sym, ◌∙◌, ap, subst, refl, arith, ℕ}
 use Rattle.csdf_core.specs.declared.stage.Stage.TheVariants.{Fetched}
+use Rattle.csdf_core.specs.Plan.{Plan}
 use Rattle.csdf_core.specs.State.{Present}
 use Rattle.csdf_core.specs.Ports.{tokens_in}
 use Rattle.csdf_core.specs.Moves.{Read}
@@ -10,60 +11,99 @@ use Rattle.csdf_core.specs.Step.{refusal, count}
 use Rattle.csdf_core.specs.Inside.{now_in}
 use Rattle.csdf_core.proofs.Follows.{follows_refused, follows_accepted}
 use Rattle.csdf_core.proofs.Moving.{enough_here, left_here, answered_here, kept_to_read}
-use Rattle.csdf_core.proofs.Next.{fetched}
+use Rattle.csdf_core.specs.Next.{fetched}
 use Rattle.csdf_core.proofs.SoundLemmas.{sound_fetched}
 use Rattle.csdf_core.proofs.Peaceful.{peaks_stay}
 use Rattle.csdf_core.proofs.firing_core.Core.read.Goals as goal
 
 pub returns-in-Some-clause-step : goal.returns-in-Some-clause-step
 returns-in-Some-clause-step c =
-    rw (← c.self.view_is) (follows_refused _ (Read c.args.actor) c.in-Some.refusal (rw (← c.self.view_is) at (sym c.read_refusal.ensures ∙ c.in-Some.is)) (peaks_stay _ _ _ _ _ _ _ c.self.invariant) c.self.invariant.cells)
+    rw (← c.self.view_is) (follows_refused _ (Read c.args.actor) c.in-Some.refusal (rw (← c.self.view_is) at (sym c.read_refusal.ensures ∙ c.in-Some.is))
+    (peaks_stay _ _ _ _ _ _ _ c.self.invariant) c.self.invariant.cells)
 
 pub take_inputs-n-requires-clause-enough : goal.take_inputs-n-requires-clause-enough
 take_inputs-n-requires-clause-enough c =
     let p : Present = now_in c.self.inside in
-    let none : refusal c.self.inside.layout p (Read c.args.actor) ≡ None = rw (← c.self.view_is) at (sym c.read_refusal.ensures ∙ c.in_default.is) in
-    let k : c.fired-firing.result ≡ count p c.args.actor = rw (← c.self.view_is) at c.fired-firing.ensures in
-    enough_here c.self.inside.layout p c.args.actor c.fired-firing.result c.self.invariant.fit none k
+    let plan : Plan = c.self.inside.layout in
+    let a : ℕ = c.args.actor in
+    let none : refusal plan p (Read a) ≡ None = rw (← c.self.view_is) at (sym c.read_refusal.ensures ∙ c.in_default.is) in
+    let k : c.fired-firing.result ≡ count p a = rw (← c.self.view_is) at c.fired-firing.ensures.value in
+    enough_here plan p a c.fired-firing.result c.self.invariant.fit none k
 
 pub overflow_sub-self : goal.overflow_sub-self
 overflow_sub-self c =
     let p : Present = now_in c.self.inside in
-    let none : refusal c.self.inside.layout p (Read c.args.actor) ≡ None = rw (← c.self.view_is) at (sym c.read_refusal.ensures ∙ c.in_default.is) in
-    let k : c.fired-firing.result ≡ count p c.args.actor = rw (← c.self.view_is) at c.fired-firing.ensures in
-    let g : c.gives-gift.result ≡ gift c.args.actor (count p c.args.actor) c.self.inside.layout.channels = rw (← c.self.view_is) at c.gives-gift.ensures.sum in
-    let n : c.need-need.result ≡ need c.args.actor (count p c.args.actor) c.self.inside.layout.channels = rw (← c.self.view_is) at c.need-need.ensures.value in
-    let more : c.saturating_sub.result ≡ gift c.args.actor (count p c.args.actor) c.self.inside.layout.channels - need c.args.actor (count p c.args.actor) c.self.inside.layout.channels = rw (c.saturating_sub.ensures, g, n) refl in
-    let le : c.saturating_sub.result ≤ c.self.inside.reserved = kept_to_read c.self.inside.layout p c.args.actor c.self.inside.reserved c.saturating_sub.result c.self.invariant.fit none c.self.invariant.keeps more in
+    let plan : Plan = c.self.inside.layout in
+    let a : ℕ = c.args.actor in
+    let none : refusal plan p (Read a) ≡ None = rw (← c.self.view_is) at (sym c.read_refusal.ensures ∙ c.in_default.is) in
+    let k : c.fired-firing.result ≡ count p a = rw (← c.self.view_is) at c.fired-firing.ensures.value in
+    let g : c.gives-gift.result ≡ gift a (count p a) plan.channels = rw (← c.self.view_is) at c.gives-gift.ensures.sum in
+    let n : c.need-need.result ≡ need a (count p a) plan.channels = rw (← c.self.view_is) at c.need-need.ensures.value in
+    let more : c.saturating_sub.result ≡ gift a (count p a) plan.channels - need a (count p a) plan.channels = rw (c.saturating_sub.ensures, g, n) refl in
+    let le : c.saturating_sub.result ≤ c.self.inside.reserved = kept_to_read plan p a c.self.inside.reserved c.saturating_sub.result c.self.invariant.fit none
+    c.self.invariant.keeps more in
     le
 
 pub invariant_of-self : goal.invariant_of-self
 invariant_of-self c =
     let p : Present = now_in c.self.inside in
-    let none : refusal c.self.inside.layout p (Read c.args.actor) ≡ None = rw (← c.self.view_is) at (sym c.read_refusal.ensures ∙ c.in_default.is) in
-    let k : c.fired-firing.result ≡ count p c.args.actor = rw (← c.self.view_is) at c.fired-firing.ensures in
-    let gone : tokens_in c.take_inputs-n.new.pool ≡ left c.args.actor (count p c.args.actor) c.self.inside.layout.channels p.tokens = left_here c.self.inside.layout p c.args.actor c.fired-firing.result (tokens_in c.take_inputs-n.new.pool) c.self.invariant.fit k c.take_inputs-n.ensures.left in
-    let g : c.gives-gift.result ≡ gift c.args.actor (count p c.args.actor) c.self.inside.layout.channels = rw (← c.self.view_is) at c.gives-gift.ensures.sum in
-    let n : c.need-need.result ≡ need c.args.actor (count p c.args.actor) c.self.inside.layout.channels = rw (← c.self.view_is) at c.need-need.ensures.value in
-    let more : c.saturating_sub.result ≡ gift c.args.actor (count p c.args.actor) c.self.inside.layout.channels - need c.args.actor (count p c.args.actor) c.self.inside.layout.channels = rw (c.saturating_sub.ensures, g, n) refl in
-    let le : c.saturating_sub.result ≤ c.self.inside.reserved = kept_to_read c.self.inside.layout p c.args.actor c.self.inside.reserved c.saturating_sub.result c.self.invariant.fit none c.self.invariant.keeps more in
-    let kept : c.self.inside.reserved - c.saturating_sub.result + c.gives-gift.result + (gift c.args.actor (count p c.args.actor) c.self.inside.layout.channels - need c.args.actor (count p c.args.actor) c.self.inside.layout.channels) ≡ c.self.inside.reserved + gift c.args.actor (count p c.args.actor) c.self.inside.layout.channels = omega (arith, le, more, g) in
-    let sound = sound_fetched c.self.inside.layout p c.self.inside.peaks.items c.self.inside.sums.items c.self.inside.started c.self.inside.reserved c.self.inside.pool c.args.actor (c.self.inside.reserved - c.saturating_sub.result + c.gives-gift.result) c.take_inputs-n.new.pool c.self.invariant none kept c.take_inputs-n.ensures.same (record { size = c.take_inputs-n.ensures.size ∙ c.self.invariant.cells.size; partition = c.take_inputs-n.ensures.partition }) in
-    subst (λ ts. IsSound c.self.inside.layout (record { counts = c.self.inside.counts.items; stages = set c.self.inside.stages.items c.args.actor Fetched; opens = c.self.inside.opens.items; tokens = ts }) c.self.inside.peaks.items c.self.inside.sums.items c.self.inside.started (c.self.inside.reserved - c.saturating_sub.result + c.gives-gift.result) c.take_inputs-n.new.pool) (sym gone) sound
+    let plan : Plan = c.self.inside.layout in
+    let a : ℕ = c.args.actor in
+    let none : refusal plan p (Read a) ≡ None = rw (← c.self.view_is) at (sym c.read_refusal.ensures ∙ c.in_default.is) in
+    let k : c.fired-firing.result ≡ count p a = rw (← c.self.view_is) at c.fired-firing.ensures.value in
+    let gone : tokens_in c.take_inputs-n.new.pool ≡ left a (count p a) plan.channels p.tokens =
+    left_here plan p a c.fired-firing.result (tokens_in c.take_inputs-n.new.pool) c.self.invariant.fit k c.take_inputs-n.ensures.left in
+    let g : c.gives-gift.result ≡ gift a (count p a) plan.channels = rw (← c.self.view_is) at c.gives-gift.ensures.sum in
+    let n : c.need-need.result ≡ need a (count p a) plan.channels = rw (← c.self.view_is) at c.need-need.ensures.value in
+    let more : c.saturating_sub.result ≡ gift a (count p a) plan.channels - need a (count p a) plan.channels = rw (c.saturating_sub.ensures, g, n) refl in
+    let le : c.saturating_sub.result ≤ c.self.inside.reserved = kept_to_read plan p a c.self.inside.reserved c.saturating_sub.result c.self.invariant.fit none
+    c.self.invariant.keeps more in
+    let kept : c.self.inside.reserved - c.saturating_sub.result + c.gives-gift.result + (gift a (count p a) plan.channels - need a (count p a) plan.channels)
+    ≡ c.self.inside.reserved + gift a (count p a) plan.channels = omega (arith, le, more, g) in
+    let sound = sound_fetched plan p c.self.inside.peaks.items c.self.inside.sums.items c.self.inside.started c.self.inside.reserved c.self.inside.pool a
+    (c.self.inside.reserved - c.saturating_sub.result + c.gives-gift.result) c.take_inputs-n.new.pool c.self.invariant none kept
+    c.take_inputs-n.ensures.same (record
+    { size = c.take_inputs-n.ensures.size ∙ c.self.invariant.cells.size; partition = c.take_inputs-n.ensures.partition }) in
+    subst (λ ts. IsSound plan (record
+    { counts = c.self.inside.counts.items; stages = set c.self.inside.stages.items a Fetched; opens = c.self.inside.opens.items; tokens = ts })
+    c.self.inside.peaks.items c.self.inside.sums.items c.self.inside.started (c.self.inside.reserved - c.saturating_sub.result + c.gives-gift.result)
+    c.take_inputs-n.new.pool) (sym gone) sound
 
 pub returns-clause-step : goal.returns-clause-step
 returns-clause-step c =
     let p : Present = now_in c.self.inside in
-    let none : refusal c.self.inside.layout p (Read c.args.actor) ≡ None = rw (← c.self.view_is) at (sym c.read_refusal.ensures ∙ c.in_default.is) in
-    let k : c.fired-firing.result ≡ count p c.args.actor = rw (← c.self.view_is) at c.fired-firing.ensures in
-    let gone : tokens_in c.take_inputs-n.new.pool ≡ left c.args.actor (count p c.args.actor) c.self.inside.layout.channels p.tokens = left_here c.self.inside.layout p c.args.actor c.fired-firing.result (tokens_in c.take_inputs-n.new.pool) c.self.invariant.fit k c.take_inputs-n.ensures.left in
-    let g : c.gives-gift.result ≡ gift c.args.actor (count p c.args.actor) c.self.inside.layout.channels = rw (← c.self.view_is) at c.gives-gift.ensures.sum in
-    let n : c.need-need.result ≡ need c.args.actor (count p c.args.actor) c.self.inside.layout.channels = rw (← c.self.view_is) at c.need-need.ensures.value in
-    let more : c.saturating_sub.result ≡ gift c.args.actor (count p c.args.actor) c.self.inside.layout.channels - need c.args.actor (count p c.args.actor) c.self.inside.layout.channels = rw (c.saturating_sub.ensures, g, n) refl in
-    let le : c.saturating_sub.result ≤ c.self.inside.reserved = kept_to_read c.self.inside.layout p c.args.actor c.self.inside.reserved c.saturating_sub.result c.self.invariant.fit none c.self.invariant.keeps more in
-    let kept : c.self.inside.reserved - c.saturating_sub.result + c.gives-gift.result + (gift c.args.actor (count p c.args.actor) c.self.inside.layout.channels - need c.args.actor (count p c.args.actor) c.self.inside.layout.channels) ≡ c.self.inside.reserved + gift c.args.actor (count p c.args.actor) c.self.inside.layout.channels = omega (arith, le, more, g) in
-    let sound = sound_fetched c.self.inside.layout p c.self.inside.peaks.items c.self.inside.sums.items c.self.inside.started c.self.inside.reserved c.self.inside.pool c.args.actor (c.self.inside.reserved - c.saturating_sub.result + c.gives-gift.result) c.take_inputs-n.new.pool c.self.invariant none kept c.take_inputs-n.ensures.same (record { size = c.take_inputs-n.ensures.size ∙ c.self.invariant.cells.size; partition = c.take_inputs-n.ensures.partition }) in
-    let now : record { counts = c.self.inside.counts.items; stages = set c.self.inside.stages.items c.args.actor Fetched; opens = c.self.inside.opens.items; tokens = tokens_in c.take_inputs-n.new.pool } ≡ fetched c.self.inside.layout p c.args.actor = ap (λ ts. record { counts = c.self.inside.counts.items; stages = set c.self.inside.stages.items c.args.actor Fetched; opens = c.self.inside.opens.items; tokens = ts }) gone in
-    let answered = answered_here c.self.inside.layout p c.args.actor c.fired-firing.result c.take_inputs-n.result c.take_inputs-n.new.into c.args.into.now c.self.invariant.fit none k c.take_inputs-n.ensures.count c.take_inputs-n.ensures.answer in
-    let peaks : c.self.inside.peaks.items ≡ raised c.self.inside.peaks.items (tokens_in c.take_inputs-n.new.pool) = sym (ap (raised c.self.inside.peaks.items) gone ∙ peaks_stay _ _ _ _ _ _ _ sound) in
-    rw (← c.self.view_is) (follows_accepted _ _ (Read c.args.actor) _ refl none answered now c.self.invariant.fit refl (record { size = c.take_inputs-n.ensures.size ∙ c.self.invariant.cells.size; partition = c.take_inputs-n.ensures.partition }) peaks)
+    let plan : Plan = c.self.inside.layout in
+    let a : ℕ = c.args.actor in
+    let none : refusal plan p (Read a) ≡ None = rw (← c.self.view_is) at (sym c.read_refusal.ensures ∙ c.in_default.is) in
+    let k : c.fired-firing.result ≡ count p a = rw (← c.self.view_is) at c.fired-firing.ensures.value in
+    let gone : tokens_in c.take_inputs-n.new.pool ≡ left a (count p a) plan.channels p.tokens =
+    left_here plan p a c.fired-firing.result (tokens_in c.take_inputs-n.new.pool) c.self.invariant.fit k c.take_inputs-n.ensures.left in
+    let g : c.gives-gift.result ≡ gift a (count p a) plan.channels = rw (← c.self.view_is) at c.gives-gift.ensures.sum in
+    let n : c.need-need.result ≡ need a (count p a) plan.channels = rw (← c.self.view_is) at c.need-need.ensures.value in
+    let more : c.saturating_sub.result ≡ gift a (count p a) plan.channels - need a (count p a) plan.channels = rw (c.saturating_sub.ensures, g, n) refl in
+    let le : c.saturating_sub.result ≤ c.self.inside.reserved = kept_to_read plan p a c.self.inside.reserved c.saturating_sub.result c.self.invariant.fit none
+    c.self.invariant.keeps more in
+    let kept : c.self.inside.reserved - c.saturating_sub.result + c.gives-gift.result + (gift a (count p a) plan.channels - need a (count p a) plan.channels)
+    ≡ c.self.inside.reserved + gift a (count p a) plan.channels = omega (arith, le, more, g) in
+    let sound = sound_fetched plan p c.self.inside.peaks.items c.self.inside.sums.items c.self.inside.started c.self.inside.reserved c.self.inside.pool a
+    (c.self.inside.reserved - c.saturating_sub.result + c.gives-gift.result) c.take_inputs-n.new.pool c.self.invariant none kept
+    c.take_inputs-n.ensures.same (record
+    { size = c.take_inputs-n.ensures.size ∙ c.self.invariant.cells.size; partition = c.take_inputs-n.ensures.partition }) in
+    let now : record {
+      counts = c.self.inside.counts.items;
+      stages = set c.self.inside.stages.items a Fetched;
+      opens = c.self.inside.opens.items;
+      tokens = tokens_in c.take_inputs-n.new.pool;
+    } ≡ fetched plan p a = ap
+    (λ ts. record {
+      counts = c.self.inside.counts.items;
+      stages = set c.self.inside.stages.items a Fetched;
+      opens = c.self.inside.opens.items;
+      tokens = ts;
+    }) gone in
+    let answered = answered_here plan p a c.fired-firing.result c.take_inputs-n.result c.take_inputs-n.new.into c.args.into.now c.self.invariant.fit none k
+    c.take_inputs-n.ensures.count c.take_inputs-n.ensures.answer in
+    let peaks : c.self.inside.peaks.items ≡ raised c.self.inside.peaks.items (tokens_in c.take_inputs-n.new.pool) =
+    sym (ap (raised c.self.inside.peaks.items) gone ∙ peaks_stay _ _ _ _ _ _ _ sound) in
+    rw (← c.self.view_is) (follows_accepted _ _ (Read a) _ refl none answered now c.self.invariant.fit refl
+    (record { size = c.take_inputs-n.ensures.size ∙ c.self.invariant.cells.size; partition = c.take_inputs-n.ensures.partition }) peaks)

@@ -1,7 +1,8 @@
 use Rattle.std.specs.Vec.{with_items}
 use Rattle.std.proofs.lemmas.List.{with_items_is}
-use Rattle.std.proofs.Common.{◌≡◌, ◌+◌, ◌-◌, length, set, None, sym, ◌∙◌, ap, subst, refl, arith}
+use Rattle.std.proofs.Common.{◌≡◌, ◌+◌, ◌-◌, length, set, None, sym, ◌∙◌, ap, subst, refl, arith, ℕ}
 use Rattle.csdf_core.specs.declared.stage.Stage.TheVariants.{Written}
+use Rattle.csdf_core.specs.Plan.{Plan}
 use Rattle.csdf_core.specs.State.{Present}
 use Rattle.csdf_core.specs.Ports.{tokens_in, outputs_at, raise_over}
 use Rattle.csdf_core.specs.Moves.{Write}
@@ -14,28 +15,34 @@ use Rattle.csdf_core.proofs.CoreLemmas.{held-chains}
 use Rattle.csdf_core.proofs.Follows.{follows_refused, follows_accepted}
 use Rattle.csdf_core.proofs.Kept.{writes}
 use Rattle.csdf_core.proofs.Moving.{put_here, peaks_here, kept_to_write, cells_to_write}
-use Rattle.csdf_core.proofs.Next.{written}
+use Rattle.csdf_core.specs.Next.{written}
 use Rattle.csdf_core.proofs.SoundLemmas.{sound_written}
 use Rattle.csdf_core.proofs.Peaceful.{peaks_stay}
 use Rattle.csdf_core.proofs.firing_core.Core.write.Goals as goal
 
 pub returns-in-Some-clause-step : goal.returns-in-Some-clause-step
 returns-in-Some-clause-step c =
-    rw (← c.self.view_is) (follows_refused _ (Write c.args.actor c.args.tokens.now) c.in-Some.refusal (rw (← c.self.view_is) at (sym c.write_refusal.ensures ∙ c.in-Some.is)) (peaks_stay _ _ _ _ _ _ _ c.self.invariant) c.self.invariant.cells)
+    rw (← c.self.view_is) (follows_refused _ (Write c.args.actor c.args.tokens.now) c.in-Some.refusal
+    (rw (← c.self.view_is) at (sym c.write_refusal.ensures ∙ c.in-Some.is)) (peaks_stay _ _ _ _ _ _ _ c.self.invariant) c.self.invariant.cells)
 
 pub put_outputs-requires-clause-all : goal.put_outputs-requires-clause-all
 put_outputs-requires-clause-all c =
     let p : Present = now_in c.self.inside in
-    let none : first_of (write_table c.self.inside.layout p c.args.actor c.args.tokens.now) ≡ None = rw (← c.self.view_is) at (sym c.write_refusal.ensures ∙ c.in_default.is) in
-    let k : c.fired-firing.result ≡ count p c.args.actor = rw (← c.self.view_is) at c.fired-firing.ensures in
-    ap (λ n. gift c.args.actor n c.self.inside.layout.channels) k ∙ sym (writes c.self.inside.layout p c.args.actor c.args.tokens.now none).1
+    let plan : Plan = c.self.inside.layout in
+    let a : ℕ = c.args.actor in
+    let none : first_of (write_table plan p a c.args.tokens.now) ≡ None = rw (← c.self.view_is) at (sym c.write_refusal.ensures ∙ c.in_default.is) in
+    let k : c.fired-firing.result ≡ count p a = rw (← c.self.view_is) at c.fired-firing.ensures.value in
+    ap (λ n. gift a n plan.channels) k ∙ sym (writes plan p a c.args.tokens.now none).1
 
 pub prove-unreachable-requires : goal.prove-unreachable-requires
 prove-unreachable-requires c =
     let p : Present = now_in c.self.inside in
-    let none : first_of (write_table c.self.inside.layout p c.args.actor c.args.tokens.now) ≡ None = rw (← c.self.view_is) at (sym c.write_refusal.ensures ∙ c.in_default.is) in
-    let free : c.free_len.result + held p ≡ c.self.inside.layout.cells = omega (arith, c.free_len.ensures.accounted, c.self.invariant.cells.size, held-chains c.self.inside.pool.chains) in
-    let le = cells_to_write c.self.inside.layout p c.args.actor c.free_len.result c.args.tokens.now c.self.invariant.fit none free in
+    let plan : Plan = c.self.inside.layout in
+    let a : ℕ = c.args.actor in
+    let none : first_of (write_table plan p a c.args.tokens.now) ≡ None = rw (← c.self.view_is) at (sym c.write_refusal.ensures ∙ c.in_default.is) in
+    let free : c.free_len.result + held p ≡ plan.cells =
+    omega (arith, c.free_len.ensures.accounted, c.self.invariant.cells.size, held-chains c.self.inside.pool.chains) in
+    let le = cells_to_write plan p a c.free_len.result c.args.tokens.now c.self.invariant.fit none free in
     let bad = c.if-prove.true in
     omega (arith, le, bad)
 
@@ -45,39 +52,80 @@ put_outputs-requires-clause-room c = omega (arith, c.if-prove.false, c.free_len.
 pub overflow_sub-self : goal.overflow_sub-self
 overflow_sub-self c =
     let p : Present = now_in c.self.inside in
-    let none : first_of (write_table c.self.inside.layout p c.args.actor c.args.tokens.now) ≡ None = rw (← c.self.view_is) at (sym c.write_refusal.ensures ∙ c.in_default.is) in
-    kept_to_write c.self.inside.layout p c.args.actor c.self.inside.reserved c.args.tokens.now c.self.invariant.fit none c.self.invariant.keeps
+    let plan : Plan = c.self.inside.layout in
+    let a : ℕ = c.args.actor in
+    let none : first_of (write_table plan p a c.args.tokens.now) ≡ None = rw (← c.self.view_is) at (sym c.write_refusal.ensures ∙ c.in_default.is) in
+    kept_to_write plan p a c.self.inside.reserved c.args.tokens.now c.self.invariant.fit none c.self.invariant.keeps
 
 pub invariant_of-self : goal.invariant_of-self
 invariant_of-self c =
     let p : Present = now_in c.self.inside in
-    let none : first_of (write_table c.self.inside.layout p c.args.actor c.args.tokens.now) ≡ None = rw (← c.self.view_is) at (sym c.write_refusal.ensures ∙ c.in_default.is) in
-    let k : c.fired-firing.result ≡ count p c.args.actor = rw (← c.self.view_is) at c.fired-firing.ensures in
-    let put : tokens_in c.put_outputs.new.pool ≡ joined p.tokens (shares c.args.actor (count p c.args.actor) c.self.inside.layout.channels c.args.tokens.now) = put_here c.self.inside.layout p c.args.actor c.fired-firing.result c.args.tokens.now (tokens_in c.put_outputs.new.pool) c.self.invariant.fit k c.put_outputs.ensures.put in
-    let peaks : c.raise_peaks.new.peaks ≡ raised c.self.inside.peaks.items (joined p.tokens (shares c.args.actor (count p c.args.actor) c.self.inside.layout.channels c.args.tokens.now)) =
-    peaks_here c.self.inside.layout p c.args.actor c.args.tokens.now (tokens_in c.put_outputs.new.pool) c.self.inside.peaks.items c.raise_peaks.new.peaks c.self.invariant.fit c.self.invariant.peaked c.self.invariant.high put (c.raise_peaks.ensures ∙ ap (raise_over (outputs_at c.self.inside.layout.channels c.args.actor) (tokens_in c.put_outputs.new.pool)) c.deref_mut.ensures.value) in
-    let le = kept_to_write c.self.inside.layout p c.args.actor c.self.inside.reserved c.args.tokens.now c.self.invariant.fit none c.self.invariant.keeps in
-    let all = (writes c.self.inside.layout p c.args.actor c.args.tokens.now none).1 in
-    let kept : c.self.inside.reserved - length c.args.tokens.now + gift c.args.actor (count p c.args.actor) c.self.inside.layout.channels ≡ c.self.inside.reserved = omega (arith, le, all) in
-    let sound = sound_written c.self.inside.layout p c.self.inside.peaks.items c.self.inside.sums.items c.self.inside.started c.self.inside.reserved c.self.inside.pool c.args.actor (c.self.inside.reserved - length c.args.tokens.now) c.args.tokens.now c.raise_peaks.new.peaks c.put_outputs.new.pool c.self.invariant none kept peaks c.put_outputs.ensures.same (record { size = c.put_outputs.ensures.size ∙ c.self.invariant.cells.size; partition = c.put_outputs.ensures.partition }) in
-    let size : length c.raise_peaks.new.peaks ≡ c.self.inside.peaks.len = (let same_length = ap length c.deref_mut.ensures.value in omega (arith, sound.peaked, c.self.invariant.peaked, same_length, c.deref_mut.ensures.len)) in
-    let items : (with_items c.self.inside.peaks c.raise_peaks.new.peaks).items ≡ c.raise_peaks.new.peaks = with_items_is c.self.inside.peaks c.raise_peaks.new.peaks size in
-    subst (λ qs. IsSound c.self.inside.layout (record { counts = c.self.inside.counts.items; stages = set c.self.inside.stages.items c.args.actor Written; opens = c.self.inside.opens.items; tokens = tokens_in c.put_outputs.new.pool }) qs c.self.inside.sums.items c.self.inside.started (c.self.inside.reserved - length c.args.tokens.now) c.put_outputs.new.pool) (sym items)
-    (subst (λ ts. IsSound c.self.inside.layout (record { counts = c.self.inside.counts.items; stages = set c.self.inside.stages.items c.args.actor Written; opens = c.self.inside.opens.items; tokens = ts }) c.raise_peaks.new.peaks c.self.inside.sums.items c.self.inside.started (c.self.inside.reserved - length c.args.tokens.now) c.put_outputs.new.pool) (sym put) sound)
+    let plan : Plan = c.self.inside.layout in
+    let a : ℕ = c.args.actor in
+    let none : first_of (write_table plan p a c.args.tokens.now) ≡ None = rw (← c.self.view_is) at (sym c.write_refusal.ensures ∙ c.in_default.is) in
+    let k : c.fired-firing.result ≡ count p a = rw (← c.self.view_is) at c.fired-firing.ensures.value in
+    let put : tokens_in c.put_outputs.new.pool ≡ joined p.tokens (shares a (count p a) plan.channels c.args.tokens.now) =
+    put_here plan p a c.fired-firing.result c.args.tokens.now (tokens_in c.put_outputs.new.pool) c.self.invariant.fit k c.put_outputs.ensures.put in
+    let peaks : c.raise_peaks.new.peaks ≡ raised c.self.inside.peaks.items (joined p.tokens (shares a (count p a) plan.channels c.args.tokens.now)) =
+    peaks_here plan p a c.args.tokens.now (tokens_in c.put_outputs.new.pool) c.self.inside.peaks.items c.raise_peaks.new.peaks c.self.invariant.fit
+    c.self.invariant.peaked c.self.invariant.high put
+    (c.raise_peaks.ensures ∙ ap (raise_over (outputs_at plan.channels a) (tokens_in c.put_outputs.new.pool)) c.deref_mut.ensures.value) in
+    let le = kept_to_write plan p a c.self.inside.reserved c.args.tokens.now c.self.invariant.fit none c.self.invariant.keeps in
+    let all = (writes plan p a c.args.tokens.now none).1 in
+    let kept : c.self.inside.reserved - length c.args.tokens.now + gift a (count p a) plan.channels ≡ c.self.inside.reserved = omega (arith, le, all) in
+    let sound = sound_written plan p c.self.inside.peaks.items c.self.inside.sums.items c.self.inside.started c.self.inside.reserved c.self.inside.pool a
+    (c.self.inside.reserved - length c.args.tokens.now) c.args.tokens.now c.raise_peaks.new.peaks c.put_outputs.new.pool c.self.invariant none kept peaks
+    c.put_outputs.ensures.same (record { size = c.put_outputs.ensures.size ∙ c.self.invariant.cells.size; partition = c.put_outputs.ensures.partition }) in
+    let size : length c.raise_peaks.new.peaks ≡ c.self.inside.peaks.len =
+    (let same_length = ap length c.deref_mut.ensures.value in omega (arith, sound.peaked, c.self.invariant.peaked, same_length, c.deref_mut.ensures.len)) in
+    let items : (with_items c.self.inside.peaks c.raise_peaks.new.peaks).items ≡ c.raise_peaks.new.peaks =
+    with_items_is c.self.inside.peaks c.raise_peaks.new.peaks size in
+    subst (λ qs. IsSound plan (record {
+      counts = c.self.inside.counts.items;
+      stages = set c.self.inside.stages.items a Written;
+      opens = c.self.inside.opens.items;
+      tokens = tokens_in c.put_outputs.new.pool;
+    }) qs c.self.inside.sums.items c.self.inside.started (c.self.inside.reserved - length c.args.tokens.now)
+    c.put_outputs.new.pool) (sym items)
+    (subst (λ ts. IsSound plan (record
+    { counts = c.self.inside.counts.items; stages = set c.self.inside.stages.items a Written; opens = c.self.inside.opens.items; tokens = ts })
+    c.raise_peaks.new.peaks c.self.inside.sums.items c.self.inside.started (c.self.inside.reserved - length c.args.tokens.now) c.put_outputs.new.pool)
+    (sym put) sound)
 
 pub returns-clause-step : goal.returns-clause-step
 returns-clause-step c =
     let p : Present = now_in c.self.inside in
-    let none : first_of (write_table c.self.inside.layout p c.args.actor c.args.tokens.now) ≡ None = rw (← c.self.view_is) at (sym c.write_refusal.ensures ∙ c.in_default.is) in
-    let k : c.fired-firing.result ≡ count p c.args.actor = rw (← c.self.view_is) at c.fired-firing.ensures in
-    let put : tokens_in c.put_outputs.new.pool ≡ joined p.tokens (shares c.args.actor (count p c.args.actor) c.self.inside.layout.channels c.args.tokens.now) = put_here c.self.inside.layout p c.args.actor c.fired-firing.result c.args.tokens.now (tokens_in c.put_outputs.new.pool) c.self.invariant.fit k c.put_outputs.ensures.put in
-    let peaks : c.raise_peaks.new.peaks ≡ raised c.self.inside.peaks.items (joined p.tokens (shares c.args.actor (count p c.args.actor) c.self.inside.layout.channels c.args.tokens.now)) =
-    peaks_here c.self.inside.layout p c.args.actor c.args.tokens.now (tokens_in c.put_outputs.new.pool) c.self.inside.peaks.items c.raise_peaks.new.peaks c.self.invariant.fit c.self.invariant.peaked c.self.invariant.high put (c.raise_peaks.ensures ∙ ap (raise_over (outputs_at c.self.inside.layout.channels c.args.actor) (tokens_in c.put_outputs.new.pool)) c.deref_mut.ensures.value) in
-    let le = kept_to_write c.self.inside.layout p c.args.actor c.self.inside.reserved c.args.tokens.now c.self.invariant.fit none c.self.invariant.keeps in
-    let all = (writes c.self.inside.layout p c.args.actor c.args.tokens.now none).1 in
-    let kept : c.self.inside.reserved - length c.args.tokens.now + gift c.args.actor (count p c.args.actor) c.self.inside.layout.channels ≡ c.self.inside.reserved = omega (arith, le, all) in
-    let sound = sound_written c.self.inside.layout p c.self.inside.peaks.items c.self.inside.sums.items c.self.inside.started c.self.inside.reserved c.self.inside.pool c.args.actor (c.self.inside.reserved - length c.args.tokens.now) c.args.tokens.now c.raise_peaks.new.peaks c.put_outputs.new.pool c.self.invariant none kept peaks c.put_outputs.ensures.same (record { size = c.put_outputs.ensures.size ∙ c.self.invariant.cells.size; partition = c.put_outputs.ensures.partition }) in
-    let now : record { counts = c.self.inside.counts.items; stages = set c.self.inside.stages.items c.args.actor Written; opens = c.self.inside.opens.items; tokens = tokens_in c.put_outputs.new.pool } ≡ written c.self.inside.layout p c.args.actor c.args.tokens.now = ap (λ ts. record { counts = c.self.inside.counts.items; stages = set c.self.inside.stages.items c.args.actor Written; opens = c.self.inside.opens.items; tokens = ts }) put in
-    let size : length c.raise_peaks.new.peaks ≡ c.self.inside.peaks.len = (let same_length = ap length c.deref_mut.ensures.value in omega (arith, sound.peaked, c.self.invariant.peaked, same_length, c.deref_mut.ensures.len)) in
-    let same : (with_items c.self.inside.peaks c.raise_peaks.new.peaks).items ≡ raised c.self.inside.peaks.items (tokens_in c.put_outputs.new.pool) = with_items_is c.self.inside.peaks c.raise_peaks.new.peaks size ∙ peaks ∙ ap (raised c.self.inside.peaks.items) (sym put) in
-    rw (← c.self.view_is) (follows_accepted _ _ (Write c.args.actor c.args.tokens.now) _ refl none refl now c.self.invariant.fit refl (record { size = c.put_outputs.ensures.size ∙ c.self.invariant.cells.size; partition = c.put_outputs.ensures.partition }) same)
+    let plan : Plan = c.self.inside.layout in
+    let a : ℕ = c.args.actor in
+    let none : first_of (write_table plan p a c.args.tokens.now) ≡ None = rw (← c.self.view_is) at (sym c.write_refusal.ensures ∙ c.in_default.is) in
+    let k : c.fired-firing.result ≡ count p a = rw (← c.self.view_is) at c.fired-firing.ensures.value in
+    let put : tokens_in c.put_outputs.new.pool ≡ joined p.tokens (shares a (count p a) plan.channels c.args.tokens.now) =
+    put_here plan p a c.fired-firing.result c.args.tokens.now (tokens_in c.put_outputs.new.pool) c.self.invariant.fit k c.put_outputs.ensures.put in
+    let peaks : c.raise_peaks.new.peaks ≡ raised c.self.inside.peaks.items (joined p.tokens (shares a (count p a) plan.channels c.args.tokens.now)) =
+    peaks_here plan p a c.args.tokens.now (tokens_in c.put_outputs.new.pool) c.self.inside.peaks.items c.raise_peaks.new.peaks c.self.invariant.fit
+    c.self.invariant.peaked c.self.invariant.high put
+    (c.raise_peaks.ensures ∙ ap (raise_over (outputs_at plan.channels a) (tokens_in c.put_outputs.new.pool)) c.deref_mut.ensures.value) in
+    let le = kept_to_write plan p a c.self.inside.reserved c.args.tokens.now c.self.invariant.fit none c.self.invariant.keeps in
+    let all = (writes plan p a c.args.tokens.now none).1 in
+    let kept : c.self.inside.reserved - length c.args.tokens.now + gift a (count p a) plan.channels ≡ c.self.inside.reserved = omega (arith, le, all) in
+    let sound = sound_written plan p c.self.inside.peaks.items c.self.inside.sums.items c.self.inside.started c.self.inside.reserved c.self.inside.pool a
+    (c.self.inside.reserved - length c.args.tokens.now) c.args.tokens.now c.raise_peaks.new.peaks c.put_outputs.new.pool c.self.invariant none kept peaks
+    c.put_outputs.ensures.same (record { size = c.put_outputs.ensures.size ∙ c.self.invariant.cells.size; partition = c.put_outputs.ensures.partition }) in
+    let now : record {
+      counts = c.self.inside.counts.items;
+      stages = set c.self.inside.stages.items a Written;
+      opens = c.self.inside.opens.items;
+      tokens = tokens_in c.put_outputs.new.pool;
+    } ≡ written plan p a c.args.tokens.now = ap
+    (λ ts. record {
+      counts = c.self.inside.counts.items;
+      stages = set c.self.inside.stages.items a Written;
+      opens = c.self.inside.opens.items;
+      tokens = ts;
+    }) put in
+    let size : length c.raise_peaks.new.peaks ≡ c.self.inside.peaks.len =
+    (let same_length = ap length c.deref_mut.ensures.value in omega (arith, sound.peaked, c.self.invariant.peaked, same_length, c.deref_mut.ensures.len)) in
+    let same : (with_items c.self.inside.peaks c.raise_peaks.new.peaks).items ≡ raised c.self.inside.peaks.items (tokens_in c.put_outputs.new.pool) =
+    with_items_is c.self.inside.peaks c.raise_peaks.new.peaks size ∙ peaks ∙ ap (raised c.self.inside.peaks.items) (sym put) in
+    rw (← c.self.view_is) (follows_accepted _ _ (Write a c.args.tokens.now) _ refl none refl now c.self.invariant.fit refl
+    (record { size = c.put_outputs.ensures.size ∙ c.self.invariant.cells.size; partition = c.put_outputs.ensures.partition }) same)

@@ -14,4 +14,5 @@ returns c =
     let lt = rw (← c.self.view_is) at c.requires in
     let len = length-capacities c.self.inside.graph.channels c.self.inside.capacities.items c.self.invariant.roomy in
     let within : c.args.channel < length c.self.inside.capacities.items = omega (arith, lt, len, c.self.invariant.roomy) in
-    rw (← c.self.view_is) (c.index.ensures ∙ get_or_default c.self.inside.capacities.items c.args.channel c.index.result.now 0 within ∙ ap (λ l. get_or l c.args.channel 0) (sym (capacities-map c.self.inside.graph.channels c.self.inside.capacities.items c.self.invariant.roomy)))
+    rw (← c.self.view_is) (c.index.ensures ∙ get_or_default c.self.inside.capacities.items c.args.channel c.index.result.now 0 within
+    ∙ ap (λ l. get_or l c.args.channel 0) (sym (capacities-map c.self.inside.graph.channels c.self.inside.capacities.items c.self.invariant.roomy)))

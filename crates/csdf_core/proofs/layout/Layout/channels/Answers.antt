@@ -5,4 +5,5 @@ use Rattle.csdf_core.proofs.LayoutLemmas.{length-capacities}
 use Rattle.csdf_core.proofs.layout.Layout.channels.Goals as goal
 
 pub returns-clause-count : goal.returns-clause-count
-returns-clause-count c = rw (← c.self.view_is) (sym (length-map c.channels.result.now channel_view) ∙ ap length c.channels.ensures.value ∙ sym (length-capacities c.self.inside.graph.channels c.self.inside.capacities.items c.self.invariant.roomy))
+returns-clause-count c = rw (← c.self.view_is) (sym (length-map c.channels.result.now channel_view) ∙ ap length c.channels.ensures.value
+    ∙ sym (length-capacities c.self.inside.graph.channels c.self.inside.capacities.items c.self.invariant.roomy))

@@ -9,5 +9,14 @@ use Rattle.csdf_core.proofs.layout.Layout.is_source.Goals as goal
 pub returns : goal.returns
 returns c =
     let lt = rw (← c.self.view_is) at c.requires in
-    let within : c.args.actor < length c.actors.result.now = omega (arith, lt, length-map c.self.inside.graph.actors (λ (a : graph.Actor). is_source_kernel a.kernel), length-map c.actors.result.now actor_view, ap length c.actors.ensures.value) in
-    rw (← c.self.view_is) (c.is_source.ensures ∙ ap (λ x. is_source_kernel x.kernel) (sym c.index-actors-actor.is) ∙ seen_at actor_view (λ a. is_source_kernel a.kernel) c.actors.result.now c.self.inside.graph.actors c.actors.ensures.value c.args.actor _ false within c.index-actors-actor.is)
+    let within : c.args.actor < length c.actors.result.now =
+    omega (
+      arith,
+      lt,
+      length-map c.self.inside.graph.actors (λ (a : graph.Actor). is_source_kernel a.kernel),
+      length-map c.actors.result.now actor_view,
+      ap length c.actors.ensures.value,
+    ) in
+    rw (← c.self.view_is) (c.is_source.ensures ∙ ap (λ x. is_source_kernel x.kernel) (sym c.index-actors-actor.is)
+    ∙ seen_at actor_view (λ a. is_source_kernel a.kernel) c.actors.result.now c.self.inside.graph.actors c.actors.ensures.value c.args.actor _ false within
+    c.index-actors-actor.is)
