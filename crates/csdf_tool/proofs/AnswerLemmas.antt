@@ -67,11 +67,13 @@ accept_by_file names accept.Deadlock = tt
 accept_by_file names accept.TooTight = tt
 accept_by_file names accept.Memory = tt
 
-replay_by_file : (g : Graph) (script : Script) (r : Result (List Line) ToolFault) (f : ToolFault) → FailsByFile r → MatchResult r (λ lines. IsReplay g script lines (Err f)) (λ fault. answer_of (Err f) ≡ Err fault) → IsOfFile f
+replay_by_file : (g : Graph) (script : Script) (r : Result (List Line) ToolFault) (f : ToolFault) → FailsByFile r
+    → MatchResult r (λ lines. IsReplay g script lines (Err f)) (λ fault. answer_of (Err f) ≡ Err fault) → IsOfFile f
 replay_by_file g script (Ok lines) f h e = subst IsOfFile (sym e.3) (accept_by_file (names_of g.channels) e.0)
 replay_by_file g script (Err h') f h e = let same : h' ≡ f = cc in subst IsOfFile same h
 
-script_by_file : (g : Graph) (r : Result Script GraphFault) (f : ToolFault) → MatchResult r (λ script. IsReplayOf g script (Err f)) (λ fault. answer_of (Err f) ≡ Err (fault_of fault)) → IsOfFile f
+script_by_file : (g : Graph) (r : Result Script GraphFault) (f : ToolFault)
+    → MatchResult r (λ script. IsReplayOf g script (Err f)) (λ fault. answer_of (Err f) ≡ Err (fault_of fault)) → IsOfFile f
 script_by_file g (Ok script) f e = replay_by_file g script (lines_from g 0 script.lines) f (lines_by_file g 0 script.lines) e
 script_by_file g (Err h) f e = let same : fault_of h ≡ f = cc in subst IsOfFile same (fault_by_file h)
 

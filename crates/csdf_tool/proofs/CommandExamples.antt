@@ -1,9 +1,9 @@
 -- What some command lines ask for, computed.
-use Rattle.std.proofs.Common.{◌≡◌, List, [], ◌∷◌, true, false, codes, refl}
-use Rattle.clap.specs.Words.{Text, takes}
+use Rattle.std.proofs.Common.{◌≡◌, List, [], ◌∷◌, true, false, codes, map, refl}
+use Rattle.clap.specs.Words.{Shape, Text, fault_of, takes}
 use Rattle.clap.proofs.OnLiterals.{clap_on_literals}
 use Rattle.csdf_tool.specs.declared.question.Question.TheVariants.{Check, Repetition, Schedule, Capacity}
-use Rattle.csdf_tool.specs.CommandLine.{program, asked_by, words_ask, Moves, Ask}
+use Rattle.csdf_tool.specs.CommandLine.{program, asked_by, words_ask, Asked, Input, Moves, Ask}
 
 abbrev on : Text → List Text
 on command = command ∷ codes "a.toml" ∷ []
@@ -27,6 +27,21 @@ capacity_asks = refl
 moves_asks : words_ask (on (codes "moves")) ≡ Moves (codes "a.toml")
 unfolding clap_on_literals asked_by
 moves_asks = refl
+
+pub no_words_no_fault : fault_of program [] ≡ []
+unfolding clap_on_literals
+no_words_no_fault = refl
+
+-- the words of the file that is asked for
+abbrev file_of : Asked → Text
+file_of Input = []
+file_of (Moves path) = path
+file_of (Ask question path) = path
+
+-- each command has its meaning: it asks for something of the file that it names
+every_command_asks : map (λ (s : Shape). file_of (asked_by s.name (codes "a.toml"))) program.subs ≡ map (λ (s : Shape). codes "a.toml") program.subs
+unfolding clap_on_literals asked_by
+every_command_asks = refl
 
 no_words_are_taken : takes program [] ≡ true
 unfolding clap_on_literals

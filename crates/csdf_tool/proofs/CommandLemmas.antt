@@ -1,15 +1,12 @@
--- The command that a parse met, and the status of an answer.
-use Rattle.std.proofs.Common.{sym, ◌≡◌, ℕ, List, [], Option, Some, None, option_map, codes, refl, ap, ap₂, ◌∙◌, Bor}
-use Rattle.std.specs.Prelude.{Box, Result, Ok, Err, IfErr, OnOk, unwrap_or}
+-- The command that a parse met.
+use Rattle.std.proofs.Common.{◌≡◌, ℕ, List, [], Option, Some, None, option_map, codes, refl, ap, ap₂, ◌∙◌, Bor}
+use Rattle.std.specs.Prelude.{Box, unwrap_or}
 use Rattle.std.specs.Box.{box_value}
 use Rattle.clap.specs.Words.{Row, Text, first_of, subcommand_name_of, subcommand_rows, subcommand_rows_of}
 use Rattle.clap.specs.declared.parser.matches.ArgMatches.{ArgMatches}
 use Rattle.clap.specs.declared.parser.matches.ArgMatches.TheViews.{out-ArgMatches, out-SubCommand}
 use Rattle.clap.specs.declared.parser.matches.SubCommand.{SubCommand}
 use Rattle.csdf_tool.specs.CommandLine.{asked_by, asked}
-use Rattle.csdf_tool.specs.Faults.{status_of}
-use Rattle.csdf_tool.specs.declared.fault.ToolFault.{ToolFault}
-use Rattle.csdf_tool.specs.declared.fault.ToolFault.TheVariants as fault
 
 -- a text, or another where there is none
 pub text_or : (o : Option (Bor (List ℕ))) (d r : Bor (List ℕ)) → r ≡ unwrap_or o d → r.now ≡ unwrap_or (option_map (λ s. s.now) o) d.now
@@ -24,30 +21,15 @@ met (Some p) name path rows named given path_is =
     let second : rows ≡ p.1 = cc in
     ap₂ asked_by first (path_is ∙ ap (λ rs. unwrap_or (first_of (codes "GRAPH") rs) []) second)
 
-named_in : {Z : Type 0} (o : Option (Box SubCommand Z)) → option_map (λ b. (out-SubCommand (box_value b)).name.now) o ≡ option_map (λ p. p.0) (subcommand_rows o)
+named_in : {Z : Type 0} (o : Option (Box SubCommand Z))
+    → option_map (λ b. (out-SubCommand (box_value b)).name.now) o ≡ option_map (λ p. p.0) (subcommand_rows o)
 named_in None = refl
 named_in (Some b) = refl
 
 named_of : (m : ArgMatches) → subcommand_name_of m ≡ option_map (λ p. p.0) (subcommand_rows_of m)
 named_of m = named_in (out-ArgMatches m).subcommand
 
-pub asked_met : (m : ArgMatches) (name path : Text) (rows : List Row) → Some name ≡ subcommand_name_of m → Some rows ≡ option_map (λ p. p.1) (subcommand_rows_of m)
+pub asked_met : (m : ArgMatches) (name path : Text) (rows : List Row) → Some name ≡ subcommand_name_of m
+    → Some rows ≡ option_map (λ p. p.1) (subcommand_rows_of m)
     → path ≡ unwrap_or (first_of (codes "GRAPH") rows) [] → asked_by name path ≡ asked (subcommand_rows_of m)
 asked_met m name path rows named given path_is = met (subcommand_rows_of m) name path rows (named ∙ named_of m) given path_is
-
--- no fault ends with status 0
-not_zero : (f : ToolFault) → status_of f ≡ 0 → ⊥
-not_zero (fault.Graph g) e = absurd (let no : 1 ≡ 0 = e in cc)
-not_zero (fault.Line n) e = absurd (let no : 1 ≡ 0 = e in cc)
-not_zero (fault.Unbalanced name) e = absurd (let no : 1 ≡ 0 = e in cc)
-not_zero (fault.TooLarge name) e = absurd (let no : 1 ≡ 0 = e in cc)
-not_zero fault.Deadlock e = absurd (let no : 1 ≡ 0 = e in cc)
-not_zero fault.TooTight e = absurd (let no : 1 ≡ 0 = e in cc)
-not_zero fault.TooLong e = absurd (let no : 1 ≡ 0 = e in cc)
-not_zero (fault.Device d) e = absurd (let no : 3 ≡ 0 = e in cc)
-not_zero fault.Memory e = absurd (let no : 3 ≡ 0 = e in cc)
-
--- where the status is 0, what holds of an answer holds
-pub at_zero : (answer : Result (Unit {0}) ToolFault) (status : ℕ) (P : Type 0) → IfErr answer (λ f. status ≡ status_of f) → status ≡ 0 → OnOk answer P → P
-at_zero (Ok u) status P told zero p = p
-at_zero (Err f) status P told zero p = absurd (not_zero f (sym told ∙ zero))

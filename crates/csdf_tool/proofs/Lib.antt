@@ -4,4 +4,5 @@ pub mod SessionLemmas
 pub mod AnswerLemmas
 pub mod CommandExamples
 pub mod CommandLemmas
+pub mod EndLemmas
 pub mod ToldLemmas

@@ -22,7 +22,10 @@ abbrev pub with_command : App → Text → App
 with_command a name = with_subcommand a (on_graph name).top
 
 abbrev pub program : App
-program = with_command (with_command (with_command (with_command (with_command no_commands (codes "moves")) (codes "check")) (codes "repetition")) (codes "schedule")) (codes "capacity")
+program =
+    let two = with_command (with_command no_commands (codes "moves")) (codes "check") in
+    let four = with_command (with_command two (codes "repetition")) (codes "schedule") in
+    with_command four (codes "capacity")
 
 -- ---- what they ask for
 
@@ -36,14 +39,15 @@ asked_view request.Input = Input
 asked_view (request.Moves path) = Moves path.now
 asked_view (request.Ask question path) = Ask question path.now
 
--- what a command asks for with the file that it names
+-- what a command asks for with the file that it names; no other command has a file
 unfoldable pub asked_by : Text → Text → Asked
 asked_by name path =
     if bytes_eq name (codes "check") then Ask Check path
     else if bytes_eq name (codes "repetition") then Ask Repetition path
     else if bytes_eq name (codes "schedule") then Ask Schedule path
     else if bytes_eq name (codes "capacity") then Ask Capacity path
-    else Moves path
+    else if bytes_eq name (codes "moves") then Moves path
+    else Input
 
 -- what the command that was met asks for, and standard input where none was
 abbrev pub asked : Option (Text × List Row) → Asked

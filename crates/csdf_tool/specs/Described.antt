@@ -55,7 +55,8 @@ capacity_text a = capacity_lines a.capacities (enumerate_from 0 (names_of a.grap
 
 -- why the graph has no least vector within the limits, other than for want of memory
 abbrev pub RefusesRepetition : Graph → ToolFault → Type 0
-RefusesRepetition g fault = (refusal : AcceptFault) × IsRefused g.actors g.channels refusal × (refusal ≢ accept.Memory) × (fault ≡ accept_fault (names_of g.channels) refusal)
+RefusesRepetition g fault =
+    (refusal : AcceptFault) × IsRefused g.actors g.channels refusal × (refusal ≢ accept.Memory) × (fault ≡ accept_fault (names_of g.channels) refusal)
 
 -- what is told of the least vector of the graph, by its cycles and firings, or why it has none
 abbrev pub ByRepetition : Graph → (List ℕ → List ℕ → List ℕ) → Result (List ℕ) ToolFault → Type 0
@@ -69,7 +70,8 @@ ByAcceptance g Tells (Err fault) = RefusesGraph g fault
 
 -- the text is the schedule of a period
 abbrev pub TellsSchedule : Accepted → List ℕ → Type 0
-TellsSchedule a text = (schedule : List ℕ) × IsScheduleOf a.graph.channels a.q a.capacities schedule × (text ≡ schedule_text (actor_names a.graph.actors) schedule)
+TellsSchedule a text =
+    (schedule : List ℕ) × IsScheduleOf a.graph.channels a.q a.capacities schedule × (text ≡ schedule_text (actor_names a.graph.actors) schedule)
 
 abbrev pub TellsCapacity : Accepted → List ℕ → Type 0
 TellsCapacity a text = text ≡ capacity_text a
@@ -96,4 +98,6 @@ IsTold question.Capacity g = IsCapacityTold g
 
 -- the answer to a question about a graph file, or its first fault: those of the file come first
 abbrev pub IsDescription : Question → List ℕ → Result (List ℕ) ToolFault → Type 0
-IsDescription question bytes answer = (graph : Result Graph GraphFault) × IsGraphOf bytes graph × MatchResult graph (λ g. IsTold question g answer) (λ fault. answer ≡ Err (fault_of fault))
+IsDescription question bytes answer =
+    (graph : Result Graph GraphFault) × IsGraphOf bytes graph
+    × MatchResult graph (λ g. IsTold question g answer) (λ fault. answer ≡ Err (fault_of fault))

@@ -1,7 +1,9 @@
 -- Faults of the program, and passes that end at the first.
-use Rattle.std.specs.Prelude.{◌≡◌, ◌≢◌, ℕ, List, Result, Ok, Err, codes}
+use Rattle.std.specs.Prelude.{◌≡◌, ◌≢◌, ℕ, List, ◌++◌, Result, Ok, Err, codes}
+use Rattle.std.specs.Fmt.{decimal}
 use Rattle.csdf_graph.specs.declared.fault.GraphFault.{GraphFault}
 use Rattle.csdf_graph.specs.declared.fault.GraphFault.TheVariants as graph
+use Rattle.csdf_graph.specs.Told.{place_text}
 use Rattle.csdf_graph.specs.declared.intake.InputFault.{InputFault}
 use Rattle.csdf_graph.specs.declared.intake.InputFault.TheVariants as input
 use Rattle.csdf_analysis.specs.declared.fault.AcceptFault.{AcceptFault}
@@ -12,11 +14,40 @@ use Rattle.csdf_tool.specs.Printed.{name_at}
 use Rattle.csdf_tool.specs.declared.fault.ToolFault.{ToolFault}
 use Rattle.csdf_tool.specs.declared.fault.ToolFault.TheVariants.{Graph, Line, Unbalanced, TooLarge, Deadlock, TooTight, TooLong, Device, Memory}
 
+-- ---- texts
+
 -- the text of a stream
 abbrev pub stream_text : Stream → List ℕ
 stream_text Input = codes "standard input"
 stream_text Output = codes "standard output"
 stream_text (File name) = name
+
+-- the text of a fault of a graph file
+abbrev pub graph_text : GraphFault → List ℕ
+graph_text graph.NotToml = codes "not TOML"
+graph_text (graph.Shape at) = codes "shape at " ++ place_text at
+graph_text (graph.Name at) = codes "name at " ++ place_text at
+graph_text (graph.Range at) = codes "range at " ++ place_text at
+graph_text (graph.UnknownActor c) = codes "unknown actor at channel " ++ decimal c
+graph_text (graph.PhaseLength c) = codes "phase length at channel " ++ decimal c
+graph_text (graph.ZeroRate c) = codes "zero rate at channel " ++ decimal c
+graph_text (graph.KernelPorts a) = codes "kernel ports at actor " ++ decimal a
+graph_text graph.NotConnected = codes "not connected"
+graph_text graph.Memory = codes "out of memory"
+
+-- the text of a fault
+abbrev pub fault_text : ToolFault → List ℕ
+fault_text (Graph fault) = codes "csdf: graph: " ++ graph_text fault
+fault_text (Line n) = codes "csdf: script: line " ++ decimal n
+fault_text (Unbalanced name) = codes "csdf: graph: unbalanced at channel " ++ name
+fault_text (TooLarge name) = codes "csdf: graph: too large at channel " ++ name
+fault_text Deadlock = codes "csdf: graph: deadlock"
+fault_text TooTight = codes "csdf: graph: too tight"
+fault_text TooLong = codes "csdf: input too long"
+fault_text (Device stream) = codes "csdf: device: " ++ stream_text stream
+fault_text Memory = codes "csdf: memory"
+
+-- ---- passes
 
 infixl 10 ◌>>=◌
 abbrev pub ◌>>=◌ : {A B : Type 0} → Result A ToolFault → (A → Result B ToolFault) → Result B ToolFault

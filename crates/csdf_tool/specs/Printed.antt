@@ -5,7 +5,8 @@ use Rattle.std.specs.Fmt.{decimal, signed_decimal}
 use Rattle.csdf_graph.specs.Graph.{Channel}
 use Rattle.csdf_pool.specs.Pool.{Held, Shared, held_cells, chain_of}
 use Rattle.csdf_core.specs.declared.refusal.Refusal.{Refusal}
-use Rattle.csdf_core.specs.declared.refusal.Refusal.TheVariants.{Unknown, Busy, Spent, Closed, Dry, Short, Full, Stopped, NoCells, NotBegun, NotRead, WrongCount, NotWritten}
+use Rattle.csdf_core.specs.declared.refusal.Refusal.TheVariants.{Unknown, Busy, Spent, Closed, Dry, Short, Full, Stopped}
+use Rattle.csdf_core.specs.declared.refusal.Refusal.TheVariants.{NoCells, NotBegun, NotRead, WrongCount, NotWritten}
 use Rattle.csdf_core.specs.Step.{Reply}
 
 abbrev pub newline : List ℕ

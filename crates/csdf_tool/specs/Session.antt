@@ -39,7 +39,8 @@ plan_in a script = plan_for a (replicate (length a.graph.actors) script.limit) (
 
 -- ---- what is printed
 
--- a pool that holds what waits in the channels: it has as many cells as are played with, they are shared out, and the tokens of each chain are those of its channel
+-- a pool that holds what waits in the channels: it has as many cells as are played with, they are shared out,
+-- and the tokens of each chain are those of its channel
 pub record Holds (plan : Plan) (p : Present) (pool : Shared) : Type 0 where
   pub size : pool.size ≡ plan.cells
   pub partition : IsPartition pool
@@ -59,7 +60,8 @@ next_state plan s Cells = s
 abbrev pub PrintsLines : List (List ℕ) → Plan → State → List Line → List ℕ → Type 0
 PrintsLines names plan s [] text = text ≡ []
 PrintsLines names plan s (line ∷ lines) text =
-    (first : List ℕ) × (rest : List ℕ) × PrintsLine names plan s line first × PrintsLines names plan (next_state plan s line) lines rest × (text ≡ first ++ rest)
+    (first : List ℕ) × (rest : List ℕ) × PrintsLine names plan s line first
+    × PrintsLines names plan (next_state plan s line) lines rest × (text ≡ first ++ rest)
 
 -- the fault tells why the graph is not accepted, other than for want of memory
 abbrev pub RefusesGraph : Graph → ToolFault → Type 0
@@ -80,6 +82,7 @@ abbrev pub IsAnswerFor : Result Graph GraphFault → List ℕ → Result (List �
 IsAnswerFor (Ok g) bytes answer = MatchResult (script_of bytes) (λ script. IsReplayOf g script answer) (λ fault. answer ≡ Err (fault_of fault))
 IsAnswerFor (Err fault) bytes answer = answer ≡ Err (fault_of fault)
 
--- what is printed for a graph file, or its first fault: those of the graph come first, then those of the script's table, of its lines, and why the graph is not accepted
+-- what is printed for a graph file, or its first fault: those of the graph come first, then those of the script's
+-- table, of its lines, and why the graph is not accepted
 abbrev pub IsAnswer : List ℕ → Result (List ℕ) ToolFault → Type 0
 IsAnswer bytes answer = (graph : Result Graph GraphFault) × IsGraphOf bytes graph × IsAnswerFor graph bytes answer

@@ -1,7 +1,7 @@
 //! The command line.
 
 ghost use Rattle.std.specs.Prelude.{◌≡◌, [], true, false, map, string_bytes, Ok, IfErr, IfOk};
-ghost use Rattle.clap.specs.Words.{app_of, fault_of, kind_of, subcommand_of, subcommand_rows_of, takes, FailsBy, HasKind};
+ghost use Rattle.clap.specs.Words.{app_of, fault_of, kind_of, subcommand_of, subcommand_rows_of, takes, FailsBy};
 ghost use Rattle.clap.specs.declared.builder.command.Command.TheViews.{out-Command as fields_of};
 ghost use Rattle.csdf_tool.specs.CommandLine.{on_graph, no_commands, with_command, program, asked_view, asked_by, asked, words_ask};
 
@@ -93,7 +93,7 @@ fn matches_of<'a>(alloc: Global, words: &'a [String]) -> Result<ArgMatches<'a>, 
     program(alloc)?.try_get_matches_from(words)
 }
 
-/// What a command asks for with the file that it names.
+/// What a command asks for with the file that it names. No other command has a file.
 #[tactic(auto, unfolding(crate::specs::CommandLine::asked_by))]
 fn asked_by<'a>(command: &str, graph: &'a str) -> Request<'a>
     ensures { asked_view result ≡ asked_by command.now graph.entry.now }
@@ -103,7 +103,8 @@ fn asked_by<'a>(command: &str, graph: &'a str) -> Request<'a>
         "repetition" => Request::Ask(Question::Repetition, graph),
         "schedule" => Request::Ask(Question::Schedule, graph),
         "capacity" => Request::Ask(Question::Capacity, graph),
-        _ => Request::Moves(graph),
+        "moves" => Request::Moves(graph),
+        _ => Request::Input,
     }
 }
 
@@ -125,7 +126,7 @@ pub(crate) fn request_of<'a>(alloc: Global, words: &'a [String]) -> Result<Reque
     ensures none { words.entry.now ≡ [] → result ≡ Ok Request.Input }
     ensures asked { IfOk result (λ r. asked_view r ≡ words_ask (map string_bytes words.entry.now)) }
     ensures taken { takes program (map string_bytes words.entry.now) ≡ true → IfErr result (λ e. kind_of e ≡ ErrorKind.OutOfMemory) }
-    ensures refused { IfErr result (HasKind (fault_of program (map string_bytes words.entry.now))) }
+    ensures refused { FailsBy (fault_of program (map string_bytes words.entry.now)) result }
 {
     if words.is_empty() {
         return Ok(Request::Input);

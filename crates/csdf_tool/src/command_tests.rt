@@ -96,6 +96,8 @@ fn words_are_carried_out(rt: HostRuntime) -> Result<(), Fail> {
     assert_eq!(rt; missing.as_str(), "3||csdf: device: no_such_file\n");
     let folder = run(&rt, "capacity .", "")?;
     assert_eq!(rt; folder.as_str(), "3||csdf: device: .\n");
+    fs::remove_file(&rt, "row.toml")?;
+    fs::remove_file(&rt, "script.toml")?;
     Ok(())
 }
 

@@ -8,7 +8,6 @@ use csdf_graph::{GraphFault, InputFault};
 use std::alloc::{AllocError, AllocFailed, Global};
 use std::fmt;
 use std::marker::Model;
-use thiserror::Error;
 
 /// The name of a channel or a file.
 #[derive(Debug, Drop)]
@@ -67,36 +66,77 @@ impl fmt::Display for Stream {
     }
 }
 
+/// A fault of a graph file, in the words of the line that tells it.
+#[derive(Drop)]
+struct InWords(GraphFault);
+
+impl fmt::Display for InWords {
+    ghost use Rattle.std.specs.Prelude.{Some};
+    ghost use Rattle.csdf_tool.specs.Faults.{graph_text};
+
+    ghost output = { λ words. Some (graph_text words.0) };
+
+    fn fmt<W: fmt::Write>(&self, f: &mut fmt::Formatter<W>) -> fmt::Result {
+        match self.0 {
+            GraphFault::NotToml => write!(f, "not TOML"),
+            GraphFault::Shape(at) => write!(f, "shape at {at}"),
+            GraphFault::Name(at) => write!(f, "name at {at}"),
+            GraphFault::Range(at) => write!(f, "range at {at}"),
+            GraphFault::UnknownActor(channel) => write!(f, "unknown actor at channel {channel}"),
+            GraphFault::PhaseLength(channel) => write!(f, "phase length at channel {channel}"),
+            GraphFault::ZeroRate(channel) => write!(f, "zero rate at channel {channel}"),
+            GraphFault::KernelPorts(actor) => write!(f, "kernel ports at actor {actor}"),
+            GraphFault::NotConnected => write!(f, "not connected"),
+            GraphFault::Memory => write!(f, "out of memory"),
+        }
+    }
+}
+
 /// Why a command gave no answer. Its text is the line that the program prints.
-#[derive(Debug, Drop, Error)]
+#[derive(Debug, Drop)]
 pub enum ToolFault {
     /// The graph file has this fault.
-    #[error("csdf: graph: {0}")]
     Graph(GraphFault),
     /// This line of the script, counted from 0, asks for nothing that there is.
-    #[error("csdf: script: line {0}")]
     Line(usize),
     /// The first channel that no repetition vector balances together with those before it.
-    #[error("csdf: graph: unbalanced at channel {0}")]
     Unbalanced(Name),
     /// The first channel whose full capacity is too large.
-    #[error("csdf: graph: too large at channel {0}")]
     TooLarge(Name),
     /// No capacities complete a period of the graph.
-    #[error("csdf: graph: deadlock")]
     Deadlock,
     /// No capacities that agree with the given ones complete a period of the graph.
-    #[error("csdf: graph: too tight")]
     TooTight,
     /// The input has more than 16,777,216 bytes.
-    #[error("csdf: input too long")]
     TooLong,
     /// A stream failed.
-    #[error("csdf: device: {0}")]
     Device(Stream),
     /// Memory ran out, which says nothing of the input.
-    #[error("csdf: memory")]
     Memory,
+}
+
+impl fmt::Display for ToolFault {
+    ghost use Rattle.std.specs.Prelude.{Some};
+    ghost use Rattle.csdf_tool.specs.Faults.{fault_text};
+
+    ghost output = { λ fault. Some (fault_text fault) };
+
+    fn fmt<W: fmt::Write>(&self, f: &mut fmt::Formatter<W>) -> fmt::Result {
+        match self {
+            ToolFault::Graph(fault) => {
+                let words = InWords(*fault);
+                write!(f, "csdf: graph: {words}")
+            }
+            ToolFault::Line(number) => write!(f, "csdf: script: line {number}"),
+            ToolFault::Unbalanced(name) => write!(f, "csdf: graph: unbalanced at channel {name}"),
+            ToolFault::TooLarge(name) => write!(f, "csdf: graph: too large at channel {name}"),
+            ToolFault::Deadlock => write!(f, "csdf: graph: deadlock"),
+            ToolFault::TooTight => write!(f, "csdf: graph: too tight"),
+            ToolFault::TooLong => write!(f, "csdf: input too long"),
+            ToolFault::Device(stream) => write!(f, "csdf: device: {stream}"),
+            ToolFault::Memory => write!(f, "csdf: memory"),
+        }
+    }
 }
 
 impl ToolFault {

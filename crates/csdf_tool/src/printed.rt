@@ -75,7 +75,8 @@ fn push_tokens(text: &mut String, tokens: &[i32]) -> Result<(), AllocError>
 
 /// Appends a reply.
 fn push_reply(text: &mut String, channels: &[Channel], reply: &Reply) -> Result<(), AllocError>
-    ensures { OnOk result (string_bytes text.new ≡ string_bytes text.old ++ reply_text (names_of (map channel_view channels.now)) (as_reply (λ tokens. tokens.items) reply.now)) }
+    ensures { OnOk result (string_bytes text.new ≡ string_bytes text.old ++ reply_text (names_of (map channel_view channels.now))
+        (as_reply (λ tokens. tokens.items) reply.now)) }
 {
     match reply {
         Ok(tokens) => {
@@ -97,7 +98,8 @@ pub(crate) fn push_reply_line(
     name: &str,
     reply: &Reply,
 ) -> Result<(), AllocError>
-    ensures { OnOk result (string_bytes text.new ≡ string_bytes text.old ++ reply_line (names_of (map channel_view channels.now)) verb.now name.now (as_reply (λ tokens. tokens.items) reply.now)) }
+    ensures { OnOk result (string_bytes text.new ≡ string_bytes text.old ++ reply_line (names_of (map channel_view channels.now))
+        verb.now name.now (as_reply (λ tokens. tokens.items) reply.now)) }
 {
     write!(text, "{verb} {name}: ")?;
     push_reply(text, channels, reply)?;
@@ -128,7 +130,8 @@ fn push_chain(text: &mut String, name: &str, core: &Core, number: u32) -> Result
 fn push_chains(text: &mut String, channels: &[Channel], core: &Core) -> Result<(), AllocError>
     requires same { length channels.now ≡ length core.now.plan.channels }
     requires few { length channels.now ≤ 128 }
-    ensures { OnOk result (string_bytes text.new ≡ string_bytes text.old ++ chain_lines core.now.pool (enumerate_from 0 (names_of (map channel_view channels.now)))) }
+    ensures { OnOk result (string_bytes text.new ≡ string_bytes text.old ++ chain_lines core.now.pool
+        (enumerate_from 0 (names_of (map channel_view channels.now)))) }
 {
     for (number, channel) in channels.iter().enumerate() {
         push_chain(text, channel.name.as_str(), core, number as u32)?;

@@ -1,11 +1,12 @@
 //! The program, from its words to its exit status.
 
-ghost use Rattle.std.specs.Prelude.{◌≡◌, ◌≢◌, ◌↔◌, ◌<◌, ◌⊎◌, length, map, string_bytes, ℕ, List, [], true, Ok, Err, IfErr, IfSome, OnOk};
+ghost use Rattle.std.specs.Prelude.{◌≡◌, ◌≢◌, ◌↔◌, ◌<◌, ◌≤◌, ◌⊎◌, length, map, string_bytes, ℕ, List, [], true, Ok, Err, IfErr, IfSome, OnOk};
 ghost use Rattle.std.specs.Io.KnownBytes.{Appends};
-ghost use Rattle.clap.specs.Words.{kind_of, takes};
+ghost use Rattle.clap.specs.Words.{fault_of, kind_of, takes};
 ghost use Rattle.csdf_tool.specs.CommandLine.{program, asked_view, words_ask, Moves, Ask};
 ghost use Rattle.csdf_tool.specs.Described.{IsDescription};
 ghost use Rattle.csdf_tool.specs.declared.question.Question.{Question};
+ghost use Rattle.csdf_tool.specs.Ends.{Ended, EndsAs, EndsBy, EndsFor, EndsForOneOf, IsFaultOfFile, IsFaultOfInput};
 ghost use Rattle.csdf_tool.specs.Faults.{status_of};
 ghost use Rattle.csdf_tool.specs.Session.{IsAnswer};
 
@@ -44,7 +45,8 @@ pub(crate) fn play_input<I: Intake, O: Outlet>(
 
 /// All bytes of a file.
 fn file_bytes(rt: &(impl Files + AllocGlobal), path: &str) -> Result<Vec<u8>, ToolFault>
-    ensures { IfErr result (λ fault. fault ≢ ToolFault.Device Stream.Output) }
+    ensures other { IfErr result (λ fault. fault ≢ ToolFault.Device Stream.Output) }
+    ensures long { IfErr result (λ fault. status_of fault ≡ 1 → fault ≡ ToolFault.TooLong) }
 {
     let alloc = rt.alloc();
     let name = Name::new(alloc, path)?;
@@ -76,6 +78,10 @@ fn carry_out<I: Intake, O: Outlet>(
         → IfSome (I.left reader.old) (λ bytes. 16777216 < length bytes) }
     ensures refused { request.entry ≡ Request.Input → IfErr result (λ fault. status_of fault ≡ 1 → fault ≢ ToolFault.TooLong
         → IfSome (I.left reader.old) (λ bytes. IsAnswer bytes (Err fault))) }
+    ensures moves_refused { (path : List ℕ) → asked_view request.entry ≡ Moves path
+        → IfErr result (λ fault. status_of fault ≡ 1 → IsFaultOfFile IsAnswer fault) }
+    ensures told_refused { (question : Question) (path : List ℕ) → asked_view request.entry ≡ Ask question path
+        → IfErr result (λ fault. status_of fault ≡ 1 → IsFaultOfFile (IsDescription question) fault) }
 {
     let alloc = rt.alloc();
     match request {
@@ -97,19 +103,29 @@ impl<O: Outlet> fmt::Write for Printer<'_, O> {
     }
 }
 
-/// The exit status of an answer. A fault is told on standard error, whose failure changes no
-/// status.
-fn status_after<E: Outlet>(answer: Result<(), ToolFault>, err: &mut E) -> u8
-    ensures answered { OnOk answer (result ≡ 0) }
+/// Tells a fault on a device, and answers its exit status.
+///
+/// Where there is no memory for its line, want of memory is told in its place. A failure of the
+/// device changes no status.
+fn tell<E: Outlet>(alloc: Global, fault: &ToolFault, err: &mut E) -> u8
+    ensures { EndsBy fault.now result (E.written err.old) (E.written err.new) (E.failed err.new) }
+{
+    let Ok(line) = format!(in alloc; "{fault}\n") else {
+        let _ = write_bytes(err, b"csdf: memory\n");
+        return 3;
+    };
+    let _ = write_bytes(err, line.as_bytes());
+    fault.status()
+}
+
+/// The exit status of an answer, whose fault is told on standard error.
+fn status_after<E: Outlet>(alloc: Global, answer: Result<(), ToolFault>, err: &mut E) -> u8
     ensures silent { OnOk answer (err.new ≡ err.old) }
-    ensures fault { IfErr answer (λ fault. result ≡ status_of fault) }
+    ensures ends { Ended answer result (E.written err.old) (E.written err.new) (E.failed err.new) }
 {
     match answer {
         Ok(()) => 0,
-        Err(fault) => {
-            let _ = writeln!(Printer(err), "{fault}");
-            fault.status()
-        }
+        Err(fault) => tell(alloc, &fault, err),
     }
 }
 
@@ -136,16 +152,14 @@ fn status_of_words<O: Outlet, E: Outlet>(
     ensures refused { (result ≡ 1) ⊎ (result ≡ 2) → out.new ≡ out.old }
     ensures device { result ≡ 3 → (out.new ≡ out.old) ⊎ (O.failed out.new ≡ true) }
     ensures answered { result ≡ 0 → err.new ≡ err.old }
-    ensures shown { (kind_of error.now ≡ ErrorKind.DisplayHelp) ⊎ (kind_of error.now ≡ ErrorKind.DisplayVersion) → (result ≡ 0) ⊎ (result ≡ 3) }
-    ensures memory { kind_of error.now ≡ ErrorKind.OutOfMemory → result ≡ 3 }
-    ensures usage { kind_of error.now ≢ ErrorKind.DisplayHelp → kind_of error.now ≢ ErrorKind.DisplayVersion
-        → kind_of error.now ≢ ErrorKind.OutOfMemory → result ≡ 2 }
+    ensures ends { EndsFor (kind_of error.now) result }
+    ensures lined { result ≡ 3 → (fault : ToolFault) × EndsAs fault result (E.written err.old) (E.written err.new) (E.failed err.new) }
 {
     match error.kind() {
         ErrorKind::DisplayHelp | ErrorKind::DisplayVersion => {
-            status_after(print_help(alloc, error, out), err)
+            status_after(alloc, print_help(alloc, error, out), err)
         }
-        ErrorKind::OutOfMemory => status_after(Err(ToolFault::Memory), err),
+        ErrorKind::OutOfMemory => tell(alloc, &ToolFault::Memory, err),
         _ => {
             let _ = write!(Printer(err), "{error}");
             2
@@ -157,8 +171,8 @@ fn status_of_words<O: Outlet, E: Outlet>(
 /// status: 0 where it is answered, 1 where an input is refused, 2 where the words are, 3 where a
 /// device or memory failed.
 ///
-/// A fault is one line on `err`, and nothing is written to `out` but for a fault of `out` itself.
-/// A failure of `err` changes no status.
+/// A fault of status 1 or 3 is told on `err` by its text and a newline, and nothing is written to
+/// `out` but for a fault of `out` itself. A failure of `err` changes no status.
 pub fn run_words<I: Intake, O: Outlet, E: Outlet>(
     rt: &(impl Files + AllocGlobal),
     words: &[String],
@@ -166,21 +180,30 @@ pub fn run_words<I: Intake, O: Outlet, E: Outlet>(
     out: &mut O,
     err: &mut E,
 ) -> u8
+    ensures known { result ≤ 3 }
     ensures refused { (result ≡ 1) ⊎ (result ≡ 2) → out.new ≡ out.old }
     ensures device { result ≡ 3 → (out.new ≡ out.old) ⊎ (O.failed out.new ≡ true) }
     ensures answered { result ≡ 0 → err.new ≡ err.old }
+    ensures lined { (result ≡ 1) ⊎ (result ≡ 3) → (fault : ToolFault) × EndsAs fault result (E.written err.old) (E.written err.new) (E.failed err.new) }
     ensures taken { takes program (map string_bytes words.now) ≡ true → result ≢ 2 }
-    ensures moves { (path : List ℕ) → takes program (map string_bytes words.now) ≡ true → words_ask (map string_bytes words.now) ≡ Moves path → result ≡ 0
+    ensures unread { fault_of program (map string_bytes words.now) ≢ [] → EndsForOneOf (fault_of program (map string_bytes words.now)) result }
+    ensures moves { (path : List ℕ) → takes program (map string_bytes words.now) ≡ true
+        → words_ask (map string_bytes words.now) ≡ Moves path → result ≡ 0
         → (bytes text : List ℕ) × IsAnswer bytes (Ok text) × Appends (O.written out.old) (O.written out.new) text }
-    ensures told { (question : Question) (path : List ℕ) → takes program (map string_bytes words.now) ≡ true → words_ask (map string_bytes words.now) ≡ Ask question path → result ≡ 0
+    ensures told { (question : Question) (path : List ℕ) → takes program (map string_bytes words.now) ≡ true
+        → words_ask (map string_bytes words.now) ≡ Ask question path → result ≡ 0
         → (bytes text : List ℕ) × IsDescription question bytes (Ok text) × Appends (O.written out.old) (O.written out.new) text }
+    ensures moves_refused { (path : List ℕ) → words_ask (map string_bytes words.now) ≡ Moves path → result ≡ 1
+        → (fault : ToolFault) × IsFaultOfFile IsAnswer fault × EndsAs fault result (E.written err.old) (E.written err.new) (E.failed err.new) }
+    ensures told_refused { (question : Question) (path : List ℕ) → words_ask (map string_bytes words.now) ≡ Ask question path → result ≡ 1
+        → (fault : ToolFault) × IsFaultOfFile (IsDescription question) fault × EndsAs fault result (E.written err.old) (E.written err.new) (E.failed err.new) }
     ensures played { words.now ≡ [] → result ≡ 0 → IfSome (I.left reader.old)
         (λ bytes. (text : List ℕ) × IsAnswer bytes (Ok text) × Appends (O.written out.old) (O.written out.new) text) }
-    ensures faulty { words.now ≡ [] → result ≡ 1 → IfSome (I.left reader.old)
-        (λ bytes. (16777216 < length bytes) ⊎ ((fault : ToolFault) × IsAnswer bytes (Err fault))) }
+    ensures faulty { words.now ≡ [] → result ≡ 1 → (fault : ToolFault) × IfSome (I.left reader.old) (λ bytes. IsFaultOfInput bytes fault)
+        × EndsAs fault result (E.written err.old) (E.written err.new) (E.failed err.new) }
 {
     match request_of(rt.alloc(), words) {
-        Ok(request) => status_after(carry_out(rt, request, reader, out), err),
+        Ok(request) => status_after(rt.alloc(), carry_out(rt, request, reader, out), err),
         Err(error) => status_of_words(rt.alloc(), &error, out, err),
     }
 }

@@ -44,7 +44,8 @@ pub(crate) fn repetition_text(
 ) -> Result<String, AllocError>
     requires cycles { length vector.now.r.items ≡ length actors.now }
     requires firings { length vector.now.q.items ≡ length actors.now }
-    ensures { IfOk result (λ text. string_bytes text ≡ repetition_text vector.now.r.items vector.now.q.items (enumerate_from 0 (actor_names (map actor_view actors.now)))) }
+    ensures { IfOk result (λ text. string_bytes text ≡ repetition_text vector.now.r.items vector.now.q.items
+        (enumerate_from 0 (actor_names (map actor_view actors.now)))) }
 {
     let mut text = String::new(alloc);
     for (number, actor) in actors.iter().enumerate() {
@@ -93,7 +94,8 @@ fn push_capacities(
     capacities: &[u32],
 ) -> Result<(), AllocError>
     requires { length capacities.now ≡ length channels.now }
-    ensures { OnOk result (string_bytes text.new ≡ string_bytes text.old ++ capacity_lines capacities.now (enumerate_from 0 (names_of (map channel_view channels.now)))) }
+    ensures { OnOk result (string_bytes text.new ≡ string_bytes text.old ++ capacity_lines capacities.now
+        (enumerate_from 0 (names_of (map channel_view channels.now)))) }
 {
     for (number, channel) in channels.iter().enumerate() {
         let name = channel.name.as_str();

@@ -1,6 +1,6 @@
 //! A script from its bytes to its replies.
 
-ghost use Rattle.std.specs.Prelude.{◌≡◌, ◌≢◌, ◌≤◌, ℕ, List, true, Ok, Err, map, string_bytes, IfErr, IfOk, OnOk};
+ghost use Rattle.std.specs.Prelude.{◌≡◌, ◌≢◌, ℕ, List, true, Ok, Err, map, string_bytes, IfErr, IfOk, OnOk};
 ghost use Rattle.std.specs.Io.KnownBytes.{Appends};
 ghost use Rattle.csdf_graph.specs.ScriptText.{script_view};
 ghost use Rattle.csdf_tool.specs.Faults.{Tells};
@@ -12,7 +12,7 @@ use crate::line::Line;
 use crate::session::{accepted_of, lines_of, opening_core};
 use crate::turns::turn_all;
 use csdf_analysis::Accepted;
-use csdf_graph::{Graph, Outlet, Script, read_graph, read_script, write_bytes};
+use csdf_graph::{Graph, Outlet, Script, read_graph_and_script, write_bytes};
 use std::alloc::{AllocError, Global};
 
 /// The text of lines on an accepted graph.
@@ -22,7 +22,6 @@ fn text_on(
     script: &Script,
     lines: &[Line<'_>],
 ) -> Result<String, AllocError>
-    requires { script.now.limit ≤ 1_000_000 }
     ensures { IfOk result (λ text. IsReplay accepted.now.graph (script_view script.now) (map line_view lines.now) (Ok (string_bytes text))) }
 {
     let mut core = opening_core(alloc, accepted, script)?;
@@ -33,7 +32,6 @@ fn text_on(
 
 /// The text of a script that is played on a graph, or its first fault.
 fn replay(alloc: Global, graph: Graph, script: &Script) -> Result<String, ToolFault>
-    requires { script.now.limit ≤ 1_000_000 }
     ensures { Tells string_bytes result (IsReplayOf graph (script_view script.now)) }
 {
     let lines = lines_of(alloc, &graph, &script.lines)?;
@@ -46,15 +44,14 @@ fn replay(alloc: Global, graph: Graph, script: &Script) -> Result<String, ToolFa
 fn text_of(alloc: Global, bytes: &[u8]) -> Result<String, ToolFault>
     ensures { Tells string_bytes result (IsAnswer bytes.now) }
 {
-    let graph = read_graph(alloc, bytes)?;
-    let script = read_script(alloc, bytes)?;
-    replay(alloc, graph, &script)
+    let read = read_graph_and_script(alloc, bytes)?;
+    replay(alloc, read.graph, &read.script)
 }
 
 /// Plays the script of a graph file on its graph, and writes the reply to each move.
 ///
 /// Nothing is written before the last move is played. The error is the first fault of
-/// [`read_graph`], of [`read_script`], of the script's lines and of
+/// [`read_graph_and_script`], of the script's lines and of
 /// [`accept`](csdf_analysis::accept); then [`ToolFault::Device`] where the writer failed.
 /// [`ToolFault::Memory`] may come in place of another answer, and says nothing of the file.
 pub fn play_script<O: Outlet>(alloc: Global, bytes: &[u8], writer: &mut O) -> Result<(), ToolFault>

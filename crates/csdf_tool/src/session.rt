@@ -1,6 +1,6 @@
 //! What a script plays on a graph.
 
-ghost use Rattle.std.specs.Prelude.{◌≡◌, ◌≢◌, ◌≤◌, length, map, string_bytes, IfErr, IfOk};
+ghost use Rattle.std.specs.Prelude.{◌≡◌, ◌≢◌, length, map, string_bytes, IfErr, IfOk};
 ghost use Rattle.csdf_graph.specs.Graph.{actor_view};
 ghost use Rattle.csdf_graph.specs.ScriptText.{script_view};
 ghost use Rattle.csdf_analysis.specs.Acceptance.{IsAccepted};
@@ -99,7 +99,6 @@ pub(crate) fn opening_core(
     accepted: &Accepted,
     script: &Script,
 ) -> Result<Core, AllocError>
-    requires { script.now.limit ≤ 1_000_000 }
     ensures plan { IfOk result (λ core. core.plan ≡ plan_in accepted.now (script_view script.now)) }
     ensures opening { IfOk result (λ core. Shows core (opening core.plan)) }
     ensures channels { IfOk result (λ core. length core.plan.channels ≡ length accepted.now.graph.channels) }

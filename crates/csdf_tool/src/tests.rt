@@ -186,6 +186,37 @@ moves = [
     Ok(())
 }
 
+/// A row with tokens in both channels, and two cells more than they need.
+const FILLED: &str = r#"cells = 5
+actor = [
+  { name = "a", kernel = "source" },
+  { name = "b", kernel = "copy" },
+  { name = "c", kernel = "sink" },
+]
+channel = [
+  { name = "x", from = "a", to = "b", produce = [1], consume = [2], initial = [5, 6] },
+  { name = "y", from = "b", to = "c", produce = [1], consume = [1], initial = [7] },
+]
+"#;
+
+#[test]
+fn initial_tokens_are_in_the_lowest_cells(rt: HostRuntime) -> Result<(), Fail> {
+    let script = r#"[script]
+moves = [
+  "cells", "begin c", "read c", "write c", "finish c", "begin b", "read b", "cells", "write b 11",
+  "finish b", "begin a", "read a", "write a 12", "cells",
+]
+"#;
+    let want = "cells x: 0 1\ncells y: 2\nfree: 3 4\n\
+                begin c: ok\nread c: ok 7\nwrite c: ok\nfinish c: ok\n\
+                begin b: ok\nread b: ok 5 6\ncells x:\ncells y:\nfree: 3 4 2 0 1\n\
+                write b: ok\nfinish b: ok\nbegin a: ok\nread a: ok\nwrite a: ok\n\
+                cells x: 4\ncells y: 3\nfree: 2 0 1\n";
+    let answer = answer_to(&rt, FILLED, script)?;
+    assert_eq!(rt; answer.as_str(), want);
+    Ok(())
+}
+
 #[test]
 fn cells_may_be_fewer_than_the_capacities(rt: HostRuntime) -> Result<(), Fail> {
     let table = [

@@ -24,7 +24,8 @@ fn turn_move(
     next: &Move,
     text: &mut String,
 ) -> Result<(), AllocError>
-    ensures { OnOk result (Turns (names_of (map channel_view channels.now)) core.old core.new (Play verb.now name.now (move_of next.now)) (string_bytes text.old) (string_bytes text.new)) }
+    ensures { OnOk result (Turns (names_of (map channel_view channels.now)) core.old core.new
+        (Play verb.now name.now (move_of next.now)) (string_bytes text.old) (string_bytes text.new)) }
 {
     let replies = play_on(core, alloc, slice::from_ref(next))?;
     match replies.first() {
@@ -43,7 +44,8 @@ fn turn(
 ) -> Result<(), AllocError>
     requires same { length channels.now ≡ length core.old.plan.channels }
     requires few { length channels.now ≤ 128 }
-    ensures { OnOk result (Turns (names_of (map channel_view channels.now)) core.old core.new (line_view line.now) (string_bytes text.old) (string_bytes text.new)) }
+    ensures { OnOk result (Turns (names_of (map channel_view channels.now)) core.old core.new
+        (line_view line.now) (string_bytes text.old) (string_bytes text.new)) }
 {
     match line {
         Line::Play(verb, name, next) => turn_move(alloc, channels, core, verb, name, next, text),

@@ -11,8 +11,10 @@ is_free = refl
 
 pub returns-clause-taken : goal.returns-clause-taken
 returns-clause-taken c = λ taken.
-    IfErr-weaker c.try_get_matches_from.result _ _ (λ e h. h (ap (λ (a : App). takes a (map string_bytes c.args.words.now)) c.in_ok-program.ensures ∙ taken)) c.try_get_matches_from.ensures.passes
+    let same = ap (λ (a : App). takes a (map string_bytes c.args.words.now)) c.in_ok-program.ensures in
+    IfErr-weaker c.try_get_matches_from.result _ _ (λ e h. h (same ∙ taken)) c.try_get_matches_from.ensures.passes
 
 pub returns-clause-kinds : goal.returns-clause-kinds
 returns-clause-kinds c =
-    subst (λ (a : App). FailsBy (fault_of a (map string_bytes c.args.words.now)) c.try_get_matches_from.result) c.in_ok-program.ensures (c.try_get_matches_from.ensures.kinds (ap is_simple_and_free c.in_ok-program.ensures ∙ is_free))
+    subst (λ (a : App). FailsBy (fault_of a (map string_bytes c.args.words.now)) c.try_get_matches_from.result) c.in_ok-program.ensures
+    (c.try_get_matches_from.ensures.kinds (ap is_simple_and_free c.in_ok-program.ensures ∙ is_free))

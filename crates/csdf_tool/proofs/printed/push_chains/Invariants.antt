@@ -5,4 +5,6 @@ use Rattle.csdf_tool.specs.Printed.{names_of, chain_lines}
 use Rattle.csdf_tool.proofs.printed.push_chains.Given as goal
 
 abbrev pub invariant-loop-number : goal.invariant-loop-number
-invariant-loop-number l = string_bytes l.text ++ chain_lines l.core.pool (enumerate_from l.number (names_of (map channel_view (drop l.number l.channels)))) ≡ string_bytes l.fn.text ++ chain_lines l.core.pool (enumerate_from 0 (names_of (map channel_view l.channels)))
+invariant-loop-number l =
+    string_bytes l.text ++ chain_lines l.core.pool (enumerate_from l.number (names_of (map channel_view (drop l.number l.channels))))
+    ≡ string_bytes l.fn.text ++ chain_lines l.core.pool (enumerate_from 0 (names_of (map channel_view l.channels)))

@@ -9,11 +9,13 @@ pub returns-in-Ok-clause-device : goal.returns-in-Ok-clause-device
 returns-in-Ok-clause-device g c = (
   λ e.
       let told = rw e at c.play_script.ensures.refused in
-      absurd (refusal_by_file _ (fault.Device Input) (told (λ m. let no : fault.Device Input ≡ fault.Memory = m in cc) (λ m. let no : fault.Device Input ≡ fault.Device Output = m in cc))),
+      absurd (refusal_by_file _ (fault.Device Input) (told (λ m. let no : fault.Device Input ≡ fault.Memory = m in cc)
+      (λ m. let no : fault.Device Input ≡ fault.Device Output = m in cc))),
   λ failed. let no : Err input.Read ≡ Ok c.in-Ok.bytes = sym (c.read_bytes.ensures.read.1 failed) ∙ c.in-Ok.is in cc,
 )
 
 pub returns-in-Ok-clause-long : goal.returns-in-Ok-clause-long
 returns-in-Ok-clause-long g c = λ e.
     let told = rw e at c.play_script.ensures.refused in
-    absurd (refusal_by_file _ fault.TooLong (told (λ m. let no : fault.TooLong ≡ fault.Memory = m in cc) (λ m. let no : fault.TooLong ≡ fault.Device Output = m in cc)))
+    absurd (refusal_by_file _ fault.TooLong (told (λ m. let no : fault.TooLong ≡ fault.Memory = m in cc)
+    (λ m. let no : fault.TooLong ≡ fault.Device Output = m in cc)))

@@ -6,4 +6,6 @@ use Rattle.csdf_tool.specs.Described.{capacity_lines}
 use Rattle.csdf_tool.proofs.question.push_capacities.Given as goal
 
 abbrev pub invariant-loop-number : goal.invariant-loop-number
-invariant-loop-number l = string_bytes l.text ++ capacity_lines l.capacities (enumerate_from l.number (names_of (map channel_view (drop l.number l.channels)))) ≡ string_bytes l.fn.text ++ capacity_lines l.capacities (enumerate_from 0 (names_of (map channel_view l.channels)))
+invariant-loop-number l =
+    string_bytes l.text ++ capacity_lines l.capacities (enumerate_from l.number (names_of (map channel_view (drop l.number l.channels))))
+    ≡ string_bytes l.fn.text ++ capacity_lines l.capacities (enumerate_from 0 (names_of (map channel_view l.channels)))

@@ -5,4 +5,6 @@ use Rattle.csdf_tool.specs.Described.{actor_names, repetition_text}
 use Rattle.csdf_tool.proofs.question.repetition_text.Given as goal
 
 abbrev pub invariant-loop-number : goal.invariant-loop-number
-invariant-loop-number l = string_bytes l.text ++ repetition_text l.vector.r.items l.vector.q.items (enumerate_from l.number (actor_names (map actor_view (drop l.number l.actors)))) ≡ repetition_text l.vector.r.items l.vector.q.items (enumerate_from 0 (actor_names (map actor_view l.actors)))
+invariant-loop-number l =
+    string_bytes l.text ++ repetition_text l.vector.r.items l.vector.q.items (enumerate_from l.number (actor_names (map actor_view (drop l.number l.actors))))
+    ≡ repetition_text l.vector.r.items l.vector.q.items (enumerate_from 0 (actor_names (map actor_view l.actors)))

@@ -10,5 +10,9 @@ pub returns : goal.returns
 returns c =
     let prints = c.in_ok-text.ensures (opening c.in_ok-core.core.plan) c.in_ok-core.ensures.opening in
     let channels = c.channels-channels.ensures.value ∙ ap (λ (g : Graph). g.channels) c.graph.ensures.graph in
-    let named = subst (λ cs. PrintsLines (names_of cs) c.in_ok-core.core.plan (opening c.in_ok-core.core.plan) (map line_view c.args.lines.now) (string_bytes c.in_ok-text.text)) channels prints in
-    (c.args.accepted.now, c.graph.ensures.accepted, refl, subst (λ p. PrintsLines (names_of c.args.accepted.now.graph.channels) p (opening p) (map line_view c.args.lines.now) (string_bytes c.in_ok-text.text)) c.in_ok-core.ensures.plan named)
+    let lines = map line_view c.args.lines.now in
+    let text = string_bytes c.in_ok-text.text in
+    let plan = c.in_ok-core.core.plan in
+    let named = subst (λ cs. PrintsLines (names_of cs) plan (opening plan) lines text) channels prints in
+    let names = names_of c.args.accepted.now.graph.channels in
+    (c.args.accepted.now, c.graph.ensures.accepted, refl, subst (λ p. PrintsLines names p (opening p) lines text) c.in_ok-core.ensures.plan named)

@@ -5,4 +5,6 @@ use Rattle.csdf_tool.proofs.SessionLemmas.{with_front}
 use Rattle.csdf_tool.proofs.session.lines_of.Given as goal
 
 abbrev pub invariant-loop-number : goal.invariant-loop-number
-invariant-loop-number l = with_front (map line_view l.lines.items) (lines_from l.graph l.number (map string_bytes (drop l.number l.texts))) ≡ lines_from l.graph 0 (map string_bytes l.texts)
+invariant-loop-number l =
+    with_front (map line_view l.lines.items) (lines_from l.graph l.number (map string_bytes (drop l.number l.texts)))
+    ≡ lines_from l.graph 0 (map string_bytes l.texts)

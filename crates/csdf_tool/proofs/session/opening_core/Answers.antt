@@ -7,13 +7,10 @@ use Rattle.csdf_tool.proofs.session.opening_core.Goals as goal
 pub returns-clause-plan : goal.returns-clause-plan
 returns-clause-plan c =
     c.in_ok-core.ensures.plan
-    ∙ plan_in-made c.args.accepted.now (script_view c.args.script.now) c.actors-actors.result.now c.in_ok-limits.limits.items c.in_ok-supply.supply.items
+    ∙ plan_in-made c.args.accepted.now (script_view c.args.script.now) c.actors-actors.result.now c.in_ok-limits.limits.items
+    c.in_ok-supply.supply.items
     (c.actors-actors.ensures.value ∙ ap (λ g. g.actors) c.graph.ensures.graph) (c.in_ok-limits.ensures.items_if_clones_equal (λ y e. e)) c.in_ok-supply.ensures
 
 pub returns-clause-channels : goal.returns-clause-channels
 returns-clause-channels c =
-    let plan =
-    c.in_ok-core.ensures.plan
-    ∙ plan_in-made c.args.accepted.now (script_view c.args.script.now) c.actors-actors.result.now c.in_ok-limits.limits.items c.in_ok-supply.supply.items
-    (c.actors-actors.ensures.value ∙ ap (λ g. g.actors) c.graph.ensures.graph) (c.in_ok-limits.ensures.items_if_clones_equal (λ y e. e)) c.in_ok-supply.ensures in
-    ap (λ (p : Plan). length p.channels) plan ∙ length-channels c.args.accepted.now (script_view c.args.script.now) c.graph.ensures.accepted
+    ap (λ (p : Plan). length p.channels) (returns-clause-plan c) ∙ length-channels c.args.accepted.now (script_view c.args.script.now) c.graph.ensures.accepted

@@ -6,4 +6,6 @@ use Rattle.csdf_tool.proofs.TurnLemmas.{GoesOn}
 use Rattle.csdf_tool.proofs.turns.turn_all.Given as goal
 
 abbrev pub invariant-loop-line : goal.invariant-loop-line
-invariant-loop-line l = GoesOn (names_of (map channel_view l.channels)) l.fn.core l.core (map line_view l.lines) (map line_view (drop l.line-index l.lines)) (string_bytes l.text)
+invariant-loop-line l =
+    GoesOn (names_of (map channel_view l.channels)) l.fn.core l.core (map line_view l.lines)
+    (map line_view (drop l.line-index l.lines)) (string_bytes l.text)

@@ -5,4 +5,6 @@ use Rattle.csdf_graph.specs.Tree.{all_some}
 use Rattle.csdf_tool.proofs.words.tokens_of.Given as goal
 
 abbrev pub invariant-loop-word : goal.invariant-loop-word
-invariant-loop-word l = option_map (λ ts. l.tokens.items ++ ts) (all_some (λ word. result_ok (token_in word)) (map (λ w. w.now) (drop l.word-index l.words))) ≡ all_some (λ word. result_ok (token_in word)) (map (λ w. w.now) l.words)
+invariant-loop-word l =
+    option_map (λ ts. l.tokens.items ++ ts) (all_some (λ word. result_ok (token_in word)) (map (λ w. w.now) (drop l.word-index l.words)))
+    ≡ all_some (λ word. result_ok (token_in word)) (map (λ w. w.now) l.words)

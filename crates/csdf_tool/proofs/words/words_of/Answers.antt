@@ -9,6 +9,7 @@ pub returns : goal.returns
 returns c =
     map_from_collect _ c.collect.ensures.ran
     (YieldsList-from_filter _ (λ word. nat_lt 0 (length word))
-    (YieldsList-at c.filter.ensures.source (YieldsList-from_str_split 32 c.args.line.now (search rules) c.split.ensures.text c.split.ensures.has_more c.split.ensures.pattern))
+    (YieldsList-at c.filter.ensures.source (YieldsList-from_str_split 32 c.args.line.now (search rules)
+    c.split.ensures.text c.split.ensures.has_more c.split.ensures.pattern))
     c.filter.ensures.closure
     (λ x b q k. search (rules, tests)))

@@ -1,0 +1,94 @@
+-- How the program ends, by the answer of its command.
+use Rattle.std.proofs.Common.{◌≡◌, ◌≢◌, ℕ, List, Bool, Option, Some, None, arith, refl, sym, ap, ◌∙◌, inl, inr}
+use Rattle.std.specs.Prelude.{◌<◌, ◌⊎◌, Result, Ok, Err, IfErr, IfSome, OnOk, length}
+use Rattle.csdf_tool.specs.Ends.{Ended, EndsAs, EndsBy, IsFaultOfInput}
+use Rattle.csdf_tool.specs.Faults.{status_of}
+use Rattle.csdf_tool.specs.Session.{IsAnswer}
+use Rattle.csdf_tool.specs.declared.fault.ToolFault.{ToolFault}
+use Rattle.csdf_tool.specs.declared.fault.ToolFault.TheVariants as fault
+
+-- ---- statuses
+
+-- a fault ends with status 1 or 3
+one_or_three : (f : ToolFault) → (status_of f ≡ 1) ⊎ (status_of f ≡ 3)
+one_or_three (fault.Graph g) = inl refl
+one_or_three (fault.Line n) = inl refl
+one_or_three (fault.Unbalanced name) = inl refl
+one_or_three (fault.TooLarge name) = inl refl
+one_or_three fault.Deadlock = inl refl
+one_or_three fault.TooTight = inl refl
+one_or_three fault.TooLong = inl refl
+one_or_three (fault.Device d) = inr refl
+one_or_three fault.Memory = inr refl
+
+not_zero : (n status : ℕ) → status ≡ n → (n ≡ 1) ⊎ (n ≡ 3) → status ≡ 0 → ⊥
+not_zero n status is (inl one) zero = omega (arith, is, one, zero)
+not_zero n status is (inr three) zero = omega (arith, is, three, zero)
+
+-- ---- the line beside a status
+
+module _ {status : ℕ} {before after : Option (List ℕ)} {failed : Bool} where
+  pub ends_as : (f : ToolFault) → EndsBy f status before after failed → (g : ToolFault) × EndsAs g status before after failed
+  ends_as f (inl h) = (f, h)
+  ends_as f (inr h) = (fault.Memory, h)
+
+  -- where the status is 0, what holds of an answer holds
+  pub at_zero : (answer : Result (Unit {0}) ToolFault) (P : Type 0) → Ended answer status before after failed → status ≡ 0 → OnOk answer P → P
+  at_zero (Ok u) P h zero p = p
+  at_zero (Err f) P h zero p =
+      let told = ends_as f h.by in
+      absurd (not_zero (status_of told.0) status told.1.ends (one_or_three told.0) zero)
+
+  -- where it is 1 or 3, the line of a fault is told
+  pub lined : (answer : Result (Unit {0}) ToolFault) → Ended answer status before after failed → (status ≡ 1) ⊎ (status ≡ 3)
+      → (f : ToolFault) × EndsAs f status before after failed
+  lined (Ok u) h (inl one) = absurd (let no : 1 ≡ 0 = sym one ∙ h.zero in cc)
+  lined (Ok u) h (inr three) = absurd (let no : 3 ≡ 0 = sym three ∙ h.zero in cc)
+  lined (Err f) h told = ends_as f h.by
+
+  refused_by : (f : ToolFault) (P : ToolFault → Type 0) → EndsBy f status before after failed → status ≡ 1 → (status_of f ≡ 1 → P f)
+      → (g : ToolFault) × P g × EndsAs g status before after failed
+  refused_by f P (inl h) one p = (f, p (sym h.ends ∙ one), h)
+  refused_by f P (inr h) one p = absurd (let no : 3 ≡ 1 = sym h.ends ∙ one in cc)
+
+  -- where it is 1, that of a fault of which holds what holds of the answer's fault
+  pub refused : (answer : Result (Unit {0}) ToolFault) (P : ToolFault → Type 0) → Ended answer status before after failed → status ≡ 1
+      → IfErr answer (λ f. status_of f ≡ 1 → P f) → (f : ToolFault) × P f × EndsAs f status before after failed
+  refused (Ok u) P h one p = absurd (let no : 1 ≡ 0 = sym one ∙ h.zero in cc)
+  refused (Err f) P h one p = refused_by f P h.by one p
+
+-- ---- faults of standard input
+
+-- a fault is that the input is too long, or another
+long_or_not : (f : ToolFault) → (f ≡ fault.TooLong) ⊎ (f ≢ fault.TooLong)
+long_or_not (fault.Graph g) = inr (λ e. cc)
+long_or_not (fault.Line n) = inr (λ e. cc)
+long_or_not (fault.Unbalanced name) = inr (λ e. cc)
+long_or_not (fault.TooLarge name) = inr (λ e. cc)
+long_or_not fault.Deadlock = inr (λ e. cc)
+long_or_not fault.TooTight = inr (λ e. cc)
+long_or_not fault.TooLong = inl refl
+long_or_not (fault.Device d) = inr (λ e. cc)
+long_or_not fault.Memory = inr (λ e. cc)
+
+of_long : (left : Option (List ℕ)) (f : ToolFault) → f ≡ fault.TooLong
+    → IfSome left (λ bytes. 16777216 < length bytes) → IfSome left (λ bytes. IsFaultOfInput bytes f)
+of_long None f is h = tt
+of_long (Some bytes) f is h = inl (is, h)
+
+of_other : (left : Option (List ℕ)) (f : ToolFault) → IfSome left (λ bytes. IsAnswer bytes (Err f)) → IfSome left (λ bytes. IsFaultOfInput bytes f)
+of_other None f h = tt
+of_other (Some bytes) f h = inr h
+
+by_length : (left : Option (List ℕ)) (f : ToolFault) → (f ≡ fault.TooLong) ⊎ (f ≢ fault.TooLong)
+    → (f ≡ fault.TooLong → IfSome left (λ bytes. 16777216 < length bytes))
+    → (f ≢ fault.TooLong → IfSome left (λ bytes. IsAnswer bytes (Err f))) → IfSome left (λ bytes. IsFaultOfInput bytes f)
+by_length left f (inl is) long other = of_long left f is (long is)
+by_length left f (inr is) long other = of_other left f (other is)
+
+pub input_refused : (answer : Result (Unit {0}) ToolFault) (left : Option (List ℕ))
+    → (answer ≡ Err fault.TooLong → IfSome left (λ bytes. 16777216 < length bytes))
+    → IfErr answer (λ f. status_of f ≡ 1 → f ≢ fault.TooLong → IfSome left (λ bytes. IsAnswer bytes (Err f)))
+    → IfErr answer (λ f. status_of f ≡ 1 → IfSome left (λ bytes. IsFaultOfInput bytes f))
+input_refused (Ok u) left long other = tt
+input_refused (Err f) left long other = λ one. by_length left f (long_or_not f) (λ is. long (ap Err is)) (other one)
