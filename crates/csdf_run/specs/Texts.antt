@@ -1,0 +1,154 @@
+-- A run from texts to texts: a graph file and the tokens for its sources, and what is told of the run.
+use Rattle.std.specs.Prelude.{ℕ, suc, ◌≡◌, ◌≢◌, if◌then◌else◌, List, [], ◌∷◌, ℤ, Option, Result, Ok, Err, count_by, drop, length, map, slice_index_or}
+use Rattle.std.specs.Global.{Vec}
+use Rattle.std.specs.Result.{result_map_both}
+use Rattle.csdf_graph.specs.declared.fault.GraphFault.TheVariants as graph
+use Rattle.csdf_graph.specs.declared.tokens.TokenFault.{TokenFault}
+use Rattle.csdf_graph.specs.declared.tokens.TokenFault.TheVariants as token
+use Rattle.csdf_graph.specs.Graph.{Actor, Graph, numbers_from}
+use Rattle.csdf_graph.specs.GraphText.{IsGraphOf}
+use Rattle.csdf_graph.specs.TokenText.{token_text, tokens_in}
+use Rattle.csdf_analysis.specs.Acceptance.{Accepted, IsAccepted, IsNotAccepted}
+use Rattle.csdf_core.specs.Layout.{is_source_kernel}
+use Rattle.csdf_core.specs.Streams.{IsPrefix}
+use Rattle.csdf_run.specs.declared.ending.Ending.{Ending}
+use Rattle.csdf_run.specs.declared.ending.Ending.TheVariants.{Complete, Stopped, Starved, Dry}
+use Rattle.csdf_run.specs.declared.outcome.Outcome.{Outcome}
+use Rattle.csdf_run.specs.declared.texts.Texts.{Texts}
+use Rattle.csdf_run.specs.declared.texts.TextsFault.{TextsFault}
+use Rattle.csdf_run.specs.declared.texts.TextsFault.TheVariants as fault
+use Rattle.csdf_run.specs.Journal.{program_for}
+use Rattle.csdf_run.specs.Outcome.{IsOutcome, sequential_list}
+use Rattle.csdf_run.specs.Report.{names_of, report_text}
+use Rattle.csdf_run.specs.Sequential.{IsSequential}
+use Rattle.csdf_run.specs.Work.{Work, feed_of, feeds_in, is_sink_kernel}
+
+-- the contents of texts
+abbrev pub texts_in : List (Vec ℕ) → List (List ℕ)
+texts_in texts = map (λ (text : Vec ℕ). text.items) texts
+
+-- ---- what is read
+
+-- the bytes are the file of a graph, and this is it as accepted
+pub record IsFileOf (bytes : List ℕ) (a : Accepted) : Type 0 where
+  pub read : IsGraphOf bytes (Ok a.graph)
+  pub accepted : IsAccepted a
+
+-- how many sources there are
+abbrev pub source_count : List Actor → ℕ
+source_count actors = count_by (λ (actor : Actor). is_source_kernel actor.kernel) actors
+
+infixl 10 ◌>>=◌
+abbrev pub ◌>>=◌ : {A B E : Type 0} → Result A E → (A → Result B E) → Result B E
+(Ok x) >>= f = f x
+(Err e) >>= f = Err e
+
+-- the tokens in the text of actor a, or why there are none
+abbrev pub feed_in : ℕ → List ℕ → Result (List ℤ) (ℕ × TokenFault)
+feed_in a text = result_map_both (λ tokens. tokens) (λ why. (a, why)) (tokens_in text)
+
+-- the tokens for the actors from number a on: those in one text for each source, in file order,
+-- and none for any other actor; or the first source whose text is refused
+abbrev pub feeds_from : ℕ → List Actor → List (List ℕ) → Result (List (List ℤ)) (ℕ × TokenFault)
+feeds_from a [] texts = Ok []
+feeds_from a (actor ∷ actors) texts =
+    if is_source_kernel actor.kernel
+    then (feed_in a (slice_index_or texts 0 []) >>= λ feed. feeds_from (suc a) actors (drop 1 texts) >>= λ feeds. Ok (feed ∷ feeds))
+    else (feeds_from (suc a) actors texts >>= λ feeds. Ok ([] ∷ feeds))
+
+-- the texts hold these tokens for the actors of the graph of the file
+pub record AreTextsOf (bytes : List ℕ) (texts : List (List ℕ)) (a : Accepted) (feeds : List (List ℤ)) : Type 0 where
+  pub file : IsFileOf bytes a
+  pub each_source : length texts ≡ source_count a.graph.actors
+  pub tokens : feeds_from 0 a.graph.actors texts ≡ Ok feeds
+
+-- ---- what is refused; want of memory says nothing of the texts
+
+-- why there is no accepted graph of a file
+abbrev pub IsFileFault : List ℕ → TextsFault → Type 0
+IsFileFault bytes (fault.Graph why) = why ≢ graph.Memory → IsGraphOf bytes (Err why)
+IsFileFault bytes (fault.Accept why) = (g : Graph) × IsGraphOf bytes (Ok g) × IsNotAccepted g why
+IsFileFault bytes fault.FeedCount = ⊥
+IsFileFault bytes (fault.Feed n why) = ⊥
+IsFileFault bytes (fault.Run why) = ⊥
+
+-- the text of actor n is why reading gives nothing
+abbrev pub IsReadFault : {A : Type 0} → Result A (ℕ × TokenFault) → TextsFault → Type 0
+IsReadFault read (fault.Feed n why) = why ≢ token.Memory → read ≡ Err (n, why)
+IsReadFault read fault.FeedCount = ⊥
+IsReadFault read (fault.Graph why) = ⊥
+IsReadFault read (fault.Accept why) = ⊥
+IsReadFault read (fault.Run why) = ⊥
+
+-- why texts hold no tokens for actors: there is not one for each source, or the first that is refused
+abbrev pub IsFeedFault : List Actor → List (List ℕ) → TextsFault → Type 0
+IsFeedFault actors texts fault.FeedCount = length texts ≢ source_count actors
+IsFeedFault actors texts (fault.Feed n why) = (length texts ≡ source_count actors) × IsReadFault (feeds_from 0 actors texts) (fault.Feed n why)
+IsFeedFault actors texts (fault.Graph why) = ⊥
+IsFeedFault actors texts (fault.Accept why) = ⊥
+IsFeedFault actors texts (fault.Run why) = ⊥
+
+-- why there is no run: the file comes first, then the texts, and then the run itself
+abbrev pub IsRefusal : List ℕ → List (List ℕ) → TextsFault → Type 0
+IsRefusal bytes texts (fault.Graph why) = IsFileFault bytes (fault.Graph why)
+IsRefusal bytes texts (fault.Accept why) = IsFileFault bytes (fault.Accept why)
+IsRefusal bytes texts fault.FeedCount = (a : Accepted) × IsFileOf bytes a × IsFeedFault a.graph.actors texts fault.FeedCount
+IsRefusal bytes texts (fault.Feed n why) = (a : Accepted) × IsFileOf bytes a × IsFeedFault a.graph.actors texts (fault.Feed n why)
+IsRefusal bytes texts (fault.Run why) = (a : Accepted) × (feeds : List (List ℤ)) × AreTextsOf bytes texts a feeds
+
+-- ---- what is told
+
+-- the numbers of the sinks, in file order
+abbrev pub sinks_among : List Actor → List ℕ
+sinks_among actors = numbers_from 0 (λ (actor : Actor). is_sink_kernel actor.kernel) actors
+
+-- the written text of list number a
+abbrev pub text_at : List (List ℤ) → ℕ → List ℕ
+text_at lists a = token_text (feed_of lists a)
+
+-- the written text of each sink's list, in file order
+abbrev pub sink_texts : List Actor → List (List ℤ) → List (List ℕ)
+sink_texts actors lists = map (text_at lists) (sinks_among actors)
+
+-- so many periods of an accepted graph over these tokens
+abbrev pub work_for : Accepted → List (List ℤ) → ℕ → Option ℕ → Work
+work_for a feeds periods firings = record { accepted = a; feeds = feeds; periods = periods; firings = firings }
+
+-- the texts tell an outcome of this work
+pub record TellOutcome (w : Work) (o : Outcome) (t : Texts) : Type 0 where
+  pub outcome : IsOutcome w o
+  pub ending : t.ending ≡ o.ending
+  pub sinks : texts_in t.sinks.items ≡ sink_texts w.accepted.graph.actors (feeds_in o.sinks.items)
+  pub report : t.report.items ≡ report_text (names_of w.accepted.graph.channels) o.ending o.report.items
+
+-- the texts tell an outcome of so many periods of the file's graph over the texts' tokens
+pub record TellRun (bytes : List ℕ) (texts : List (List ℕ)) (periods : ℕ) (firings : Option ℕ) (t : Texts) : Type 0 where
+  pub accepted : Accepted
+  pub feeds : List (List ℤ)
+  pub outcome : Outcome
+  pub read : AreTextsOf bytes texts accepted feeds
+  pub told : TellOutcome (work_for accepted feeds periods firings) outcome t
+
+-- ---- beside the sequential run
+
+-- the written text of a list, or of a front of it where the limit on all firings or want of cells held the run back
+abbrev pub IsTextBeside : Ending → List ℤ → List ℕ → Type 0
+IsTextBeside Complete list text = text ≡ token_text list
+IsTextBeside Dry list text = text ≡ token_text list
+IsTextBeside Stopped list text = (front : List ℤ) × IsPrefix front list × (text ≡ token_text front)
+IsTextBeside Starved list text = (front : List ℤ) × IsPrefix front list × (text ≡ token_text front)
+
+-- the same of each sink's text, where list has what each sink takes
+abbrev pub AreTextsBeside : Ending → (ℕ → List ℤ) → List ℕ → List (List ℕ) → Type 0
+AreTextsBeside ending list [] [] = Unit {0}
+AreTextsBeside ending list [] (text ∷ texts) = ⊥
+AreTextsBeside ending list (a ∷ sinks) [] = ⊥
+AreTextsBeside ending list (a ∷ sinks) (text ∷ texts) = IsTextBeside ending (list a) text × AreTextsBeside ending list sinks texts
+
+-- the sinks' texts are those of the sequential run of the file's graph over the texts' tokens, or of a front of it
+pub record TellSequentialRun (bytes : List ℕ) (texts : List (List ℕ)) (periods : ℕ) (firings : Option ℕ) (t : Texts) : Type 0 where
+  pub accepted : Accepted
+  pub feeds : List (List ℤ)
+  pub read : AreTextsOf bytes texts accepted feeds
+  pub sinks : (run : List ℕ) → IsSequential (program_for accepted feeds periods firings) run
+      → AreTextsBeside t.ending (sequential_list (program_for accepted feeds periods firings) run) (sinks_among accepted.graph.actors) (texts_in t.sinks.items)

@@ -1,0 +1,34 @@
+//! What a run answers.
+
+use crate::ending::Ending;
+use csdf_core::Move;
+
+/// What is told of a channel at the end of a run.
+#[derive(Clone, Copy, Debug, PartialEq, Eq)]
+pub struct ChannelReport {
+    /// How many tokens were written to it, beside its initial ones.
+    pub written: u32,
+    /// How many tokens were taken from it.
+    pub taken: u32,
+    /// How many tokens are left in it.
+    pub held: u32,
+    /// The most tokens that were in it at one time, the initial ones included.
+    pub peak: u32,
+    /// The most tokens that it may hold.
+    pub capacity: u32,
+    /// Whether it is open.
+    pub is_open: bool,
+}
+
+/// The end of a run.
+#[derive(Debug, Drop)]
+pub struct Outcome {
+    /// Why no firing follows.
+    pub ending: Ending,
+    /// What each sink took, in order; empty for an actor that is no sink.
+    pub sinks: Vec<Vec<i32>>,
+    /// All moves, in order.
+    pub journal: Vec<Move>,
+    /// What is told of each channel, in file order.
+    pub report: Vec<ChannelReport>,
+}

@@ -1,0 +1,301 @@
+//! A run from texts to texts.
+
+ghost use Rattle.std.specs.Prelude.{◌≡◌, ◌++◌, ◌∷◌, ◌≤◌, [], Ok, IfErr, IfOk, OnOk, length, map, slice_index_or, string_bytes};
+ghost use Rattle.csdf_graph.specs.Graph.{actor_view};
+ghost use Rattle.csdf_graph.specs.TokenText.{token_line, token_text};
+ghost use Rattle.csdf_core.specs.Layout.{is_source_kernel};
+ghost use Rattle.csdf_run.specs.Texts.{AreTextsOf, IsFeedFault, IsFileFault, IsFileOf, IsReadFault, IsRefusal, TellOutcome, TellRun, TellSequentialRun};
+ghost use Rattle.csdf_run.specs.Texts.{feed_in, feeds_from, sink_texts, source_count, texts_in, work_for};
+ghost use Rattle.csdf_run.specs.declared.outcome.Outcome.{Outcome as OutcomeCode};
+ghost use Rattle.csdf_run.specs.Report.{names_of, report_text};
+ghost use Rattle.csdf_run.specs.Work.{AreFeeds, feeds_in, is_sink_kernel};
+
+use crate::ending::Ending;
+use crate::fault::RunFault;
+use crate::gate::Open;
+use crate::outcome::Outcome;
+use crate::printed::printed_report;
+use crate::running::run;
+use csdf_analysis::{AcceptFault, Accepted, accept};
+use csdf_graph::{Actor, Graph, GraphFault, Kernel, Slice, TokenFault, read_graph, read_tokens};
+use std::alloc::{AllocError, Global};
+use std::sync::Wait;
+use std::thread::Threads;
+
+/// What is told of a run.
+#[derive(Debug, Drop)]
+pub struct Texts {
+    /// Why no firing follows.
+    pub ending: Ending,
+    /// The tokens that each sink took, in order, one a line; one text for each sink, in file order.
+    pub sinks: Vec<Vec<u8>>,
+    /// The printed report.
+    pub report: Vec<u8>,
+}
+
+/// Why texts make no run: the first that applies.
+///
+/// Want of memory is told where it was met.
+#[derive(Clone, Copy, Debug, PartialEq, Eq)]
+pub enum TextsFault {
+    /// The graph file is refused.
+    Graph(GraphFault),
+    /// Its graph is not accepted.
+    Accept(AcceptFault),
+    /// There is not one text for each source.
+    FeedCount,
+    /// The text of this source, the first such one, is refused.
+    Feed(u32, TokenFault),
+    /// The run has no outcome.
+    Run(RunFault),
+}
+
+/// The accepted graph of a file.
+fn accepted_of(alloc: Global, bytes: &[u8]) -> Result<Accepted, TextsFault>
+    ensures file { IfOk result (IsFileOf bytes.now) }
+    ensures refused { IfErr result (IsFileFault bytes.now) }
+{
+    let graph = match read_graph(alloc, bytes) {
+        Ok(graph) => graph,
+        Err(fault) => return Err(TextsFault::Graph(fault)),
+    };
+    match accept(alloc, graph) {
+        Ok(accepted) => Ok(accepted),
+        Err((_, fault)) => Err(TextsFault::Accept(fault)),
+    }
+}
+
+fn is_source(actor: &Actor) -> bool
+    ensures { result ≡ is_source_kernel (actor_view actor.now).kernel }
+{
+    matches!(actor.kernel, Kernel::Source)
+}
+
+fn is_sink(actor: &Actor) -> bool
+    ensures { result ≡ is_sink_kernel (actor_view actor.now).kernel }
+{
+    matches!(actor.kernel, Kernel::Sink)
+}
+
+/// How many sources there are.
+fn source_count(actors: &[Actor]) -> usize
+    requires { length actors.now ≤ 64 }
+    ensures { result ≡ source_count (map actor_view actors.now) }
+{
+    let mut count = 0;
+    for actor in actors {
+        if is_source(actor) {
+            count += 1;
+        }
+    }
+    count
+}
+
+/// The text with this number; the empty text where there is none.
+fn text_at(texts: &[Vec<u8>], number: usize) -> &[u8]
+    ensures { result.now ≡ slice_index_or (texts_in texts.now) number [] }
+{
+    match texts.get(number) {
+        Some(text) => text.as_slice(),
+        None => &[],
+    }
+}
+
+/// The tokens in the text of the actor.
+fn feed_of(alloc: Global, actor: u32, text: &[u8]) -> Result<Vec<i32>, TextsFault>
+    ensures tokens { IfOk result (λ feed. feed_in actor text.now ≡ Ok feed.items) }
+    ensures refused { IfErr result (IsReadFault (feed_in actor text.now)) }
+{
+    match read_tokens(alloc, &mut Slice::new(text)) {
+        Ok(feed) => Ok(feed),
+        Err(fault) => Err(TextsFault::Feed(actor, fault)),
+    }
+}
+
+/// Appends the tokens for the actor.
+fn push_feed(feeds: &mut Vec<Vec<i32>>, actor: u32, feed: Vec<i32>) -> Result<(), TextsFault>
+    ensures pushed { OnOk result (feeds_in feeds.new.items ≡ feeds_in feeds.old.items ++ feed.items ∷ []) }
+    ensures refused { IfErr result (λ fault. fault ≡ TextsFault.Feed actor TokenFault.Memory) }
+{
+    match feeds.push(feed) {
+        Ok(()) => Ok(()),
+        Err(_) => Err(TextsFault::Feed(actor, TokenFault::Memory)),
+    }
+}
+
+/// The tokens for each actor, from one text for each source.
+fn feeds_of(alloc: Global, actors: &[Actor], texts: &[Vec<u8>]) -> Result<Vec<Vec<i32>>, TextsFault>
+    requires { length actors.now ≤ 64 }
+    ensures feeds { IfOk result (λ feeds. feeds_from 0 (map actor_view actors.now) (texts_in texts.now) ≡ Ok (feeds_in feeds.items)) }
+    ensures refused { IfErr result (IsReadFault (feeds_from 0 (map actor_view actors.now) (texts_in texts.now))) }
+{
+    let mut feeds = Vec::new(alloc);
+    let mut next = 0;
+    for (number, actor) in actors.iter().enumerate() {
+        if is_source(actor) {
+            let feed = feed_of(alloc, number as u32, text_at(texts, next))?;
+            push_feed(&mut feeds, number as u32, feed)?;
+            next += 1;
+        } else {
+            push_feed(&mut feeds, number as u32, Vec::new(alloc))?;
+        }
+    }
+    Ok(feeds)
+}
+
+/// The tokens for each actor of the graph, where there is one text for each source.
+fn counted_feeds(
+    alloc: Global,
+    graph: &Graph,
+    texts: &[Vec<u8>],
+) -> Result<Vec<Vec<i32>>, TextsFault>
+    ensures each_source { OnOk result (length texts.now ≡ source_count graph.now.actors) }
+    ensures feeds { IfOk result (λ feeds. feeds_from 0 graph.now.actors (texts_in texts.now) ≡ Ok (feeds_in feeds.items)) }
+    ensures refused { IfErr result (IsFeedFault graph.now.actors (texts_in texts.now)) }
+{
+    let actors = graph.actors();
+    if texts.len() != source_count(actors) {
+        return Err(TextsFault::FeedCount);
+    }
+    feeds_of(alloc, actors, texts)
+}
+
+/// An accepted graph, and the tokens for its actors.
+#[derive(Drop)]
+struct Fed {
+    accepted: Accepted,
+    feeds: Vec<Vec<i32>>,
+}
+
+/// The accepted graph of a file, and the tokens in the texts for its sources.
+fn fed_of(alloc: Global, bytes: &[u8], texts: &[Vec<u8>]) -> Result<Fed, TextsFault>
+    ensures read { IfOk result (λ fed. AreTextsOf bytes.now (texts_in texts.now) fed.accepted (feeds_in fed.feeds.items)) }
+    ensures refused { IfErr result (IsRefusal bytes.now (texts_in texts.now)) }
+{
+    let accepted = accepted_of(alloc, bytes)?;
+    let feeds = counted_feeds(alloc, accepted.graph(), texts)?;
+    Ok(Fed { accepted, feeds })
+}
+
+/// Appends a token's line.
+fn push_token(text: &mut String, token: i32) -> Result<(), AllocError>
+    ensures { OnOk result (string_bytes text.new ≡ string_bytes text.old ++ token_line token) }
+{
+    write!(text, "{token}\n")
+}
+
+/// The written text of tokens.
+fn text_of(alloc: Global, tokens: &[i32]) -> Result<Vec<u8>, AllocError>
+    ensures { IfOk result (λ text. text.items ≡ token_text tokens.now) }
+{
+    let mut text = String::new(alloc);
+    for token in tokens {
+        push_token(&mut text, *token)?;
+    }
+    Ok(text.into_bytes())
+}
+
+/// The list with this number; the empty list where there is none.
+fn list_at(lists: &[Vec<i32>], number: usize) -> &[i32]
+    ensures { result.now ≡ slice_index_or (feeds_in lists.now) number [] }
+{
+    match lists.get(number) {
+        Some(list) => list.as_slice(),
+        None => &[],
+    }
+}
+
+/// The written text of each sink's list.
+fn sink_texts(
+    alloc: Global,
+    actors: &[Actor],
+    lists: &[Vec<i32>],
+) -> Result<Vec<Vec<u8>>, AllocError>
+    ensures { IfOk result (λ texts. texts_in texts.items ≡ sink_texts (map actor_view actors.now) (feeds_in lists.now)) }
+{
+    let mut texts = Vec::new(alloc);
+    for (number, actor) in actors.iter().enumerate() {
+        if is_sink(actor) {
+            texts.push(text_of(alloc, list_at(lists, number))?)?;
+        }
+    }
+    Ok(texts)
+}
+
+/// What is told of an outcome.
+fn texts_of(alloc: Global, graph: &Graph, outcome: &Outcome) -> Result<Texts, AllocError>
+    ensures ending { IfOk result (λ texts. texts.ending ≡ outcome.now.ending) }
+    ensures sinks { IfOk result (λ texts. texts_in texts.sinks.items ≡ sink_texts graph.now.actors (feeds_in outcome.now.sinks.items)) }
+    ensures report { IfOk result (λ texts. texts.report.items ≡ report_text (names_of graph.now.channels) outcome.now.ending outcome.now.report.items) }
+{
+    let sinks = sink_texts(alloc, graph.actors(), &outcome.sinks)?;
+    let report = printed_report(alloc, graph, outcome)?;
+    Ok(Texts {
+        ending: outcome.ending,
+        sinks,
+        report: report.into_bytes(),
+    })
+}
+
+/// Runs what was read.
+fn run_fed<R: Threads + Wait + Sync>(
+    rt: &R,
+    alloc: Global,
+    fed: &Fed,
+    workers: u32,
+    periods: u32,
+    firings: Option<u32>,
+) -> Result<Texts, RunFault>
+    requires fed { AreFeeds fed.now.accepted.graph (feeds_in fed.now.feeds.items) }
+    requires some_worker { 1 ≤ workers }
+    requires few_workers { workers ≤ 8 }
+    requires some_period { 1 ≤ periods }
+    requires few_periods { periods ≤ 1000 }
+    ensures { IfOk result (λ texts. (outcome : OutcomeCode) × TellOutcome (work_for fed.now.accepted (feeds_in fed.now.feeds.items) periods firings) outcome texts) }
+{
+    let outcome = run(
+        rt,
+        alloc,
+        &fed.accepted,
+        &fed.feeds,
+        workers,
+        periods,
+        firings,
+        &Open,
+    )?;
+    let texts = texts_of(alloc, fed.accepted.graph(), &outcome)?;
+    Ok(texts)
+}
+
+/// Runs so many periods of the graph of a file by worker threads, over one text of tokens for each
+/// source, in file order. With `firings` given, no more firings than that are made.
+///
+/// The refusals come in the order of [`TextsFault`]: those of [`read_graph`], those of [`accept`], a
+/// wrong number of texts, the first source whose text [`read_tokens`] refuses, and those of [`run`].
+///
+/// The sinks' texts do not depend on the number of workers: each is what its sink takes in the
+/// sequential run (the determinacy of dataflow graphs: Lee and Messerschmitt 1987), or a front of it
+/// where the limit on all firings or want of cells held the run back.
+pub fn run_texts<R: Threads + Wait + Sync>(
+    rt: &R,
+    alloc: Global,
+    graph: &[u8],
+    feeds: &[Vec<u8>],
+    workers: u32,
+    periods: u32,
+    firings: Option<u32>,
+) -> Result<Texts, TextsFault>
+    requires some_worker { 1 ≤ workers }
+    requires few_workers { workers ≤ 8 }
+    requires some_period { 1 ≤ periods }
+    requires few_periods { periods ≤ 1000 }
+    ensures run { IfOk result (TellRun graph.now (texts_in feeds.now) periods firings) }
+    ensures sequential { IfOk result (TellSequentialRun graph.now (texts_in feeds.now) periods firings) }
+    ensures refused { IfErr result (IsRefusal graph.now (texts_in feeds.now)) }
+{
+    let fed = fed_of(alloc, graph, feeds)?;
+    match run_fed(rt, alloc, &fed, workers, periods, firings) {
+        Ok(texts) => Ok(texts),
+        Err(fault) => Err(TextsFault::Run(fault)),
+    }
+}
