@@ -1,7 +1,9 @@
 -- The arithmetic of kernels, as the code does it.
-use Rattle.std.proofs.Common.{◌≡◌, ℕ, zero, suc, ◌+◌, ◌*◌, ◌/◌, ◌^◌, ◌<◌, ◌≤◌, List, refl, sym, subst, ap, ◌∙◌, arith, ℤ, pos, negsuc, ◌+ℤ◌, ◌*ℤ◌, ◌≤ℤ◌, ◌<ℤ◌}
+use Rattle.std.proofs.Common.{◌≡◌, ◌⊎◌, inl, inr, ℕ, zero, suc, ◌+◌, ◌-◌, ◌*◌, ◌/◌, ◌^◌, ◌<◌, ◌≤◌, List, length, refl, sym, subst, ap, ◌∙◌, arith, ℤ, pos, negsuc, ◌+ℤ◌, ◌*ℤ◌, ◌≤ℤ◌, ◌<ℤ◌}
 use Rattle.std.proofs.lemmas.List.Sums.{fold_push}
 use Rattle.std.proofs.lemmas.Int.{ints}
+use Rattle.std.proofs.lemmas.List.{get_or_past}
+use Rattle.std.proofs.Math.IntN.{*ℤ-zero, zero-*ℤ}
 use Rattle.std.proofs.Math.Nat.{div-mul-le_self}
 use Rattle.std.proofs.lemmas.Nat.{pow_pos}
 use Rattle.std.specs.Int.{int_max, int_min}
@@ -31,6 +33,33 @@ unfolding convolution
 convolution_more weights xs place taps =
     let f : ℕ → ℤ = λ j. token_at weights j *ℤ token_at xs (place + j) in
     ap total (places_more f taps) ∙ fold_push ◌+ℤ◌ (pos 0) (places f taps) (f taps)
+
+-- no more taps count where the weights or the tokens have ended
+convolution_past : (weights xs : List ℤ) (place taps more : ℕ) → length weights ≤ taps ⊎ length xs ≤ place + taps
+    → convolution weights (taps + more) xs place ≡ convolution weights taps xs place
+convolution_past weights xs place taps zero h =
+    let e : taps + 0 ≡ taps = omega arith in
+    ap (λ (n : ℕ). convolution weights n xs place) e
+convolution_past weights xs place taps (suc more) h =
+    let n : ℕ = taps + more in
+    let e : taps + suc more ≡ n + 1 = omega arith in
+    let none : (token_at weights n *ℤ token_at xs (place + n)) ≡ pos 0 =
+    elim h [
+      | inl past ↦ ap (λ (z : ℤ). z *ℤ token_at xs (place + n)) (get_or_past weights n (pos 0) (omega (arith, past))) ∙ zero-*ℤ (token_at xs (place + n))
+      | inr past ↦ ap (λ (z : ℤ). token_at weights n *ℤ z) (get_or_past xs (place + n) (pos 0) (omega (arith, past))) ∙ *ℤ-zero (token_at weights n)
+    ] in
+    let same : (convolution weights n xs place +ℤ pos 0) ≡ convolution weights n xs place = omega (arith, ints) in
+    ap (λ (k : ℕ). convolution weights k xs place) e ∙ convolution_more weights xs place n
+    ∙ ap (λ (z : ℤ). convolution weights n xs place +ℤ z) none ∙ same ∙ convolution_past weights xs place taps more h
+
+pub convolution_stops : (weights xs : List ℤ) (place taps few : ℕ) → few ≤ taps → few ≡ taps ⊎ length weights ≤ few ⊎ length xs ≤ place + few
+    → convolution weights few xs place ≡ convolution weights taps xs place
+convolution_stops weights xs place taps few le h = elim h [
+  | inl e ↦ ap (λ (n : ℕ). convolution weights n xs place) e
+  | inr past ↦
+      let e : few + (taps - few) ≡ taps = omega (arith, le) in
+      sym (ap (λ (n : ℕ). convolution weights n xs place) (sym e) ∙ convolution_past weights xs place few (taps - few) past)
+]
 
 -- a number lies from its floor times n up to, but not including, the next multiple of n
 below : (z : ℤ) (n : ℕ) → 0 < n → (floor z n *ℤ pos n) ≤ℤ z

@@ -1,5 +1,5 @@
 //! The arithmetic of kernels, in 128 bits.
-ghost use Rattle.std.specs.Prelude.{◌≡◌, ◌*◌, ◌^◌, ◌≤◌, length, pos, ◌+ℤ◌, ◌*ℤ◌, ◌≤ℤ◌, ◌<ℤ◌, unsigned_abs};
+ghost use Rattle.std.specs.Prelude.{◌≡◌, ◌⊎◌, ◌+◌, ◌*◌, ◌^◌, ◌≤◌, length, pos, ◌+ℤ◌, ◌*ℤ◌, ◌≤ℤ◌, ◌<ℤ◌, unsigned_abs};
 ghost use Rattle.csdf_kernel.specs.Value.{token_at, total, clamp, floor, convolution};
 
 /// Token `place` of the inputs, or 0 past their end.
@@ -37,7 +37,18 @@ fn product(a: i32, b: i32) -> i128
     ensures value { result ≡ a *ℤ b }
     ensures bound { unsigned_abs result ≤ 2 ^ 62 }
 {
-    i128::from(a) * i128::from(b)
+    i128::from(i64::from(a) * i64::from(b))
+}
+
+/// How many of the taps have a weight and a token from `place` on.
+fn full_taps(weights: &[i32], taps: usize, inputs: &[i32], place: usize) -> usize
+    ensures taps { result ≤ taps }
+    ensures weights { result ≤ length weights.now }
+    ensures tokens { result + place ≤ length inputs.now ⊎ result ≡ 0 }
+    ensures all { result ≡ taps ⊎ length weights.now ≤ result ⊎ length inputs.now ≤ place + result }
+{
+    taps.min(weights.len())
+        .min(inputs.len().saturating_sub(place))
 }
 
 /// The sum of the products of the first `taps` weights with the tokens from `place` on.
@@ -48,8 +59,8 @@ pub(crate) fn products_at(weights: &[i32], taps: usize, inputs: &[i32], place: u
     ensures bound { unsigned_abs result ≤ taps * 2 ^ 62 }
 {
     let mut sum = 0;
-    for tap in 0..taps {
-        sum += product(token(weights, tap), token(inputs, place + tap));
+    for tap in 0..full_taps(weights, taps, inputs, place) {
+        sum += product(weights[tap], inputs[place + tap]);
     }
     sum
 }
