@@ -142,7 +142,7 @@ fn prints_the_schedule(rt: HostRuntime) -> Result<(), Fail> {
         schedule(rt.alloc(), &chain)?.as_slice(),
         [0, 0, 1, 0, 1, 2].as_slice()
     );
-    let copy = chain.try_copy()?;
+    let copy = chain.try_copy(rt.alloc())?;
     assert_eq!(rt; copy.capacities(), [4, 2].as_slice());
     assert_eq!(rt; copy.vector().q.as_slice(), [3, 2, 1].as_slice());
     assert_eq!(rt; copy.graph().channels().len(), 2);

@@ -104,13 +104,13 @@ impl Accepted {
     /// An equal value in memory of its own.
     ///
     /// An error says that memory ran out.
-    pub fn try_copy(&self) -> Result<Accepted, AllocError>
+    pub fn try_copy(&self, alloc: Global) -> Result<Accepted, AllocError>
         ensures { IfOk result (λ accepted. accepted ≡ self.now) }
     {
-        let graph = self.graph.try_copy()?;
-        let r = self.vector.r.clone()?;
-        let q = self.vector.q.clone()?;
-        let capacities = self.capacities.clone()?;
+        let graph = self.graph.try_copy(alloc)?;
+        let r = Vec::from_slice(alloc, &self.vector.r)?;
+        let q = Vec::from_slice(alloc, &self.vector.q)?;
+        let capacities = Vec::from_slice(alloc, &self.capacities)?;
         Ok(Accepted {
             graph,
             vector: Vector { r, q },

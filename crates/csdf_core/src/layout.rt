@@ -61,7 +61,7 @@ impl Layout {
         ensures playable { IfOk result IsPlayable }
     {
         let accepted = setup.accepted;
-        let graph = accepted.graph().try_copy()?;
+        let graph = accepted.graph().try_copy(alloc)?;
         let capacities = copy_of(alloc, accepted.capacities())?;
         Ok(Layout {
             graph,

@@ -78,7 +78,7 @@ fn edited(rt: &HostRuntime, old: &str, new: &str) -> Result<Option<GraphFault>, 
 
 #[test]
 fn reads_the_pair(rt: HostRuntime) -> Result<(), Fail> {
-    let graph = read_graph(rt.alloc(), PAIR.as_bytes())?.try_copy()?;
+    let graph = read_graph(rt.alloc(), PAIR.as_bytes())?.try_copy(rt.alloc())?;
     assert_eq!(rt; graph.actors().len(), 2);
     assert_eq!(rt; graph.actor_number("snk"), Some(1));
     assert_eq!(rt; graph.actor_number("x"), None);
@@ -108,7 +108,7 @@ fn gathers_channels(rt: HostRuntime) -> Result<(), Fail> {
         (pair.outputs(0), pair.outputs(1).len()),
         ([0].as_slice(), 0)
     );
-    let own = read_graph(rt.alloc(), LOOP.as_bytes())?.try_copy()?;
+    let own = read_graph(rt.alloc(), LOOP.as_bytes())?.try_copy(rt.alloc())?;
     assert_eq!(rt; own.actors().len(), 1);
     assert_eq!(rt;
         (own.inputs(0), own.outputs(0)),

@@ -140,21 +140,20 @@ impl Graph {
     /// An equal graph in memory of its own.
     ///
     /// An error says that memory ran out.
-    pub fn try_copy(&self) -> Result<Graph, AllocError>
+    pub fn try_copy(&self, alloc: Global) -> Result<Graph, AllocError>
         ensures { IfOk result (λ graph. graph ≡ self.now) }
     {
         let actors = self.actors.clone()?;
         let channels = self.channels.clone()?;
         let actor_names = self.actor_names.clone()?;
         let channel_names = self.channel_names.clone()?;
-        let ports = self.ports.clone()?;
-        Ok(Graph {
+        Graph::new(
+            alloc,
             actors,
             channels,
-            cells: self.cells,
+            self.cells,
             actor_names,
             channel_names,
-            ports,
-        })
+        )
     }
 }

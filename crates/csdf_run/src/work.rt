@@ -202,7 +202,7 @@ impl Work {
         requires few_periods { periods ≤ 1000 }
         ensures { IfOk result (λ work. work ≡ record { accepted = accepted.now; feeds = feeds_in feeds.now; periods = periods; firings = firings }) }
     {
-        let accepted = accepted.try_copy()?;
+        let accepted = accepted.try_copy(alloc)?;
         let feeds = copies_of(alloc, feeds)?;
         Ok(Work {
             accepted,
