@@ -8,8 +8,8 @@ use Rattle.std.proofs.lemmas.Bool.{cases_Bool, eqb-true, eqb-false}
 use Rattle.std.proofs.lemmas.List.Elements.{All-head, All-tail, All-get_or, All-more}
 use Rattle.std.proofs.lemmas.Option.{slice_get-get_or}
 use Rattle.std.proofs.Math.ListN.{get_or-map}
-use Rattle.csdf_graph.specs.declared.graph.Actor.{Actor as ActorCode}
-use Rattle.csdf_graph.specs.declared.graph.Channel.{Channel as ChannelCode}
+use Rattle.csdf_graph.specs.declared.parts.Actor.{Actor as ActorCode}
+use Rattle.csdf_graph.specs.declared.parts.Channel.{Channel as ChannelCode}
 use Rattle.csdf_graph.specs.Graph.{Actor, Channel, actor_view, channel_view, phases_of}
 use Rattle.csdf_graph.specs.Rates.{rate, total}
 use Rattle.csdf_graph.specs.WellFormed.{IsActor, AreRates, IsChannel}

@@ -10,7 +10,7 @@ use Rattle.std.proofs.lemmas.List.Elements.{All-set, All-map, All-get_or}
 use Rattle.std.proofs.lemmas.List.Sums.{sum_by-le}
 use Rattle.std.proofs.lemmas.Option.{slice_get_within, slice_get_read}
 use Rattle.csdf_graph.specs.Graph.{Channel, Graph, channel_view}
-use Rattle.csdf_graph.specs.declared.graph.Channel.{Channel as ChannelCode}
+use Rattle.csdf_graph.specs.declared.parts.Channel.{Channel as ChannelCode}
 use Rattle.csdf_graph.specs.WellFormed.{IsWellFormed, IsChannel, IsCapacity}
 use Rattle.csdf_analysis.specs.Repetition.{full_capacity, IsRepetition}
 use Rattle.csdf_analysis.specs.Period.{HoldInitial, CompletesPeriod}

@@ -1,8 +1,8 @@
 -- What a core keeps of its setup, and what it plays by it.
 use Rattle.std.specs.Prelude.{◌≡◌, ℕ, Bool, true, false, List, Option, length, map}
 use Rattle.std.specs.List.{zip}
-use Rattle.csdf_graph.specs.declared.graph.Kernel.{Kernel}
-use Rattle.csdf_graph.specs.declared.graph.Kernel.TheVariants as kernel
+use Rattle.csdf_graph.specs.declared.parts.Kernel.{Kernel}
+use Rattle.csdf_graph.specs.declared.parts.Kernel.TheVariants as kernel
 use Rattle.csdf_graph.specs.Graph as graph
 use Rattle.csdf_graph.specs.Graph.{Graph}
 use Rattle.csdf_graph.specs.WellFormed.{IsWellFormed}

@@ -1,7 +1,7 @@
 -- Copies that show the same.
 use Rattle.std.proofs.Common.{◌≡◌, ℕ, List, [], ◌∷◌, map, refl, sym, subst}
 use Rattle.csdf_graph.specs.Graph.{Graph}
-use Rattle.csdf_graph.specs.Whole.{IsKept}
+use Rattle.csdf_graph.specs.Kept.{IsKept}
 use Rattle.std.specs.List.{AllZip}
 
 pub map_copied : {A K : Type 0} (R : A → A → Type 0) (w : A → K) → ((x y : A) → R x y → w y ≡ w x) → (xs ys : List A) → AllZip R xs ys → map w ys ≡ map w xs

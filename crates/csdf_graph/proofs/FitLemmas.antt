@@ -25,7 +25,7 @@ use Rattle.std.specs.List.{AllByRecursion}
 use Rattle.std.proofs.lemmas.List.Elements.{recursion_from_All}
 use Rattle.csdf_graph.specs.Joined.{HasEnds}
 use Rattle.csdf_graph.specs.WellFormed.{AreNames, IsActor, IsCapacity, IsChannel, IsCells, initial_total}
-use Rattle.csdf_graph.specs.Whole.{IsUnjoined}
+use Rattle.csdf_graph.specs.Kept.{IsUnjoined}
 use Rattle.csdf_graph.proofs.PassFacts.{ok_is, some_is, bind_ok, or_fault_ok, cond_ok, cond_some, bind_some, each_keeps, each_all, each_at, check_at}
 use Rattle.csdf_graph.proofs.RangeFacts.{IsRanged, actor_within_fits, channel_within_fits, cells_within_fits}
 

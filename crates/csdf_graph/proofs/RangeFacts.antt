@@ -8,8 +8,8 @@ use Rattle.std.specs.Int.Signed.{le_z_yes}
 use Rattle.std.proofs.Math.Seq.{drop-append_seam}
 use Rattle.std.proofs.Common.{length-append}
 use Rattle.std.proofs.lemmas.List.{length-replicate}
-use Rattle.csdf_graph.specs.declared.graph.Kernel.{Kernel}
-use Rattle.csdf_graph.specs.declared.graph.Kernel.TheVariants as kernel
+use Rattle.csdf_graph.specs.declared.parts.Kernel.{Kernel}
+use Rattle.csdf_graph.specs.declared.parts.Kernel.TheVariants as kernel
 use Rattle.csdf_graph.specs.Tree.{all_some}
 use Rattle.csdf_graph.specs.Graph.{Actor}
 use Rattle.csdf_graph.specs.Shape.{KernelDraft, source, sink, copy, sum, fir, ActorDraft, ChannelDraft}

@@ -1,7 +1,7 @@
 -- What channels and actors owe each other, once numbers stand for names.
 use Rattle.std.specs.Prelude.{ℕ, Bool, not, ◌&&◌, ◌==◌, nat_le, List, length, sum}
-use Rattle.csdf_graph.specs.declared.graph.Kernel.{Kernel}
-use Rattle.csdf_graph.specs.declared.graph.Kernel.TheVariants as kernel
+use Rattle.csdf_graph.specs.declared.parts.Kernel.{Kernel}
+use Rattle.csdf_graph.specs.declared.parts.Kernel.TheVariants as kernel
 use Rattle.csdf_graph.specs.Graph.{Actor, Channel, phases_of, input_count, output_count}
 
 -- each rate list has an entry for each phase of its actor

@@ -1,8 +1,8 @@
 -- A cyclo-static dataflow graph, without where it lies in memory (Bilsen et al. 1996).
 use Rattle.std.specs.Prelude.{ℕ, suc, Bool, ◌==◌, if◌then◌else◌, List, [], ◌∷◌, ℤ, Option, string_bytes, count_by, slice_get, option_map, unwrap_or}
-use Rattle.csdf_graph.specs.declared.graph.Kernel.{Kernel}
-use Rattle.csdf_graph.specs.declared.graph.Actor.{Actor as ActorCode}
-use Rattle.csdf_graph.specs.declared.graph.Channel.{Channel as ChannelCode}
+use Rattle.csdf_graph.specs.declared.parts.Kernel.{Kernel}
+use Rattle.csdf_graph.specs.declared.parts.Actor.{Actor as ActorCode}
+use Rattle.csdf_graph.specs.declared.parts.Channel.{Channel as ChannelCode}
 use Rattle.csdf_graph.specs.declared.ports.Ports.{Ports as PortsCode}
 
 -- an actor: its firing number k, counted from 0, is in phase k modulo its number of phases

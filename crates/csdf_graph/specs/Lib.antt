@@ -4,6 +4,7 @@ pub mod Device
 pub mod Graph
 pub mod GraphText
 pub mod Joined
+pub mod Kept
 pub mod Links
 pub mod Names
 pub mod Passes
@@ -15,4 +16,3 @@ pub mod TokenText
 pub mod Told
 pub mod Tree
 pub mod WellFormed
-pub mod Whole

@@ -7,7 +7,7 @@ ghost use Rattle.csdf_graph.specs.Graph.{actor_view, channel_view, phases_of, in
 ghost use Rattle.csdf_graph.specs.Checks.{phase_lengths_fit, has_rates, ports_fit, has_ports};
 
 use crate::fault::{GraphFault, told};
-use crate::graph::{Actor, Channel, Kernel};
+use crate::parts::{Actor, Channel, Kernel};
 
 /// How many phases an actor has, and none where there is no such actor.
 fn phases_of(actors: &[Actor], number: u32) -> usize

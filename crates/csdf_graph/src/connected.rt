@@ -6,7 +6,7 @@ ghost use Rattle.csdf_graph.specs.Graph.{channel_view};
 ghost use Rattle.csdf_graph.specs.Joined.{HasEnds, AreJoined};
 ghost use Rattle.csdf_graph.specs.Connected.{relabel, merge, groups_of, are_one_group};
 
-use crate::graph::Channel;
+use crate::parts::Channel;
 use std::alloc::{AllocError, Global};
 
 fn relabeled(

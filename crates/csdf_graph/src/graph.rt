@@ -1,83 +1,153 @@
-//! What a graph file stands for.
+//! The type of a graph that has passed each check.
 
-use std::alloc::AllocError;
+ghost use Rattle.std.specs.Prelude.{◌≡◌, ◌<◌, ◌≤◌, map, length, string_bytes, All, IfOk};
+ghost use Rattle.csdf_graph.specs.Graph.{actor_view, channel_view, inputs_of, outputs_of, ports_of, ports_view};
+ghost use Rattle.csdf_graph.specs.WellFormed.{IsWellFormed};
+ghost use Rattle.csdf_graph.specs.Links.{number_in};
 
-/// What an actor does with its tokens.
-#[derive(Clone, Copy, Debug, PartialEq, Eq)]
-pub enum Kernel {
-    /// Gives the tokens of a file, in order.
-    Source,
-    /// Takes tokens and gives none.
-    Sink,
-    /// Gives each output the tokens read, over and over.
-    Copy,
-    /// Gives the sum of the tokens read.
-    Sum,
-    /// A finite impulse response filter. The first `taps` weights count, and the rest are 0; each
-    /// sum of products is divided by two to the power of `shift`.
-    Fir {
-        weights: [i32; 16],
-        taps: u32,
-        shift: u32,
-    },
+use crate::parts::{Actor, Channel};
+use crate::links::number_in;
+use crate::ports::{Ports, gathered};
+use indexmap::IndexSet;
+use std::alloc::{AllocError, Global};
+use std::marker::Model;
+
+/// A cyclo-static dataflow graph that has passed each check of [`read_graph`](crate::read_graph).
+///
+/// Actors and channels are numbered from 0 in file order.
+#[derive(Drop)]
+pub struct Graph {
+    actors: Vec<Actor>,
+    channels: Vec<Channel>,
+    cells: Option<u32>,
+    actor_names: IndexSet<String>,
+    channel_names: IndexSet<String>,
+    ports: Vec<Ports>,
 }
 
-/// An actor: its firing number `k`, counted from 0, is in phase `k` modulo `phases`.
-#[derive(Debug, Drop)]
-pub struct Actor {
-    pub name: String,
-    pub kernel: Kernel,
-    pub phases: u32,
+impl Model for Graph {
+    ghost use Rattle.std.specs.Prelude.{◌≡◌, length, map, string_bytes};
+    ghost use Rattle.csdf_graph.specs.Graph.{Graph as GraphModel, actor_view, channel_view, ports_view};
+    ghost use Rattle.csdf_graph.specs.Kept.{IsKept, all_ports};
+
+    ghost Value = { GraphModel };
+
+    ghost view = { λ g. record { actors = map actor_view g.actors.items; channels = map channel_view g.channels.items; cells = g.cells } };
+
+    ghost invariant = { λ g. IsKept (map string_bytes g.actor_names.keys) (map string_bytes g.channel_names.keys) (record { actors = map actor_view g.actors.items; channels = map channel_view g.channels.items; cells = g.cells }) × (map ports_view g.ports.items ≡ all_ports (map channel_view g.channels.items) (length (map actor_view g.actors.items))) };
 }
 
-/// A first-in first-out queue from one actor to another (Bilsen et al. 1996).
-#[derive(Debug, Drop)]
-pub struct Channel {
-    pub name: String,
-    /// The number of the producer.
-    pub from: u32,
-    /// The number of the consumer.
-    pub to: u32,
-    /// How many tokens a firing of the producer puts in, one rate for each of its phases.
-    pub produce: Vec<u32>,
-    /// How many tokens a firing of the consumer takes out, one rate for each of its phases.
-    pub consume: Vec<u32>,
-    /// The tokens that the channel begins with, the oldest first.
-    pub initial: Vec<i32>,
-    /// The most tokens that it may hold, where the file gives a number.
-    pub capacity: Option<u32>,
-}
+impl Graph {
+    ghost use Rattle.csdf_graph.specs.Kept.{IsKept};
 
-impl Clone for Actor {
-    ghost use Rattle.std.specs.Prelude.{◌≡◌};
-    ghost use Rattle.csdf_graph.specs.Graph.{actor_view};
-
-    ghost is_clone = { λ old new. actor_view new ≡ actor_view old };
-
-    fn clone(&self) -> Result<Actor, AllocError> {
-        Ok(Actor {
-            name: self.name.clone()?,
-            kernel: self.kernel,
-            phases: self.phases,
+    /// The graph of these parts, with the channels of each actor gathered.
+    pub(crate) fn new(
+        alloc: Global,
+        actors: Vec<Actor>,
+        channels: Vec<Channel>,
+        cells: Option<u32>,
+        actor_names: IndexSet<String>,
+        channel_names: IndexSet<String>,
+    ) -> Result<Graph, AllocError>
+        requires { IsKept (map string_bytes actor_names.keys) (map string_bytes channel_names.keys) (record { actors = map actor_view actors.items; channels = map channel_view channels.items; cells = cells }) }
+        ensures { IfOk result (λ graph. graph ≡ record { actors = map actor_view actors.items; channels = map channel_view channels.items; cells = cells }) }
+    {
+        let ports = gathered(alloc, &channels, actors.len())?;
+        Ok(Graph {
+            actors,
+            channels,
+            cells,
+            actor_names,
+            channel_names,
+            ports,
         })
     }
-}
 
-impl Clone for Channel {
-    ghost use Rattle.std.specs.Prelude.{◌≡◌};
-    ghost use Rattle.csdf_graph.specs.Graph.{channel_view};
+    /// The actors, in file order.
+    pub fn actors(&self) -> &[Actor]
+        ensures value { map actor_view result.now ≡ self.now.actors }
+        ensures well_formed { IsWellFormed self.now }
+    {
+        &self.actors
+    }
 
-    ghost is_clone = { λ old new. channel_view new ≡ channel_view old };
+    /// The channels, in file order.
+    pub fn channels(&self) -> &[Channel]
+        ensures value { map channel_view result.now ≡ self.now.channels }
+        ensures well_formed { IsWellFormed self.now }
+    {
+        &self.channels
+    }
 
-    fn clone(&self) -> Result<Channel, AllocError> {
-        Ok(Channel {
-            name: self.name.clone()?,
-            from: self.from,
-            to: self.to,
-            produce: self.produce.clone()?,
-            consume: self.consume.clone()?,
-            initial: self.initial.clone()?,
-            capacity: self.capacity,
-        })
+    /// The number of cells of the pool that all channels share, where the file gives one.
+    pub fn cells(&self) -> Option<u32>
+        ensures { result ≡ self.now.cells }
+    {
+        self.cells
+    }
+
+    /// The channels of the actor.
+    fn ports_of(&self, actor: u32) -> &Ports
+        requires { actor < length self.now.actors }
+        ensures ports { ports_view result.now ≡ ports_of self.now.channels actor }
+        ensures few { length self.now.channels ≤ 128 }
+    {
+        &self.ports[actor as usize]
+    }
+
+    /// The numbers of the channels that end at the actor, in file order.
+    pub fn inputs(&self, actor: u32) -> &[u32]
+        requires { actor < length self.now.actors }
+        ensures value { result.now ≡ inputs_of self.now.channels actor }
+        ensures within { All (λ c. c < length self.now.channels) result.now }
+        ensures few { length result.now ≤ 128 }
+    {
+        &self.ports_of(actor).inputs
+    }
+
+    /// The numbers of the channels that begin at the actor, in file order.
+    pub fn outputs(&self, actor: u32) -> &[u32]
+        requires { actor < length self.now.actors }
+        ensures value { result.now ≡ outputs_of self.now.channels actor }
+        ensures within { All (λ c. c < length self.now.channels) result.now }
+        ensures few { length result.now ≤ 128 }
+    {
+        &self.ports_of(actor).outputs
+    }
+
+    /// The number of the actor with this name, by one look-up.
+    #[tactic(auto, using(crate::proofs::LinkLemmas::length_of_map))]
+    pub fn actor_number(&self, name: &str) -> Option<u32>
+        ensures { result ≡ number_in (map (λ a. a.name) self.now.actors) name.now }
+    {
+        match number_in(&self.actor_names, name) {
+            Some(number) => Some(number as u32),
+            None => None,
+        }
+    }
+
+    /// The number of the channel with this name, by one look-up.
+    #[tactic(auto, using(crate::proofs::LinkLemmas::length_of_map))]
+    pub fn channel_number(&self, name: &str) -> Option<u32>
+        ensures { result ≡ number_in (map (λ c. c.name) self.now.channels) name.now }
+    {
+        match number_in(&self.channel_names, name) {
+            Some(number) => Some(number as u32),
+            None => None,
+        }
+    }
+
+    /// An equal graph in memory of its own.
+    ///
+    /// An error says that memory ran out.
+    pub fn try_copy(&self, alloc: Global) -> Result<Graph, AllocError>
+        ensures { IfOk result (λ graph. graph ≡ self.now) }
+    {
+        let actors = self.actors.clone()?;
+        let channels = self.channels.clone()?;
+        let actor_names = self.actor_names.clone()?;
+        let channel_names = self.channel_names.clone()?;
+        let cells = self.cells;
+        Graph::new(alloc, actors, channels, cells, actor_names, channel_names)
     }
 }

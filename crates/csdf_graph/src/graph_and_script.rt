@@ -8,7 +8,7 @@ use crate::fault::GraphFault;
 use crate::read::{file_of, graph_of};
 use crate::script::Script;
 use crate::script_text::script_in;
-use crate::whole::Graph;
+use crate::graph::Graph;
 use std::alloc::Global;
 
 /// A graph, and the script that stands in its file.

@@ -13,6 +13,7 @@ mod intake;
 mod links;
 mod names;
 mod outlet;
+mod parts;
 mod ports;
 mod ranges;
 mod rates;
@@ -26,18 +27,17 @@ mod token_line;
 mod token_word;
 mod tokens;
 mod tree;
-mod whole;
 
 pub use device::{DeviceFailed, Intake, Outlet};
 pub use fault::{At, GraphFault};
 pub use from_reader::FromReader;
 pub use fused::Fused;
-pub use graph::{Actor, Channel, Kernel};
+pub use graph::Graph;
 pub use graph_and_script::{GraphAndScript, read_graph_and_script};
 pub use intake::{INPUT_LIMIT, InputFault, read_bytes};
 pub use names::is_name;
 pub use outlet::{WriteFault, write_bytes};
-pub use ports::Ports;
+pub use parts::{Actor, Channel, Kernel};
 pub use rates::{rate, total};
 pub use read::read_graph;
 pub use script::Script;
@@ -46,7 +46,6 @@ pub use slice::Slice;
 pub use to_writer::ToWriter;
 pub use token_word::{WordFault, token_of};
 pub use tokens::{TOKEN_LIMIT, TokenFault, read_tokens, write_tokens, written_tokens_read_back};
-pub use whole::Graph;
 
 #[cfg(test)]
 mod byte_tests;

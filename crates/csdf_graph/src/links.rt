@@ -8,7 +8,7 @@ ghost use Rattle.csdf_graph.specs.Ranges.{ranged_view};
 ghost use Rattle.csdf_graph.specs.Links.{number_in, linked, linked_at};
 
 use crate::fault::{GraphFault, Misfit, told};
-use crate::graph::Channel;
+use crate::parts::Channel;
 use crate::ranges::RangedChannel;
 use indexmap::IndexSet;
 use std::alloc::Global;

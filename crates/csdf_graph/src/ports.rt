@@ -2,38 +2,24 @@
 
 ghost use Rattle.std.specs.Prelude.{◌≡◌, ◌≤◌, length, map, IfOk};
 ghost use Rattle.csdf_graph.specs.Graph.{channel_view, inputs_of, outputs_of, ports_view};
-ghost use Rattle.csdf_graph.specs.Whole.{all_ports};
+ghost use Rattle.csdf_graph.specs.Kept.{all_ports};
 
-use crate::graph::Channel;
+use crate::parts::Channel;
 use std::alloc::{AllocError, Global};
 
 /// The numbers of an actor's channels, in file order. A channel from an actor to itself is among
 /// both.
 #[derive(Debug, Drop)]
-pub struct Ports {
+pub(crate) struct Ports {
     /// The channels that end at it.
-    pub inputs: Vec<u32>,
+    pub(crate) inputs: Vec<u32>,
     /// The channels that begin at it.
-    pub outputs: Vec<u32>,
-}
-
-impl Clone for Ports {
-    ghost use Rattle.std.specs.Prelude.{◌≡◌};
-    ghost use Rattle.csdf_graph.specs.Graph.{ports_view};
-
-    ghost is_clone = { λ old new. ports_view new ≡ ports_view old };
-
-    fn clone(&self) -> Result<Ports, AllocError> {
-        Ok(Ports {
-            inputs: self.inputs.clone()?,
-            outputs: self.outputs.clone()?,
-        })
-    }
+    pub(crate) outputs: Vec<u32>,
 }
 
 impl Ports {
     /// The channels of this actor. An error says that memory ran out.
-    pub fn of(alloc: Global, channels: &[Channel], actor: u32) -> Result<Ports, AllocError>
+    fn of(alloc: Global, channels: &[Channel], actor: u32) -> Result<Ports, AllocError>
         requires { length channels.now ≤ 128 }
         ensures inputs { IfOk result (λ ports. ports.inputs.items ≡ inputs_of (map channel_view channels.now) actor) }
         ensures outputs { IfOk result (λ ports. ports.outputs.items ≡ outputs_of (map channel_view channels.now) actor) }

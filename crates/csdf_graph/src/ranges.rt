@@ -8,7 +8,7 @@ ghost use Rattle.csdf_graph.specs.Shape.{kernel_view, actor_view as draft_of_act
 ghost use Rattle.csdf_graph.specs.Ranges.{number_within, signed_within, weights_within, kernel_within, actor_within, tokens_within, capacity_within, initial_count, cells_within, channel_within, ranged_view, ranged_actor, ranged_channel, file_view, range_of};
 
 use crate::fault::{At, GraphFault, Misfit, told};
-use crate::graph::{Actor, Kernel};
+use crate::parts::{Actor, Kernel};
 use crate::shape::{ActorDraft, ChannelDraft, Draft, KernelDraft};
 use std::alloc::{AllocError, Global};
 

@@ -4,7 +4,7 @@ ghost use Rattle.std.specs.Prelude.{◌≡◌, ◌≤◌, ◌*◌, ◌^◌, leng
 ghost use Rattle.csdf_graph.specs.Graph.{channel_view};
 ghost use Rattle.csdf_graph.specs.Rates.{rate, total, produced, consumed, production, consumption};
 
-use crate::graph::Channel;
+use crate::parts::Channel;
 
 /// The rate of firing number `firing`: the list has one rate for each phase and is repeated
 /// cyclically. An empty list moves nothing.

@@ -5,7 +5,7 @@ use Rattle.std.proofs.lemmas.List.Sums.{sum_by-cons}
 use Rattle.std.proofs.lemmas.List.{get_or-set_other, get_or-set_same}
 use Rattle.std.proofs.lemmas.Bool.Decides.{eqb_tells}
 use Rattle.csdf_graph.specs.Rates.{rate}
-use Rattle.csdf_graph.specs.declared.graph.Kernel.TheVariants.{Sink}
+use Rattle.csdf_graph.specs.declared.parts.Kernel.TheVariants.{Sink}
 use Rattle.csdf_kernel.proofs.ValueLemmas.{length_of_value}
 use Rattle.csdf_core.specs.declared.stage.Stage.{Stage}
 use Rattle.csdf_core.specs.declared.stage.Stage.TheVariants.{Idle, Begun, Fetched, Written}

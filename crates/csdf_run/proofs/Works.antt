@@ -5,9 +5,9 @@ use Rattle.std.specs.List.{zip}
 use Rattle.std.specs.Global.{Vec}
 use Rattle.std.proofs.lemmas.List.{length-map, get_or-map, get_or-set_same, get_or_past}
 use Rattle.std.proofs.lemmas.List.Elements.{All-get_or, All-from_get_or, All-from_recursion}
-use Rattle.csdf_graph.specs.declared.graph.Kernel.{Kernel}
-use Rattle.csdf_graph.specs.declared.graph.Kernel.TheVariants as kernel
-use Rattle.csdf_graph.specs.declared.graph.Actor.{Actor as ActorCode}
+use Rattle.csdf_graph.specs.declared.parts.Kernel.{Kernel}
+use Rattle.csdf_graph.specs.declared.parts.Kernel.TheVariants as kernel
+use Rattle.csdf_graph.specs.declared.parts.Actor.{Actor as ActorCode}
 use Rattle.csdf_graph.specs.Graph as graph
 use Rattle.csdf_graph.specs.Graph.{Actor, Graph, actor_view, numbers_from, outputs_of}
 use Rattle.csdf_graph.specs.Rates.{rate, produced, consumed, production}

@@ -1,8 +1,8 @@
 -- What a run is asked for.
 use Rattle.std.specs.Prelude.{ℕ, ◌≡◌, ◌≤◌, Bool, true, false, List, [], ℤ, Option, All, length, map, slice_index_or}
 use Rattle.std.specs.Global.{Vec}
-use Rattle.csdf_graph.specs.declared.graph.Kernel.{Kernel}
-use Rattle.csdf_graph.specs.declared.graph.Kernel.TheVariants as kernel
+use Rattle.csdf_graph.specs.declared.parts.Kernel.{Kernel}
+use Rattle.csdf_graph.specs.declared.parts.Kernel.TheVariants as kernel
 use Rattle.csdf_graph.specs.Graph.{Graph, Actor}
 use Rattle.csdf_analysis.specs.Acceptance.{Accepted, IsAccepted}
 use Rattle.csdf_core.specs.Layout.{is_source_kernel}

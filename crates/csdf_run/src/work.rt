@@ -1,7 +1,7 @@
 //! What a run is asked for, and what its firings compute from.
 
 ghost use Rattle.std.specs.Prelude.{◌≡◌, ◌↔◌, ◌==◌, ◌+◌, ◌*◌, ◌^◌, ◌<◌, ◌≤◌, All, IsTrue, IfOk, filter, length, map, slice_index, slice_index_or, slice_range};
-ghost use Rattle.csdf_graph.specs.declared.graph.Kernel.TheVariants.{Sink};
+ghost use Rattle.csdf_graph.specs.declared.parts.Kernel.TheVariants.{Sink};
 ghost use Rattle.csdf_graph.specs.Graph.{Actor as ActorModel, Channel as ChannelModel};
 ghost use Rattle.csdf_graph.specs.Rates.{production};
 ghost use Rattle.csdf_core.specs.Headline.{capacity_of};

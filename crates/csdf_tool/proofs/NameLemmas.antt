@@ -3,8 +3,8 @@ use Rattle.std.proofs.Common.{◌≡◌, ℕ, ◌<◌, List, [], length, get_or,
 use Rattle.std.proofs.lemmas.List.{get_or-map, length-map}
 use Rattle.std.specs.String.{string_bytes}
 use Rattle.csdf_graph.specs.Graph.{Actor, Channel, actor_view, channel_view}
-use Rattle.csdf_graph.specs.declared.graph.Actor.{Actor as ActorCode}
-use Rattle.csdf_graph.specs.declared.graph.Channel.{Channel as ChannelCode}
+use Rattle.csdf_graph.specs.declared.parts.Actor.{Actor as ActorCode}
+use Rattle.csdf_graph.specs.declared.parts.Channel.{Channel as ChannelCode}
 use Rattle.csdf_tool.specs.Printed.{names_of, name_at}
 use Rattle.csdf_tool.specs.Described.{actor_names}
 

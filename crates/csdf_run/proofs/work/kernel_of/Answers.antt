@@ -1,7 +1,7 @@
 use Rattle.std.proofs.Common.{◌≡◌, get_or, ap, subst, sym, ◌∙◌, map}
-use Rattle.csdf_graph.specs.declared.graph.Kernel.{Kernel}
-use Rattle.csdf_graph.specs.declared.graph.Kernel.TheVariants.{Sink}
-use Rattle.csdf_graph.specs.declared.graph.Actor.{Actor as ActorCode}
+use Rattle.csdf_graph.specs.declared.parts.Kernel.{Kernel}
+use Rattle.csdf_graph.specs.declared.parts.Kernel.TheVariants.{Sink}
+use Rattle.csdf_graph.specs.declared.parts.Actor.{Actor as ActorCode}
 use Rattle.csdf_graph.specs.Graph.{Actor}
 use Rattle.csdf_kernel.specs.Value.{HasFilterInRange}
 use Rattle.csdf_run.proofs.Works.{kernel_at, in_range}

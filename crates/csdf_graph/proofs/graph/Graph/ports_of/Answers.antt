@@ -1,7 +1,7 @@
 use Rattle.std.proofs.Common.{arith, map}
 use Rattle.csdf_graph.specs.Graph.{channel_view, ports_view, ports_of}
 use Rattle.csdf_graph.proofs.PortLemmas.{made_count, made_at}
-use Rattle.csdf_graph.proofs.whole.Graph.ports_of.Goals as goal
+use Rattle.csdf_graph.proofs.graph.Graph.ports_of.Goals as goal
 
 pub index-requires : goal.index-requires
 index-requires c =

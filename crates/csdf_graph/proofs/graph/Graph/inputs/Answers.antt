@@ -2,7 +2,7 @@ use Rattle.std.proofs.Common.{◌==◌, ◌<◌, length, ap, subst, sym, ◌∙�
 use Rattle.std.specs.Prelude.{All}
 use Rattle.csdf_graph.specs.Graph.{Channel, Ports}
 use Rattle.csdf_graph.proofs.PortLemmas.{numbers_within, few_numbers}
-use Rattle.csdf_graph.proofs.whole.Graph.inputs.Goals as goal
+use Rattle.csdf_graph.proofs.graph.Graph.inputs.Goals as goal
 
 pub returns-clause-value : goal.returns-clause-value
 returns-clause-value c = c.deref.ensures.value ∙ ap (λ (p : Ports). p.inputs) c.ports_of.ensures.ports
