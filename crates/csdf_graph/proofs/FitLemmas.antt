@@ -1,5 +1,6 @@
 -- A graph whose passes all went through is well formed.
-use Rattle.std.proofs.Common.{◌≡◌, ℕ, ◌+◌, ◌<◌, ◌≤◌, ◌==◌, true, false, not, ◌&&◌, nat_le, nat_lt, List, [], ◌∷◌, length, get_or, take, map, sum, Option, Some, None, Ok, refl, sym, ap, subst, ◌∙◌, arith}
+use Rattle.std.proofs.Common.{◌≡◌, ℕ, ◌+◌, ◌<◌, ◌≤◌, ◌==◌, true, false, not, ◌&&◌, nat_le, nat_lt, List, [], ◌∷◌, length, get_or, take, map, sum, Option, Some}
+use Rattle.std.proofs.Common.{None, Ok, refl, sym, ap, subst, ◌∙◌, arith}
 use Rattle.std.specs.Prelude.{All, IfSome, sum_by}
 use Rattle.std.specs.List.{list_any, position_or_len}
 use Rattle.std.specs.Str.{bytes_eq}
@@ -11,13 +12,14 @@ use Rattle.std.proofs.lemmas.Slice.Eq.{bytes_eq-Decides}
 use Rattle.csdf_graph.specs.declared.fault.GraphFault.TheVariants as fault
 use Rattle.csdf_graph.specs.declared.fault.At.TheVariants as at
 use Rattle.csdf_graph.specs.declared.names.Kind.{Kind}
-use Rattle.csdf_graph.specs.Told.{told}
+use Rattle.csdf_graph.specs.FaultPlace.{fault_place}
 use Rattle.csdf_graph.specs.Passes.{or_fault, each, check}
 use Rattle.csdf_graph.specs.Names.{is_name, is_free, name_at, names_of}
 use Rattle.csdf_graph.specs.Names as names
 use Rattle.csdf_graph.specs.Graph.{Actor, Channel, Graph, phases_of}
 use Rattle.csdf_graph.specs.Shape.{ActorDraft, ChannelDraft, Draft}
-use Rattle.csdf_graph.specs.Ranges.{RangedChannel, Ranged, actor_within, channel_within, ranged_actor, ranged_channel, counts_fit, initial_count, cells_within, range_of}
+use Rattle.csdf_graph.specs.Ranges.{RangedChannel, Ranged, actor_within, channel_within, ranged_actor, ranged_channel, counts_fit, initial_count, cells_within}
+use Rattle.csdf_graph.specs.Ranges.{range_of}
 use Rattle.csdf_graph.specs.Links.{number_in, linked, linked_at}
 use Rattle.csdf_graph.specs.Checks.{phase_lengths_fit, has_rates, has_ports}
 use Rattle.csdf_graph.specs.GraphText.{parts_of}
@@ -38,14 +40,14 @@ names_kept kind ns ms e = sym (itself_map ms) ∙ each_keeps (name_at kind ns) (
     itself_map (x ∷ xs) = ap (λ ys. x ∷ ys) (itself_map xs)
 
     one : (i : ℕ) (n m : List ℕ) → name_at kind ns i n ≡ Ok m → m ≡ n
-    one i n m h = let o = cond_ok (is_free n (take i ns)) (Ok n) (fault.Name (names.at kind (told i))) m h in cc
+    one i n m h = let o = cond_ok (is_free n (take i ns)) (Ok n) (fault.Name (names.at kind (fault_place i))) m h in cc
 
 name_free : (kind : Kind) (ns ms : List (List ℕ)) → names_of kind ns ≡ Ok ms → (k : ℕ) (d : List ℕ) → k < length ns → is_free (get_or ns k d) (take k ns) ≡ true
 name_free kind ns ms e k d lt =
     let y = each_at (name_at kind ns) 0 ns ms e k d lt in
     let here : 0 + k ≡ k = omega arith in
     let at_k : name_at kind ns k (get_or ns k d) ≡ Ok y.0 = ap (λ j. name_at kind ns j (get_or ns k d)) (sym here) ∙ y.1 in
-    (cond_ok (is_free (get_or ns k d) (take k ns)) (Ok (get_or ns k d)) (fault.Name (names.at kind (told k))) y.0 at_k).0
+    (cond_ok (is_free (get_or ns k d) (take k ns)) (Ok (get_or ns k d)) (fault.Name (names.at kind (fault_place k))) y.0 at_k).0
 
 pub names_are : (kind : Kind) (ns ms : List (List ℕ)) → names_of kind ns ≡ Ok ms → AreNames ns
 names_are kind ns ms e = record {
@@ -55,9 +57,11 @@ names_are kind ns ms e = record {
   where
     differ : (i j : ℕ) (d : List ℕ) → i < j → j < length ns → get_or ns i d ≡ get_or ns j d → ⊥
     differ i j d lt ltj same =
-        let unused : list_any (bytes_eq (get_or ns j d)) (take j ns) ≡ false = not-true _ (and_parts (is_name (get_or ns j d)) _ (name_free kind ns ms e j d ltj)).1 in
+        let unused : list_any (bytes_eq (get_or ns j d)) (take j ns) ≡ false =
+        not-true _ (and_parts (is_name (get_or ns j d)) _ (name_free kind ns ms e j d ltj)).1 in
         let within : i < length (take j ns) = omega (arith, length-take j ns) in
-        let alike : bytes_eq (get_or ns j d) (get_or (take j ns) i d) ≡ true = (bytes_eq-Decides (get_or ns j d) (get_or (take j ns) i d)).1 (sym same ∙ sym (get_or-take j ns i d lt)) in
+        let alike : bytes_eq (get_or ns j d) (get_or (take j ns) i d) ≡ true = (bytes_eq-Decides (get_or ns j d) (get_or (take j ns) i d)).1 (sym same
+        ∙ sym (get_or-take j ns i d lt)) in
         let used : list_any (bytes_eq (get_or ns j d)) (take j ns) ≡ true = list_any_at (bytes_eq (get_or ns j d)) (take j ns) i d within alike in
         absurd cc
 
@@ -73,10 +77,11 @@ pub record IsInRange (d : Draft) (r : Ranged) : Type 0 where
   pub cells : IfSome r.cells (λ n. (sum_by (λ (c : RangedChannel). length c.initial) r.channels ≤ n) × (n ≤ 8388480))
 
 ranged_actor_fits : (i : ℕ) (d : ActorDraft) (a : Actor) → ranged_actor i d ≡ Ok a → (a.name ≡ d.name) × IsActor a
-ranged_actor_fits i d a e = actor_within_fits d a (or_fault_ok (fault.Range (at.Actor (told i))) (actor_within d) a e)
+ranged_actor_fits i d a e = actor_within_fits d a (or_fault_ok (fault.Range (at.Actor (fault_place i))) (actor_within d) a e)
 
-ranged_channel_fits : (i : ℕ) (d : ChannelDraft) (r : RangedChannel) → ranged_channel i d ≡ Ok r → (r.name ≡ d.name) × (length r.initial ≡ length d.initial) × IsRanged r
-ranged_channel_fits i d r e = channel_within_fits d r (or_fault_ok (fault.Range (at.Channel (told i))) (channel_within d) r e)
+ranged_channel_fits : (i : ℕ) (d : ChannelDraft) (r : RangedChannel) → ranged_channel i d ≡ Ok r → (r.name ≡ d.name) × (length r.initial ≡ length d.initial)
+    × IsRanged r
+ranged_channel_fits i d r e = channel_within_fits d r (or_fault_ok (fault.Range (at.Channel (fault_place i))) (channel_within d) r e)
 
 -- lists with equal lengths of tokens have equal sums of them
 same_sums : {A B : Type 0} (f : A → ℕ) (g : B → ℕ) (xs : List A) (ys : List B) → map f xs ≡ map g ys → sum_by f xs ≡ sum_by g ys
@@ -98,7 +103,8 @@ range_fits d r e =
     let names_a = each_keeps ranged_actor (λ x. x.name) (λ x. x.name) (λ i x y h. (ranged_actor_fits i x y h).0) 0 d.actors a.0 a.1 in
     let names_c = each_keeps ranged_channel (λ x. x.name) (λ x. x.name) (λ i x y h. (ranged_channel_fits i x y h).0) 0 d.channels c.0 c.1 in
     let lengths = each_keeps ranged_channel (λ x. length x.initial) (λ x. length x.initial) (λ i x y h. (ranged_channel_fits i x y h).1) 0 d.channels c.0 c.1 in
-    let sums : sum_by (λ (x : RangedChannel). length x.initial) c.0 ≡ initial_count d.channels = same_sums (λ (x : RangedChannel). length x.initial) (λ (x : ChannelDraft). length x.initial) c.0 d.channels lengths in
+    let sums : sum_by (λ (x : RangedChannel). length x.initial) c.0 ≡ initial_count d.channels =
+    same_sums (λ (x : RangedChannel). length x.initial) (λ (x : ChannelDraft). length x.initial) c.0 d.channels lengths in
     let len_a : length a.0 ≡ length d.actors = same_lengths (λ (x : Actor). x.name) (λ (x : ActorDraft). x.name) a.0 d.actors names_a in
     let len_c : length c.0 ≡ length d.channels = same_lengths (λ (x : RangedChannel). x.name) (λ (x : ChannelDraft). x.name) c.0 d.channels names_c in
     let room = cells_within_fits d.channels d.cells n.0 (or_fault_ok (fault.Range at.File) (cells_within d.channels d.cells) n.0 n.1) in
@@ -130,13 +136,15 @@ number_in_within ns name i e =
     let p = cond_some (nat_lt (position_or_len (bytes_eq name) ns) (length ns)) (Some (position_or_len (bytes_eq name) ns)) i e in
     subst (λ k. k < length ns) (some_is (position_or_len (bytes_eq name) ns) i p.1) (ltb-true (position_or_len (bytes_eq name) ns) (length ns) p.0)
 
-linked_fits : (ns : List (List ℕ)) (i : ℕ) (r : RangedChannel) (c : Channel) → linked_at ns i r ≡ Ok c → (c.name ≡ r.name) × (length c.initial ≡ length r.initial) × (IsRanged r → IsPlaced (length ns) c)
+linked_fits : (ns : List (List ℕ)) (i : ℕ) (r : RangedChannel) (c : Channel) → linked_at ns i r ≡ Ok c → (c.name ≡ r.name)
+    × (length c.initial ≡ length r.initial) × (IsRanged r → IsPlaced (length ns) c)
 unfolding linked
 linked_fits ns i r c e =
-    let w = or_fault_ok (fault.UnknownActor (told i)) (linked ns r) c e in
+    let w = or_fault_ok (fault.UnknownActor (fault_place i)) (linked ns r) c e in
     let p = bind_some (number_in ns r.from) _ c w in
     let q = bind_some (number_in ns r.to) _ c p.2 in
-    let same = some_is (record { name = r.name; from = p.0; to = q.0; produce = r.produce; consume = r.consume; initial = r.initial; capacity = r.capacity }) c q.2 in
+    let same = some_is (record { name = r.name; from = p.0; to = q.0; produce = r.produce; consume = r.consume; initial = r.initial; capacity = r.capacity }) c
+    q.2 in
     subst (λ x. (x.name ≡ r.name) × (length x.initial ≡ length r.initial) × (IsRanged r → IsPlaced (length ns) x)) same (
       refl,
       refl,
@@ -151,7 +159,8 @@ linked_fits ns i r c e =
     )
 
 -- a placed channel with its rates
-channel_fits : (actors : List Actor) (i j : ℕ) (c : Channel) → IsPlaced (length actors) c → phase_lengths_fit actors i c ≡ true → has_rates j c ≡ true → IsChannel actors c
+channel_fits : (actors : List Actor) (i j : ℕ) (c : Channel) → IsPlaced (length actors) c → phase_lengths_fit actors i c ≡ true → has_rates j c ≡ true
+    → IsChannel actors c
 channel_fits actors i j c placed phases rates =
     let p = and_parts (length c.produce == phases_of actors c.from) (length c.consume == phases_of actors c.to) phases in
     let r = and_parts (not (sum c.produce == 0)) (not (sum c.consume == 0)) rates in
@@ -185,16 +194,20 @@ parts_fit d r actor_names channel_names g range are_a are_c same_a same_c e =
     let l = bind_ok (check fault.PhaseLength (phase_lengths_fit r.actors) 0 c.0) _ g c.2 in
     let z = bind_ok (check fault.ZeroRate has_rates 0 c.0) _ g l.2 in
     let p = bind_ok (check fault.KernelPorts (has_ports c.0) 0 r.actors) _ g z.2 in
-    let whole : record { actors = r.actors; channels = c.0; cells = r.cells } ≡ g = ok_is (record { actors = r.actors; channels = c.0; cells = r.cells }) g p.2 in
+    let whole : record { actors = r.actors; channels = c.0; cells = r.cells } ≡ g =
+    ok_is (record { actors = r.actors; channels = c.0; cells = r.cells }) g p.2 in
     let names_c = each_keeps (linked_at actor_names) (λ x. x.name) (λ x. x.name) (λ i x y h. (linked_fits actor_names i x y h).0) 0 r.channels c.0 c.1 in
-    let lengths = each_keeps (linked_at actor_names) (λ x. length x.initial) (λ x. length x.initial) (λ i x y h. (linked_fits actor_names i x y h).1) 0 r.channels c.0 c.1 in
-    let placed = each_all (linked_at actor_names) IsRanged (IsPlaced (length actor_names)) (λ i x y h k. (linked_fits actor_names i x y k).2 h) 0 r.channels c.0 range.channels c.1 in
+    let lengths = each_keeps (linked_at actor_names) (λ x. length x.initial) (λ x. length x.initial) (λ i x y h. (linked_fits actor_names i x y h).1) 0
+    r.channels c.0 c.1 in
+    let placed = each_all (linked_at actor_names) IsRanged (IsPlaced (length actor_names)) (λ i x y h k. (linked_fits actor_names i x y k).2 h) 0 r.channels c.0
+    range.channels c.1 in
     let len_c : length c.0 ≡ length r.channels = same_lengths (λ (x : Channel). x.name) (λ (x : RangedChannel). x.name) c.0 r.channels names_c in
     let few = range.few_channels in
     let numbered_a : actor_names ≡ map (λ (a : Actor). a.name) r.actors = same_a ∙ sym range.actor_names in
     let count : length actor_names ≡ length r.actors = ap length numbered_a ∙ length-map r.actors (λ (a : Actor). a.name) in
     let numbered_c : channel_names ≡ map (λ (x : Channel). x.name) c.0 = same_c ∙ sym (names_c ∙ range.channel_names) in
-    let sums : initial_total c.0 ≡ sum_by (λ (x : RangedChannel). length x.initial) r.channels = same_sums (λ (x : Channel). length x.initial) (λ (x : RangedChannel). length x.initial) c.0 r.channels lengths in
+    let sums : initial_total c.0 ≡ sum_by (λ (x : RangedChannel). length x.initial) r.channels =
+    same_sums (λ (x : Channel). length x.initial) (λ (x : RangedChannel). length x.initial) c.0 r.channels lengths in
     subst (IsUnjoined actor_names channel_names) whole (record {
       numbered = record { actors = numbered_a; channels = numbered_c };
       fitting = record {
@@ -204,14 +217,17 @@ parts_fit d r actor_names channel_names g range are_a are_c same_a same_c e =
         actor_names = subst AreNames (sym range.actor_names) are_a;
         channel_names = subst AreNames (sym (names_c ∙ range.channel_names)) are_c;
         actors = range.actors;
-        channels = λ k x lt. channel_fits r.actors (0 + k) (0 + k) (get_or c.0 k x) (subst (λ n. IsPlaced n (get_or c.0 k x)) count (placed k x lt)) (check_at fault.PhaseLength (phase_lengths_fit r.actors) 0 c.0 l.0 l.1 k x lt) (check_at fault.ZeroRate has_rates 0 c.0 z.0 z.1 k x lt);
-        ports = λ i x lt. (let here : 0 + i ≡ i = omega arith in ap (λ j. has_ports c.0 j (get_or r.actors i x)) (sym here) ∙ check_at fault.KernelPorts (has_ports c.0) 0 r.actors p.0 p.1 i x lt);
+        channels = λ k x lt. channel_fits r.actors (0 + k) (0 + k) (get_or c.0 k x) (subst (λ n. IsPlaced n (get_or c.0 k x)) count (placed k x lt))
+            (check_at fault.PhaseLength (phase_lengths_fit r.actors) 0 c.0 l.0 l.1 k x lt) (check_at fault.ZeroRate has_rates 0 c.0 z.0 z.1 k x lt);
+        ports = λ i x lt. (let here : 0 + i ≡ i = omega arith in ap (λ j. has_ports c.0 j (get_or r.actors i x)) (sym here)
+            ∙ check_at fault.KernelPorts (has_ports c.0) 0 r.actors p.0 p.1 i x lt);
         cells = given_cells c.0 r.cells (subst (λ total. IfSome r.cells (λ n. (total ≤ n) × (n ≤ 8388480))) (sym sums) range.cells);
       };
     })
 
 -- as many names as actors in range
-pub few_keys : {K : Type 0} (f : K → List ℕ) (keys : List K) (d : Draft) (r : Ranged) → IsInRange d r → map f keys ≡ map (λ (a : ActorDraft). a.name) d.actors → length keys ≤ 64
+pub few_keys : {K : Type 0} (f : K → List ℕ) (keys : List K) (d : Draft) (r : Ranged) → IsInRange d r → map f keys ≡ map (λ (a : ActorDraft). a.name) d.actors
+    → length keys ≤ 64
 few_keys f keys d r range same =
     let len : length keys ≡ length r.actors = same_lengths f (λ (a : Actor). a.name) keys r.actors (same ∙ sym range.actor_names) in
     let few = range.few_actors in

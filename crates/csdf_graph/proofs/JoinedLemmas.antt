@@ -1,5 +1,6 @@
 -- Groups have one number exactly where actors are joined.
-use Rattle.std.proofs.Common.{◌≡◌, ℕ, zero, suc, ◌+◌, ◌<◌, ◌==◌, Bool, true, false, cond, ◌⊎◌, inl, inr, List, [], ◌∷◌, length, get_or, slice_get, Option, Some, None, option_map, refl, sym, ap, subst, ◌∙◌, arith}
+use Rattle.std.proofs.Common.{◌≡◌, ℕ, zero, suc, ◌+◌, ◌<◌, ◌==◌, Bool, true, false, cond, ◌⊎◌, inl, inr, List, [], ◌∷◌, length, get_or, slice_get, Option, Some}
+use Rattle.std.proofs.Common.{None, option_map, refl, sym, ap, subst, ◌∙◌, arith}
 use Rattle.std.specs.Prelude.{slice_index}
 use Rattle.std.specs.List.{list_all, range_with_len}
 use Rattle.std.proofs.lemmas.Bool.{cases_Bool, and_parts, and_from, eqb-true, eq-eqb}
@@ -39,27 +40,32 @@ chosen : (b : Bool) (u p q x : ℕ) → (b ≡ true → u ≡ p) → cond b q u 
 chosen true u p q x same e = inl (same refl, sym e)
 chosen false u p q x same e = inr e
 
-was : (p q : ℕ) (groups : List ℕ) (a x : ℕ) → slice_get (relabel p q groups) a ≡ Some x → (u : ℕ) × (slice_get groups a ≡ Some u) × (((u ≡ p) × (x ≡ q)) ⊎ (u ≡ x))
+was : (p q : ℕ) (groups : List ℕ) (a x : ℕ) → slice_get (relabel p q groups) a ≡ Some x → (u : ℕ) × (slice_get groups a ≡ Some u)
+    × (((u ≡ p) × (x ≡ q)) ⊎ (u ≡ x))
 was p q groups a x e =
     let m = from_map (λ g. cond (g == p) q g) (slice_get groups a) x (sym (slice_get-map (λ g. cond (g == p) q g) groups a) ∙ e) in
     (m.0, m.1, chosen (m.0 == p) m.0 p q x (eqb-true m.0 p) m.2)
 
-relabel_sound : (all : List Channel) (groups : List ℕ) (f t p q : ℕ) → slice_get groups f ≡ Some p → slice_get groups t ≡ Some q → Joined all f t → Sound all groups → Sound all (relabel p q groups)
+relabel_sound : (all : List Channel) (groups : List ℕ) (f t p q : ℕ) → slice_get groups f ≡ Some p → slice_get groups t ≡ Some q → Joined all f t
+    → Sound all groups → Sound all (relabel p q groups)
 relabel_sound all groups f t p q at_f at_t edge sound a b x at_a at_b =
     let u = was p q groups a x at_a in
     let v = was p q groups b x at_b in
     elim u.2 [
       | inl m ↦ elim v.2 [
         | inl n ↦ sound a b p (u.1 ∙ ap (λ w. Some w) m.0) (v.1 ∙ ap (λ w. Some w) n.0)
-        | inr n ↦ Joined-then all a t b (Joined-then all a f t (sound a f p (u.1 ∙ ap (λ w. Some w) m.0) at_f) edge) (sound t b q at_t (v.1 ∙ ap (λ w. Some w) (n ∙ m.1)))
+        | inr n ↦ Joined-then all a t b (Joined-then all a f t (sound a f p (u.1 ∙ ap (λ w. Some w) m.0) at_f) edge) (sound t b q at_t (v.1
+            ∙ ap (λ w. Some w) (n ∙ m.1)))
       ]
       | inr m ↦ elim v.2 [
-        | inl n ↦ Joined-then all a t b (sound a t q (u.1 ∙ ap (λ w. Some w) (m ∙ n.1)) at_t) (Joined-then all t f b (Joined-back all f t edge) (sound f b p at_f (v.1 ∙ ap (λ w. Some w) n.0)))
+        | inl n ↦ Joined-then all a t b (sound a t q (u.1 ∙ ap (λ w. Some w) (m ∙ n.1)) at_t)
+            (Joined-then all t f b (Joined-back all f t edge) (sound f b p at_f (v.1 ∙ ap (λ w. Some w) n.0)))
         | inr n ↦ sound a b x (u.1 ∙ ap (λ w. Some w) m) (v.1 ∙ ap (λ w. Some w) n)
       ]
     ]
 
-merge_sound : (all : List Channel) (groups : List ℕ) (f t : ℕ) (o r : Option ℕ) → slice_get groups f ≡ o → slice_get groups t ≡ r → Joined all f t → Sound all groups → Sound all (merge o r groups)
+merge_sound : (all : List Channel) (groups : List ℕ) (f t : ℕ) (o r : Option ℕ) → slice_get groups f ≡ o → slice_get groups t ≡ r → Joined all f t
+    → Sound all groups → Sound all (merge o r groups)
 merge_sound all groups f t (Some p) (Some q) at_f at_t edge sound = relabel_sound all groups f t p q at_f at_t edge sound
 merge_sound all groups f t (Some p) None at_f at_t edge sound = sound
 merge_sound all groups f t None r at_f at_t edge sound = sound
@@ -84,15 +90,18 @@ range_sound all n a b x at_a at_b =
 
 -- ---- joined actors are of one group
 
-merge_keeps : (groups : List ℕ) (o r : Option ℕ) (a b : ℕ) → slice_get groups a ≡ slice_get groups b → slice_get (merge o r groups) a ≡ slice_get (merge o r groups) b
+merge_keeps : (groups : List ℕ) (o r : Option ℕ) (a b : ℕ) → slice_get groups a ≡ slice_get groups b
+    → slice_get (merge o r groups) a ≡ slice_get (merge o r groups) b
 merge_keeps groups (Some p) (Some q) a b e =
     slice_get-map (λ g. cond (g == p) q g) groups a ∙ ap (option_map (λ g. cond (g == p) q g)) e ∙ sym (slice_get-map (λ g. cond (g == p) q g) groups b)
 merge_keeps groups (Some p) None a b e = e
 merge_keeps groups None r a b e = e
 
-join_keeps : (cs : List Channel) (groups : List ℕ) (a b : ℕ) → slice_get groups a ≡ slice_get groups b → slice_get (join_all groups cs) a ≡ slice_get (join_all groups cs) b
+join_keeps : (cs : List Channel) (groups : List ℕ) (a b : ℕ) → slice_get groups a ≡ slice_get groups b
+    → slice_get (join_all groups cs) a ≡ slice_get (join_all groups cs) b
 join_keeps [] groups a b e = e
-join_keeps (c ∷ cs) groups a b e = join_keeps cs (merge (slice_get groups c.from) (slice_get groups c.to) groups) a b (merge_keeps groups (slice_get groups c.from) (slice_get groups c.to) a b e)
+join_keeps (c ∷ cs) groups a b e = join_keeps cs (merge (slice_get groups c.from) (slice_get groups c.to) groups) a b
+    (merge_keeps groups (slice_get groups c.from) (slice_get groups c.to) a b e)
 
 merge_length : (groups : List ℕ) (o r : Option ℕ) → length (merge o r groups) ≡ length groups
 merge_length groups (Some p) (Some q) = length_of_map (λ g. cond (g == p) q g) groups
@@ -101,9 +110,11 @@ merge_length groups None r = refl
 
 join_length : (cs : List Channel) (groups : List ℕ) → length (join_all groups cs) ≡ length groups
 join_length [] groups = refl
-join_length (c ∷ cs) groups = join_length cs (merge (slice_get groups c.from) (slice_get groups c.to) groups) ∙ merge_length groups (slice_get groups c.from) (slice_get groups c.to)
+join_length (c ∷ cs) groups = join_length cs (merge (slice_get groups c.from) (slice_get groups c.to) groups)
+    ∙ merge_length groups (slice_get groups c.from) (slice_get groups c.to)
 
-merged_same : (groups : List ℕ) (f t : ℕ) → f < length groups → t < length groups → slice_get (merge (slice_get groups f) (slice_get groups t) groups) f ≡ slice_get (merge (slice_get groups f) (slice_get groups t) groups) t
+merged_same : (groups : List ℕ) (f t : ℕ) → f < length groups → t < length groups
+    → slice_get (merge (slice_get groups f) (slice_get groups t) groups) f ≡ slice_get (merge (slice_get groups f) (slice_get groups t) groups) t
 merged_same groups f t lf lt =
     let p = get_or groups f 0 in
     let q = get_or groups t 0 in
@@ -117,16 +128,20 @@ merged_same groups f t lf lt =
     subst (λ o. slice_get (merge o (slice_get groups t) groups) f ≡ slice_get (merge o (slice_get groups t) groups) t) (sym at_f)
     (subst (λ o. slice_get (merge (Some p) o groups) f ≡ slice_get (merge (Some p) o groups) t) (sym at_t) same)
 
-edge_same : (cs : List Channel) (groups : List ℕ) (n a b : ℕ) → length groups ≡ n → HasEnds n cs → IsEdge cs a b → slice_get (join_all groups cs) a ≡ slice_get (join_all groups cs) b
+edge_same : (cs : List Channel) (groups : List ℕ) (n a b : ℕ) → length groups ≡ n → HasEnds n cs → IsEdge cs a b
+    → slice_get (join_all groups cs) a ≡ slice_get (join_all groups cs) b
 edge_same [] groups n a b len ends h = absurd h
 edge_same (c ∷ cs) groups n a b len ends (inl h) =
-    let same = join_keeps cs (merge (slice_get groups c.from) (slice_get groups c.to) groups) c.from c.to (merged_same groups c.from c.to (omega (arith, ends.0)) (omega (arith, ends.1))) in
+    let same = join_keeps cs (merge (slice_get groups c.from) (slice_get groups c.to) groups) c.from c.to
+    (merged_same groups c.from c.to (omega (arith, ends.0)) (omega (arith, ends.1))) in
     rw (← h.0, ← h.1) same
 edge_same (c ∷ cs) groups n a b len ends (inr (inl h)) =
-    let same = join_keeps cs (merge (slice_get groups c.from) (slice_get groups c.to) groups) c.from c.to (merged_same groups c.from c.to (omega (arith, ends.0)) (omega (arith, ends.1))) in
+    let same = join_keeps cs (merge (slice_get groups c.from) (slice_get groups c.to) groups) c.from c.to
+    (merged_same groups c.from c.to (omega (arith, ends.0)) (omega (arith, ends.1))) in
     rw (← h.0, ← h.1) (sym same)
 edge_same (c ∷ cs) groups n a b len ends (inr (inr h)) =
-    edge_same cs (merge (slice_get groups c.from) (slice_get groups c.to) groups) n a b (merge_length groups (slice_get groups c.from) (slice_get groups c.to) ∙ len) ends.2 h
+    edge_same cs (merge (slice_get groups c.from) (slice_get groups c.to) groups) n a b (merge_length groups (slice_get groups c.from) (slice_get groups c.to)
+    ∙ len) ends.2 h
 
 joined_same : (cs : List Channel) (n a b : ℕ) → HasEnds n cs → Joined cs a b → slice_get (groups_of n cs) a ≡ slice_get (groups_of n cs) b
 joined_same cs n a b ends here = refl
@@ -151,7 +166,8 @@ pub connected_joined : (n : ℕ) (cs : List Channel) → are_one_group n cs ≡ 
 connected_joined n cs e a b la lb =
     let len = groups_length n cs in
     let g = slice_index (groups_of n cs) 0 in
-    join_sound cs cs (range_with_len 0 n) (λ x y h. h) (range_sound cs n) a b g (all_at (groups_of n cs) g a e (omega arith)) (all_at (groups_of n cs) g b e (omega arith))
+    join_sound cs cs (range_with_len 0 n) (λ x y h. h) (range_sound cs n) a b g (all_at (groups_of n cs) g a e (omega arith))
+    (all_at (groups_of n cs) g b e (omega arith))
 
 pub joined_connected : (n : ℕ) (cs : List Channel) → HasEnds n cs → AreJoined n cs → are_one_group n cs ≡ true
 joined_connected n cs ends joined =

@@ -1,10 +1,11 @@
 -- What a pass that went through says of the elements.
-use Rattle.std.proofs.Common.{◌≡◌, ℕ, zero, suc, ◌+◌, ◌<◌, Bool, true, false, cond, List, [], ◌∷◌, length, get_or, map, Option, Some, None, Result, Ok, Err, refl, sym, ap, subst, ◌∙◌, arith}
+use Rattle.std.proofs.Common.{◌≡◌, ℕ, zero, suc, ◌+◌, ◌<◌, Bool, true, false, cond, List, [], ◌∷◌, length, get_or, map, Option, Some, None, Result, Ok, Err}
+use Rattle.std.proofs.Common.{refl, sym, ap, subst, ◌∙◌, arith}
 use Rattle.std.specs.Prelude.{option_and_then, option_map, All}
 use Rattle.std.specs.List.{AllByRecursion}
 use Rattle.std.proofs.lemmas.List.Elements.{All-from_recursion, recursion_from_All}
 use Rattle.csdf_graph.specs.declared.fault.GraphFault.{GraphFault}
-use Rattle.csdf_graph.specs.Told.{told}
+use Rattle.csdf_graph.specs.FaultPlace.{fault_place}
 use Rattle.csdf_graph.specs.Passes.{◌>>=◌, or_fault, each, check}
 use Rattle.csdf_graph.specs.Tree.{all_some}
 
@@ -40,7 +41,8 @@ cond_some true o y e = (refl, e)
 cond_some false o y e = absurd cc
 
 -- the parts of a pass over a list with an element
-each_parts : {A B : Type 0} (f : ℕ → A → Result B GraphFault) (i : ℕ) (x : A) (xs : List A) (ys : List B) → each f i (x ∷ xs) ≡ Ok ys → (y : B) × (zs : List B) × (f i x ≡ Ok y) × (each f (suc i) xs ≡ Ok zs) × (y ∷ zs ≡ ys)
+each_parts : {A B : Type 0} (f : ℕ → A → Result B GraphFault) (i : ℕ) (x : A) (xs : List A) (ys : List B) → each f i (x ∷ xs) ≡ Ok ys → (y : B) × (zs : List B)
+    × (f i x ≡ Ok y) × (each f (suc i) xs ≡ Ok zs) × (y ∷ zs ≡ ys)
 each_parts f i x xs ys e =
     let a = bind_ok (f i x) (λ y. each f (suc i) xs >>= λ zs. Ok (y ∷ zs)) ys e in
     let b = bind_ok (each f (suc i) xs) (λ zs. Ok (a.0 ∷ zs)) ys a.2 in
@@ -67,7 +69,8 @@ pub each_all : {A B : Type 0} (f : ℕ → A → Result B GraphFault) (P : A →
 each_all f P Q one i xs ys all e = All-from_recursion Q ys (each_all_by f P Q one i xs ys (recursion_from_All P xs all) e)
 
 -- element k passed its test
-pub each_at : {A B : Type 0} (f : ℕ → A → Result B GraphFault) (i : ℕ) (xs : List A) (ys : List B) → each f i xs ≡ Ok ys → (k : ℕ) (d : A) → k < length xs → (y : B) × (f (i + k) (get_or xs k d) ≡ Ok y)
+pub each_at : {A B : Type 0} (f : ℕ → A → Result B GraphFault) (i : ℕ) (xs : List A) (ys : List B) → each f i xs ≡ Ok ys → (k : ℕ) (d : A) → k < length xs
+    → (y : B) × (f (i + k) (get_or xs k d) ≡ Ok y)
 each_at f i [] ys e k d lt = absurd (omega arith)
 each_at f i (x ∷ xs) ys e zero d lt =
     let p = each_parts f i x xs ys e in
@@ -77,17 +80,19 @@ each_at f i (x ∷ xs) ys e (suc k) d lt =
     let q = each_at f (suc i) xs p.1 p.3 k d (omega arith) in
     let there : i + suc k ≡ suc i + k = omega arith in (q.0, ap (λ j. f j (get_or xs k d)) there ∙ q.1)
 
-pub check_at : {A : Type 0} (fault : ℕ → GraphFault) (test : ℕ → A → Bool) (i : ℕ) (xs : List A) (u : Unit {0}) → check fault test i xs ≡ Ok u → (k : ℕ) (d : A) → k < length xs → test (i + k) (get_or xs k d) ≡ true
+pub check_at : {A : Type 0} (fault : ℕ → GraphFault) (test : ℕ → A → Bool) (i : ℕ) (xs : List A) (u : Unit {0}) → check fault test i xs ≡ Ok u → (k : ℕ) (d : A)
+    → k < length xs → test (i + k) (get_or xs k d) ≡ true
 check_at fault test i [] u e k d lt = absurd (omega arith)
 check_at fault test i (x ∷ xs) u e zero d lt =
-    let p = cond_ok (test i x) (check fault test (suc i) xs) (fault (told i)) u e in
+    let p = cond_ok (test i x) (check fault test (suc i) xs) (fault (fault_place i)) u e in
     let here : i + 0 ≡ i = omega arith in ap (λ j. test j x) here ∙ p.0
 check_at fault test i (x ∷ xs) u e (suc k) d lt =
-    let p = cond_ok (test i x) (check fault test (suc i) xs) (fault (told i)) u e in
+    let p = cond_ok (test i x) (check fault test (suc i) xs) (fault (fault_place i)) u e in
     let there : i + suc k ≡ suc i + k = omega arith in ap (λ j. test j (get_or xs k d)) there ∙ check_at fault test (suc i) xs u p.1 k d (omega arith)
 
 -- what was found in each
-all_some_parts : {A B : Type 0} (f : A → Option B) (x : A) (xs : List A) (ys : List B) → all_some f (x ∷ xs) ≡ Some ys → (y : B) × (zs : List B) × (f x ≡ Some y) × (all_some f xs ≡ Some zs) × (y ∷ zs ≡ ys)
+all_some_parts : {A B : Type 0} (f : A → Option B) (x : A) (xs : List A) (ys : List B) → all_some f (x ∷ xs) ≡ Some ys → (y : B) × (zs : List B)
+    × (f x ≡ Some y) × (all_some f xs ≡ Some zs) × (y ∷ zs ≡ ys)
 all_some_parts f x xs ys e =
     let a = bind_some (f x) (λ y. option_map (λ zs. y ∷ zs) (all_some f xs)) ys e in
     let b = map_some (λ zs. a.0 ∷ zs) (all_some f xs) ys a.2 in
@@ -99,11 +104,13 @@ all_some_length f (x ∷ xs) ys e =
     let p = all_some_parts f x xs ys e in
     rw (← p.4, all_some_length f xs p.1 p.3) refl
 
-all_some_all_by : {A B : Type 0} (f : A → Option B) (Q : B → Type 0) → ((x : A) (y : B) → f x ≡ Some y → Q y) → (xs : List A) (ys : List B) → all_some f xs ≡ Some ys → AllByRecursion Q ys
+all_some_all_by : {A B : Type 0} (f : A → Option B) (Q : B → Type 0) → ((x : A) (y : B) → f x ≡ Some y → Q y) → (xs : List A) (ys : List B)
+    → all_some f xs ≡ Some ys → AllByRecursion Q ys
 all_some_all_by f Q one [] ys e = let none : [] ≡ ys = some_is [] ys e in subst (AllByRecursion Q) none tt
 all_some_all_by f Q one (x ∷ xs) ys e =
     let p = all_some_parts f x xs ys e in
     subst (AllByRecursion Q) p.4 (one x p.0 p.2, all_some_all_by f Q one xs p.1 p.3)
 
-pub all_some_all : {A B : Type 0} (f : A → Option B) (Q : B → Type 0) → ((x : A) (y : B) → f x ≡ Some y → Q y) → (xs : List A) (ys : List B) → all_some f xs ≡ Some ys → All Q ys
+pub all_some_all : {A B : Type 0} (f : A → Option B) (Q : B → Type 0) → ((x : A) (y : B) → f x ≡ Some y → Q y) → (xs : List A) (ys : List B)
+    → all_some f xs ≡ Some ys → All Q ys
 all_some_all f Q one xs ys e = All-from_recursion Q ys (all_some_all_by f Q one xs ys e)

@@ -1,5 +1,6 @@
 -- What is in range once its numbers were read.
-use Rattle.std.proofs.Common.{◌≡◌, ℕ, ℤ, pos, negsuc, ◌-◌, ◌≤◌, max, ◌&&◌, nat_le, nat_lt, ◌^◌, List, ◌++◌, length, drop, replicate, Option, Some, None, refl, sym, ap, subst, ◌∙◌, arith}
+use Rattle.std.proofs.Common.{◌≡◌, ℕ, ℤ, pos, negsuc, ◌-◌, ◌≤◌, max, ◌&&◌, nat_le, nat_lt, ◌^◌, List, ◌++◌, length, drop, replicate, Option, Some, None, refl}
+use Rattle.std.proofs.Common.{sym, ap, subst, ◌∙◌, arith}
 use Rattle.std.specs.Prelude.{option_map, All, IfSome}
 use Rattle.std.proofs.lemmas.Bool.{and_parts, leb-true, ltb-true}
 use Rattle.std.proofs.lemmas.List.Elements.{All-append, All-replicate}
@@ -13,7 +14,8 @@ use Rattle.csdf_graph.specs.declared.parts.Kernel.TheVariants as kernel
 use Rattle.csdf_graph.specs.Tree.{all_some}
 use Rattle.csdf_graph.specs.Graph.{Actor}
 use Rattle.csdf_graph.specs.Shape.{KernelDraft, source, sink, copy, sum, fir, ActorDraft, ChannelDraft}
-use Rattle.csdf_graph.specs.Ranges.{number_within, signed_within, weights_within, kernel_within, actor_within, RangedChannel, rates_within, tokens_within, capacity_within, initial_count, cells_within, channel_within}
+use Rattle.csdf_graph.specs.Ranges.{number_within, signed_within, weights_within, kernel_within, actor_within, RangedChannel, rates_within, tokens_within}
+use Rattle.csdf_graph.specs.Ranges.{capacity_within, initial_count, cells_within, channel_within}
 use Rattle.csdf_graph.specs.WellFormed.{IsWeight, IsFilter, IsKernel, IsActor}
 use Rattle.csdf_graph.proofs.PassFacts.{some_is, bind_some, map_some, cond_some, all_some_length, all_some_all}
 
@@ -103,7 +105,8 @@ capacity_within_fits held (Some z) b e =
     let fits : held ≤ m.0 = omega (arith, k.0) in
     subst (λ o. IfSome o (λ n. (1 ≤ n) × (held ≤ n) × (n ≤ 65535))) m.2 (one, fits, k.1)
 
-pub channel_within_fits : (d : ChannelDraft) (r : RangedChannel) → channel_within d ≡ Some r → (r.name ≡ d.name) × (length r.initial ≡ length d.initial) × IsRanged r
+pub channel_within_fits : (d : ChannelDraft) (r : RangedChannel) → channel_within d ≡ Some r → (r.name ≡ d.name) × (length r.initial ≡ length d.initial)
+    × IsRanged r
 unfolding channel_within
 channel_within_fits d r e =
     let p = bind_some (rates_within d.produce) _ r e in
@@ -112,7 +115,8 @@ channel_within_fits d r e =
     let k = bind_some (capacity_within (length d.initial) d.capacity) _ r t.2 in
     let f = tokens_within_facts d.initial t.0 t.1 in
     let cap = capacity_within_fits (length d.initial) d.capacity k.0 k.1 in
-    let same : record { name = d.name; from = d.from; to = d.to; produce = p.0; consume = q.0; initial = t.0; capacity = k.0 } ≡ r = some_is (record { name = d.name; from = d.from; to = d.to; produce = p.0; consume = q.0; initial = t.0; capacity = k.0 }) r k.2 in
+    let same : record { name = d.name; from = d.from; to = d.to; produce = p.0; consume = q.0; initial = t.0; capacity = k.0 } ≡ r =
+    some_is (record { name = d.name; from = d.from; to = d.to; produce = p.0; consume = q.0; initial = t.0; capacity = k.0 }) r k.2 in
     subst (λ x. (x.name ≡ d.name) × (length x.initial ≡ length d.initial) × IsRanged x) same (
       refl,
       f.0,
@@ -124,7 +128,8 @@ channel_within_fits d r e =
       },
     )
 
-pub cells_within_fits : (channels : List ChannelDraft) (given : Option ℤ) (cells : Option ℕ) → cells_within channels given ≡ Some cells → IfSome cells (λ n. (initial_count channels ≤ n) × (n ≤ 8388480))
+pub cells_within_fits : (channels : List ChannelDraft) (given : Option ℤ) (cells : Option ℕ) → cells_within channels given ≡ Some cells
+    → IfSome cells (λ n. (initial_count channels ≤ n) × (n ≤ 8388480))
 cells_within_fits channels None cells e = subst (λ o. IfSome o (λ n. (initial_count channels ≤ n) × (n ≤ 8388480))) (some_is None cells e) tt
 cells_within_fits channels (Some z) cells e =
     let m = map_some Some (number_within (initial_count channels) 8388480 z) cells e in

@@ -17,12 +17,14 @@ total_front rates (suc n) le =
     let before : total rates n ≡ sum (take n rates) = total_front rates n (omega arith) in
     let place : n % length rates ≡ n = mod-eq_of_lt {n = n} {m = length rates} (omega arith) in
     let last : rate rates n ≡ get_or rates n 0 = ap (λ k. get_or rates k 0) place in
-    let push : sum (take (suc n) rates) ≡ sum (take n rates) + get_or rates n 0 = ap sum (take-suc rates n 0 (omega arith)) ∙ sum_by_push (λ x. x) (take n rates) (get_or rates n 0) in
+    let push : sum (take (suc n) rates) ≡ sum (take n rates) + get_or rates n 0 = ap sum (take-suc rates n 0 (omega arith))
+    ∙ sum_by_push (λ x. x) (take n rates) (get_or rates n 0) in
     omega arith
 
 -- after whole cycles it begins anew
-total_after : (rates : List ℕ) (k m : ℕ) → total rates (length rates * k + m) ≡ total rates (length rates * k) + total rates m
-total_after rates k zero = let e : length rates * k + 0 ≡ length rates * k = omega arith in ap (total rates) e ∙ sym (let z : total rates (length rates * k) + 0 ≡ total rates (length rates * k) = omega arith in z)
+pub total_after : (rates : List ℕ) (k m : ℕ) → total rates (length rates * k + m) ≡ total rates (length rates * k) + total rates m
+total_after rates k zero = let e : length rates * k + 0 ≡ length rates * k = omega arith in ap (total rates) e
+    ∙ sym (let z : total rates (length rates * k) + 0 ≡ total rates (length rates * k) = omega arith in z)
 total_after rates k (suc m) =
     let before : total rates (length rates * k + m) ≡ total rates (length rates * k) + total rates m = total_after rates k m in
     let next : length rates * k + suc m ≡ suc (length rates * k + m) = omega arith in
@@ -30,13 +32,15 @@ total_after rates k (suc m) =
     let whole : total rates (length rates * k + suc m) ≡ total rates (length rates * k + m) + rate rates (length rates * k + m) = ap (total rates) next in
     omega arith
 
-total_cycles : (rates : List ℕ) (k : ℕ) → total rates (length rates * k) ≡ sum rates * k
+pub total_cycles : (rates : List ℕ) (k : ℕ) → total rates (length rates * k) ≡ sum rates * k
 total_cycles rates zero = let e : length rates * 0 ≡ 0 = omega arith in ap (total rates) e ∙ (let z : 0 ≡ sum rates * 0 = omega arith in z)
 total_cycles rates (suc k) =
     let before : total rates (length rates * k) ≡ sum rates * k = total_cycles rates k in
     let next : length rates * suc k ≡ length rates * k + length rates = omega (arith, mul-suc (length rates) k) in
-    let cycle : total rates (length rates) ≡ sum rates = total_front rates (length rates) (omega arith) ∙ ap sum (take_all (length rates) rates (omega arith)) in
-    let whole : total rates (length rates * suc k) ≡ total rates (length rates * k) + total rates (length rates) = ap (total rates) next ∙ total_after rates k (length rates) in
+    let cycle : total rates (length rates) ≡ sum rates = total_front rates (length rates) (omega arith)
+    ∙ ap sum (take_all (length rates) rates (omega arith)) in
+    let whole : total rates (length rates * suc k) ≡ total rates (length rates * k) + total rates (length rates) = ap (total rates) next
+    ∙ total_after rates k (length rates) in
     omega (arith, mul-suc (sum rates) k)
 
 -- so many whole cycles, and the front of one

@@ -35,7 +35,8 @@ pub from_fault : (file : Members) (fault : GraphFault) → unjoined_in file ≡ 
 from_fault file fault e = subst (λ r. MatchResult r (λ h. IsJudged h (Err fault)) (λ f. ◌≡◌ {A = Result Graph GraphFault} (Err fault) (Err f))) (sym e) refl
 
 -- the same from the bytes
-pub from_file : (bytes : List ℕ) (file : Members) (answer : Result Graph GraphFault) → or_fault NotToml (file_of bytes) ≡ Ok file → IsGraphIn file answer → IsGraphOf bytes answer
+pub from_file : (bytes : List ℕ) (file : Members) (answer : Result Graph GraphFault) → or_fault NotToml (file_of bytes) ≡ Ok file → IsGraphIn file answer
+    → IsGraphOf bytes answer
 from_file bytes file answer e inside = subst (λ r. MatchResult r (λ f. IsGraphIn f answer) (λ fault. answer ≡ Err fault)) (sym e) inside
 
 pub from_no_file : (bytes : List ℕ) (fault : GraphFault) → or_fault NotToml (file_of bytes) ≡ Err fault → IsGraphOf bytes (Err fault)

@@ -1,5 +1,6 @@
 -- A text's tokens, line by line.
-use Rattle.std.proofs.Common.{◌≡◌, ℕ, suc, ◌+◌, ◌-◌, ◌<◌, ◌≤◌, Bool, true, false, cond, List, [], ◌∷◌, ◌++◌, length, map, take, refl, sym, ◌∙◌, ap, arith, append_assoc, append-nil, length-append, length-drop, Ok, Err, Result}
+use Rattle.std.proofs.Common.{◌≡◌, ℕ, suc, ◌+◌, ◌-◌, ◌<◌, ◌≤◌, Bool, true, false, cond, List, [], ◌∷◌, ◌++◌, length, map, take, refl, sym, ◌∙◌, ap, arith}
+use Rattle.std.proofs.Common.{append_assoc, append-nil, length-append, length-drop, Ok, Err, Result}
 use Rattle.std.specs.Prelude.{ℤ, nat_eq, nat_lt}
 use Rattle.std.specs.List.{after_first, before_first, enumerate_from, filter, position_or_len, slice_split, All}
 use Rattle.std.specs.Result.{result_map_both}
@@ -11,7 +12,7 @@ use Rattle.std.proofs.lemmas.List.Sums.{fails_before_first}
 use Rattle.csdf_graph.specs.declared.token_word.WordFault.{WordFault}
 use Rattle.csdf_graph.specs.declared.tokens.TokenFault.{TokenFault}
 use Rattle.csdf_graph.specs.declared.tokens.TokenFault.TheVariants.{TooMany}
-use Rattle.csdf_graph.specs.TokenText.{collected, entry_of, is_newline, no_more_than, token_in, tokens_up_to, told_at, word_of, words_from}
+use Rattle.csdf_graph.specs.TokenText.{collected, entry_of, is_newline, no_more_than, token_in, tokens_up_to, at_line, word_of, words_from}
 
 -- ---- the lines one by one
 
@@ -29,7 +30,8 @@ split-newline n bytes within =
 split-none : (n : ℕ) (bytes : List ℕ) → length bytes ≤ position_or_len is_newline bytes
     → words_from n bytes ≡ kept (n, word_of (before_first is_newline bytes)) (words_from (n + 1) (after_first is_newline bytes))
 split-none n bytes past =
-    let passes : All (λ byte. is_newline byte ≡ false) bytes = All-from_get_or (λ byte. is_newline byte ≡ false) bytes 0 (λ i within. fails_before_first is_newline bytes i 0 (omega arith)) in
+    let passes : All (λ byte. is_newline byte ≡ false) bytes =
+    All-from_get_or (λ byte. is_newline byte ≡ false) bytes 0 (λ i within. fails_before_first is_newline bytes i 0 (omega arith)) in
     let parts : slice_split is_newline bytes ≡ bytes ∷ [] = slice_split_none is_newline bytes passes in
     let front : before_first is_newline bytes ≡ bytes = take_all _ bytes past in
     let rest : after_first is_newline bytes ≡ [] = drop_all _ bytes (omega arith) in
@@ -50,7 +52,9 @@ words_from-step n bytes = at_test n bytes (nat_lt (position_or_len is_newline by
 pub words_from-blank : (n : ℕ) (bytes : List ℕ) → length (word_of (before_first is_newline bytes)) ≡ 0
     → words_from n bytes ≡ words_from (n + 1) (after_first is_newline bytes)
 words_from-blank n bytes blank =
-    words_from-step n bytes ∙ ap (λ size. cond (nat_lt 0 size) ((n, word_of (before_first is_newline bytes)) ∷ words_from (n + 1) (after_first is_newline bytes)) (words_from (n + 1) (after_first is_newline bytes))) blank
+    words_from-step n bytes ∙ ap (λ size. cond (nat_lt 0 size)
+    ((n, word_of (before_first is_newline bytes)) ∷ words_from (n + 1) (after_first is_newline bytes)) (words_from (n + 1) (after_first is_newline bytes)))
+    blank
 
 test-positive : (n : ℕ) → 0 < n → nat_lt 0 n ≡ true
 test-positive n h = grind (arith, nat_tests)
@@ -59,7 +63,8 @@ test-positive n h = grind (arith, nat_tests)
 pub words_from-word : (n : ℕ) (bytes : List ℕ) → 0 < length (word_of (before_first is_newline bytes))
     → words_from n bytes ≡ (n, word_of (before_first is_newline bytes)) ∷ words_from (n + 1) (after_first is_newline bytes)
 words_from-word n bytes some =
-    words_from-step n bytes ∙ ap (λ test. cond test ((n, word_of (before_first is_newline bytes)) ∷ words_from (n + 1) (after_first is_newline bytes)) (words_from (n + 1) (after_first is_newline bytes)))
+    words_from-step n bytes ∙ ap (λ test. cond test ((n, word_of (before_first is_newline bytes)) ∷ words_from (n + 1) (after_first is_newline bytes))
+    (words_from (n + 1) (after_first is_newline bytes)))
     (test-positive (length (word_of (before_first is_newline bytes))) some)
 
 -- ---- the tokens so far
@@ -115,7 +120,8 @@ unfolding going_on
 going_on-many limit tokens token entries full =
     let none : limit - length tokens ≡ 0 = omega (arith, full) in
     ap (λ n. no_more_than limit (after tokens (collected (Ok token ∷ take n entries)))) none
-    ∙ ap (λ test. cond test (Err TooMany) (Ok (tokens ++ token ∷ []))) (past limit (tokens ++ token ∷ []) (omega (arith, full, length-append tokens (token ∷ []))))
+    ∙ ap (λ test. cond test (Err TooMany) (Ok (tokens ++ token ∷ []))) (past limit (tokens
+    ++ token ∷ []) (omega (arith, full, length-append tokens (token ∷ []))))
 
 -- no entry left
 pub going_on-end : (limit : ℕ) (tokens : List ℤ) → length tokens ≤ limit → going_on limit tokens [] ≡ Ok tokens
@@ -134,7 +140,8 @@ pub record IsNextLine (rest word more : List ℕ) : Type 0 where
 entries-word : (n : ℕ) (rest word more : List ℕ) (entry : Result ℤ TokenFault) → IsNextLine rest word more → 0 < length word → entry_of (n, word) ≡ entry
     → map entry_of (words_from n rest) ≡ entry ∷ map entry_of (words_from (n + 1) more)
 entries-word n rest word more entry next some is =
-    let here : map entry_of (words_from n rest) ≡ entry_of (n, word_of (before_first is_newline rest)) ∷ map entry_of (words_from (n + 1) (after_first is_newline rest))
+    let here : map entry_of (words_from n rest) ≡ entry_of (n, word_of (before_first is_newline rest))
+    ∷ map entry_of (words_from (n + 1) (after_first is_newline rest))
     = ap (map entry_of) (words_from-word n rest (omega (arith, ap length next.first, some))) in
     here ∙ ap (λ text. entry_of (n, word_of (before_first is_newline rest)) ∷ map entry_of (words_from (n + 1) text)) (sym next.others)
     ∙ ap (λ one. one ∷ map entry_of (words_from (n + 1) more)) (ap (λ text. entry_of (n, text)) (sym next.first) ∙ is)
@@ -150,22 +157,23 @@ pub so_far-token : {answer : Result (List ℤ) TokenFault} (limit : ℕ) (tokens
     → answer ≡ going_on limit tokens (map entry_of (words_from n rest)) → 0 < length word → token_in word ≡ Ok token → length tokens < limit
     → answer ≡ going_on limit (tokens ++ token ∷ []) (map entry_of (words_from (n + 1) more))
 so_far-token limit tokens n rest word more token next so_far some is room =
-    so_far ∙ ap (going_on limit tokens) (entries-word n rest word more (Ok token) next some (ap (result_map_both (λ t. t) (told_at n)) is))
+    so_far ∙ ap (going_on limit tokens) (entries-word n rest word more (Ok token) next some (ap (result_map_both (λ t. t) (at_line n)) is))
     ∙ going_on-token limit tokens token (map entry_of (words_from (n + 1) more)) room
 
 pub so_far-many : {answer : Result (List ℤ) TokenFault} (limit : ℕ) (tokens : List ℤ) (n : ℕ) (rest word more : List ℕ) (token : ℤ) → IsNextLine rest word more
     → answer ≡ going_on limit tokens (map entry_of (words_from n rest)) → 0 < length word → token_in word ≡ Ok token → length tokens ≡ limit
     → answer ≡ Err TooMany
 so_far-many limit tokens n rest word more token next so_far some is full =
-    so_far ∙ ap (going_on limit tokens) (entries-word n rest word more (Ok token) next some (ap (result_map_both (λ t. t) (told_at n)) is))
+    so_far ∙ ap (going_on limit tokens) (entries-word n rest word more (Ok token) next some (ap (result_map_both (λ t. t) (at_line n)) is))
     ∙ going_on-many limit tokens token (map entry_of (words_from (n + 1) more)) full
 
-pub so_far-fault : {answer : Result (List ℤ) TokenFault} (limit : ℕ) (tokens : List ℤ) (n : ℕ) (rest word more : List ℕ) (fault : WordFault) → IsNextLine rest word more
+pub so_far-fault : {answer : Result (List ℤ) TokenFault} (limit : ℕ) (tokens : List ℤ) (n : ℕ) (rest word more : List ℕ) (fault : WordFault)
+    → IsNextLine rest word more
     → answer ≡ going_on limit tokens (map entry_of (words_from n rest)) → 0 < length word → token_in word ≡ Err fault
-    → answer ≡ Err (told_at n fault)
+    → answer ≡ Err (at_line n fault)
 so_far-fault limit tokens n rest word more fault next so_far some is =
-    so_far ∙ ap (going_on limit tokens) (entries-word n rest word more (Err (told_at n fault)) next some (ap (result_map_both (λ t. t) (told_at n)) is))
-    ∙ going_on-fault limit tokens (told_at n fault) (map entry_of (words_from (n + 1) more))
+    so_far ∙ ap (going_on limit tokens) (entries-word n rest word more (Err (at_line n fault)) next some (ap (result_map_both (λ t. t) (at_line n)) is))
+    ∙ going_on-fault limit tokens (at_line n fault) (map entry_of (words_from (n + 1) more))
 
 pub so_far-end : {answer : Result (List ℤ) TokenFault} (limit : ℕ) (tokens : List ℤ) (n : ℕ) (rest : List ℕ) → rest ≡ []
     → answer ≡ going_on limit tokens (map entry_of (words_from n rest)) → length tokens ≤ limit → answer ≡ Ok tokens

@@ -1,5 +1,6 @@
 -- The tree beside the values that the code reads.
-use Rattle.std.proofs.Common.{◌≡◌, ℕ, ◌<◌, ◌≤◌, ◌++◌, Option, Some, None, option_map, get_or, drop, append-nil, Bool, List, [], ◌∷◌, ◌&&◌, ◌||◌, map, length, String, Global, string_bytes, refl, ap, subst, ◌∙◌}
+use Rattle.std.proofs.Common.{◌≡◌, ℕ, ◌<◌, ◌≤◌, ◌++◌, Option, Some, None, option_map, get_or, drop, append-nil, Bool, List, [], ◌∷◌, ◌&&◌, ◌||◌, map, length}
+use Rattle.std.proofs.Common.{String, Global, string_bytes, refl, ap, subst, ◌∙◌}
 use Rattle.std.proofs.lemmas.Iterator.{YieldsList}
 use Rattle.std.proofs.lemmas.Iterator.Consumers.{YieldsList-from_shown}
 use Rattle.std.specs.Map.Iter.{TakesFirst, deref}
@@ -15,7 +16,8 @@ pub list_any_map : {A B : Type 0} (g : A → B) (f : B → Bool) (xs : List A) �
 list_any_map g f [] = refl
 list_any_map g f (x ∷ xs) = ap (λ b. f (g x) || b) (list_any_map g f xs)
 
-pub has_only-view : (keys : List (List ℕ)) (es : List (String Global × Value)) → has_only keys (members_view es) ≡ list_all (λ k. is_among keys (string_bytes k)) (keys_of es)
+pub has_only-view : (keys : List (List ℕ)) (es : List (String Global × Value))
+    → has_only keys (members_view es) ≡ list_all (λ k. is_among keys (string_bytes k)) (keys_of es)
 has_only-view keys [] = refl
 has_only-view keys (e ∷ es) = ap (λ b. is_among keys (string_bytes e.0) && b) (has_only-view keys es)
 
@@ -26,7 +28,8 @@ data_of_items (d ∷ ds) = ap (λ t. d ∷ t) (data_of_items ds)
 
 -- a map's keys are given in order
 pub yields_keys : {K : Type 0} (s ks : List K) → s ≡ ks → YieldsList (TakesFirst (deref {X = K})) deref s ks
-yields_keys s ks e = subst (YieldsList (TakesFirst deref) deref s) e (YieldsList-from_shown (TakesFirst deref) deref (λ x. x) (λ a b h. ap length h.0) (λ a x b h. h) s)
+yields_keys s ks e = subst (YieldsList (TakesFirst deref) deref s) e (YieldsList-from_shown (TakesFirst deref) deref (λ x. x) (λ a b h. ap length h.0)
+    (λ a x b h. h) s)
 
 -- a loop that takes what `f` finds in each element
 module _ {A B C : Type 0} (f : B → Option C) (v : A → B) (xs : List A) where

@@ -1,5 +1,6 @@
 -- What is written for tokens is read as these tokens.
-use Rattle.std.proofs.Common.{◌≡◌, ℕ, suc, ◌+◌, ◌*◌, ◌-◌, ◌^◌, ◌<◌, ◌≤◌, true, false, cond, List, [], ◌∷◌, ◌++◌, length, map, take, drop, get_or, refl, sym, ◌∙◌, ap, subst, arith, append_assoc, length-append, lit<, Ok, Err}
+use Rattle.std.proofs.Common.{◌≡◌, ℕ, suc, ◌+◌, ◌*◌, ◌-◌, ◌^◌, ◌<◌, ◌≤◌, true, false, cond, List, [], ◌∷◌, ◌++◌, length, map, take, drop, get_or, refl, sym}
+use Rattle.std.proofs.Common.{◌∙◌, ap, subst, arith, append_assoc, length-append, lit<, Ok, Err}
 use Rattle.std.specs.Prelude.{ℤ, pos, negsuc, neg_ℤ, nat_eq, nat_lt, ◌&&◌, reverse}
 use Rattle.std.specs.Char.{is_ascii_digit}
 use Rattle.std.specs.Fmt.{decimal, signed_decimal}
@@ -18,7 +19,8 @@ use mir.Syntax.{w32}
 use mir.Val.{SFits}
 use Rattle.csdf_graph.specs.declared.token_word.WordFault.TheVariants.{Malformed, OutOfRange}
 use Rattle.csdf_graph.specs.declared.tokens.TokenFault.TheVariants.{TooMany}
-use Rattle.csdf_graph.specs.TokenText.{collected, entry_of, is_blank, is_newline, is_numeral, is_token, no_more_than, token_in, token_line, token_text, tokens_in, tokens_up_to, told_at, trim_end, trim_start, word_of, words_from}
+use Rattle.csdf_graph.specs.TokenText.{collected, entry_of, is_blank, is_newline, is_numeral, is_token, no_more_than, token_in, token_line, token_text}
+use Rattle.csdf_graph.specs.TokenText.{tokens_in, tokens_up_to, at_line, trim_end, trim_start, word_of, words_from}
 use Rattle.csdf_graph.proofs.TokenTextLemmas.{kept, within}
 
 -- ---- digits and a sign stand above all blanks
@@ -76,7 +78,8 @@ All-reverse : (line : List ℕ) → All IsMark line → All IsMark (reverse line
 All-reverse [] h = h
 All-reverse (b ∷ bs) h =
     subst (All IsMark) (sym (reverse-append (b ∷ []) bs))
-    (All-append IsMark (reverse bs) (b ∷ []) (All-reverse bs (All-tail IsMark b bs h)) (All-cons IsMark b [] (All-head IsMark b bs h) (λ k d within. absurd (omega arith))))
+    (All-append IsMark (reverse bs) (b ∷ []) (All-reverse bs (All-tail IsMark b bs h))
+    (All-cons IsMark b [] (All-head IsMark b bs h) (λ k d within. absurd (omega arith))))
 
 pub word_of-marks : (line : List ℕ) → All IsMark line → word_of line ≡ line
 word_of-marks line h =
@@ -133,7 +136,8 @@ token_in-written (pos n) h =
 token_in-written (negsuc n) h =
     let small = negsuc-fits n h in
     let digits = decimal_is_IsNumeral (suc n) (wide-suc n small) in
-    token_in-parts (45 ∷ decimal (suc n)) (negsuc n) (decimal-numeral (suc n) (wide-suc n small)) (ap (λ value. neg_ℤ (pos value)) digits.1) (below-test n (2 ^ 31) small)
+    token_in-parts (45 ∷ decimal (suc n)) (negsuc n) (decimal-numeral (suc n) (wide-suc n small)) (ap (λ value. neg_ℤ (pos value)) digits.1)
+    (below-test n (2 ^ 31) small)
 
 -- ---- a written text
 
@@ -170,7 +174,7 @@ entries-written n [] h = refl
 entries-written n (token ∷ tokens) h =
     let first = fits-first token tokens h in
     ap (map entry_of) (words_from-line n (signed_decimal token) (token_text tokens) (signed_decimal-marks token first) (signed_decimal-nonempty token first))
-    ∙ ap (λ entry. entry ∷ map entry_of (words_from (n + 1) (token_text tokens))) (ap (result_map_both (λ t. t) (told_at n)) (token_in-written token first))
+    ∙ ap (λ entry. entry ∷ map entry_of (words_from (n + 1) (token_text tokens))) (ap (result_map_both (λ t. t) (at_line n)) (token_in-written token first))
     ∙ ap (λ entries. Ok token ∷ entries) (entries-written (n + 1) tokens (fits-others token tokens h))
 
 collected-tokens : (tokens : List ℤ) → collected (map Ok tokens) ≡ Ok tokens
@@ -203,6 +207,7 @@ at-most-test most n h = grind (arith, nat_tests)
 pub tokens_in-written : (tokens : List ℤ) → AllFit tokens → length tokens ≤ 1000000 → tokens_in (token_text tokens) ≡ Ok tokens
 tokens_in-written tokens h few =
     let short = length-token_text tokens h in
-    ap (λ test. cond test (Err TooMany) (tokens_up_to 1000000 (map entry_of (words_from 1 (token_text tokens))))) (at-most-test 16777216 (length (token_text tokens)) (omega (arith, short, few)))
+    ap (λ test. cond test (Err TooMany) (tokens_up_to 1000000 (map entry_of (words_from 1 (token_text tokens)))))
+    (at-most-test 16777216 (length (token_text tokens)) (omega (arith, short, few)))
     ∙ ap (tokens_up_to 1000000) (entries-written 1 tokens h)
     ∙ tokens_up_to-tokens 1000000 tokens few

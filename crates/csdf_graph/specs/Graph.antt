@@ -1,5 +1,5 @@
 -- A cyclo-static dataflow graph, without where it lies in memory (Bilsen et al. 1996).
-use Rattle.std.specs.Prelude.{ℕ, suc, Bool, ◌==◌, if◌then◌else◌, List, [], ◌∷◌, ℤ, Option, string_bytes, count_by, slice_get, option_map, unwrap_or}
+use Rattle.std.specs.Prelude.{ℕ, suc, Bool, ◌==◌, if◌then◌else◌, List, [], ◌∷◌, ℤ, Option, string_bytes, count_by, map, slice_get, option_map, unwrap_or}
 use Rattle.csdf_graph.specs.declared.parts.Kernel.{Kernel}
 use Rattle.csdf_graph.specs.declared.parts.Actor.{Actor as ActorCode}
 use Rattle.csdf_graph.specs.declared.parts.Channel.{Channel as ChannelCode}
@@ -40,6 +40,9 @@ pub record Graph : Type 0 where
   pub actors : List Actor
   pub channels : List Channel
   pub cells : Option ℕ
+
+abbrev pub graph_view : List ActorCode → List ChannelCode → Option ℕ → Graph
+graph_view actors channels cells = record { actors = map actor_view actors; channels = map channel_view channels; cells = cells }
 
 -- the numbers of the elements that pass a test, in order, where the first element has this number
 abbrev pub numbers_from : {A : Type 0} → ℕ → (A → Bool) → List A → List ℕ

@@ -1,16 +1,13 @@
 -- The ends of each channel are actors, by name in the file and by number in the graph.
-use Rattle.std.specs.Prelude.{ℕ, List, Option, Some, option_and_then, position, Result}
+use Rattle.std.specs.Prelude.{ℕ, List, Option, Some, position, Result}
 use Rattle.std.specs.Str.{bytes_eq}
 use Rattle.csdf_graph.specs.declared.fault.GraphFault.{GraphFault}
 use Rattle.csdf_graph.specs.declared.fault.GraphFault.TheVariants as fault
 use Rattle.csdf_graph.specs.Graph.{Channel}
 use Rattle.csdf_graph.specs.Ranges.{RangedChannel}
-use Rattle.csdf_graph.specs.Told.{told}
+use Rattle.csdf_graph.specs.FaultPlace.{fault_place}
+use Rattle.csdf_graph.specs.Optional.{◌>>=◌}
 use Rattle.csdf_graph.specs.Passes.{or_fault}
-
-infixl 10 ◌>>=◌
-abbrev ◌>>=◌ : {A B : Type 0} → Option A → (A → Option B) → Option B
-o >>= f = option_and_then f o
 
 -- the place of a name, which is its number
 abbrev pub number_in : List (List ℕ) → List ℕ → Option ℕ
@@ -23,4 +20,4 @@ linked names c = do
   Some (record { name = c.name; from = from; to = to; produce = c.produce; consume = c.consume; initial = c.initial; capacity = c.capacity })
 
 abbrev pub linked_at : List (List ℕ) → ℕ → RangedChannel → Result Channel GraphFault
-linked_at names i c = or_fault (fault.UnknownActor (told i)) (linked names c)
+linked_at names i c = or_fault (fault.UnknownActor (fault_place i)) (linked names c)

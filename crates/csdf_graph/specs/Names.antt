@@ -9,7 +9,7 @@ use Rattle.csdf_graph.specs.declared.names.Kind.{Kind}
 use Rattle.csdf_graph.specs.declared.names.Kind.TheVariants.{Actor, Channel}
 use Rattle.csdf_graph.specs.declared.fault.GraphFault.{GraphFault}
 use Rattle.csdf_graph.specs.declared.fault.GraphFault.TheVariants.{Name}
-use Rattle.csdf_graph.specs.Told.{told}
+use Rattle.csdf_graph.specs.FaultPlace.{fault_place}
 use Rattle.csdf_graph.specs.Passes.{each}
 
 abbrev pub is_word_byte : ℕ → Bool
@@ -29,7 +29,7 @@ at Actor i = place.Actor i
 at Channel i = place.Channel i
 
 abbrev pub name_at : Kind → List (List ℕ) → ℕ → List ℕ → Result (List ℕ) GraphFault
-name_at kind names i name = if is_free name (take i names) then Ok name else Err (Name (at kind (told i)))
+name_at kind names i name = if is_free name (take i names) then Ok name else Err (Name (at kind (fault_place i)))
 
 -- the names, or the place of the first that is wrong
 abbrev pub names_of : Kind → List (List ℕ) → Result (List (List ℕ)) GraphFault

@@ -4,7 +4,7 @@ use Rattle.csdf_graph.specs.declared.fault.GraphFault.{GraphFault}
 use Rattle.csdf_graph.specs.declared.fault.GraphFault.TheVariants.{Memory}
 use Rattle.csdf_graph.specs.declared.fault.Misfit.{Misfit}
 use Rattle.csdf_graph.specs.declared.fault.Misfit.TheVariants as misfit
-use Rattle.csdf_graph.specs.Told.{told}
+use Rattle.csdf_graph.specs.FaultPlace.{fault_place}
 
 infixl 10 ◌>>=◌
 abbrev pub ◌>>=◌ : {A B : Type 0} → Result A GraphFault → (A → Result B GraphFault) → Result B GraphFault
@@ -23,7 +23,7 @@ each f i (x ∷ xs) = f i x >>= λ y. each f (suc i) xs >>= λ ys. Ok (y ∷ ys)
 -- the fault of the first that does not pass the test
 abbrev pub check : {A : Type 0} → (ℕ → GraphFault) → (ℕ → A → Bool) → ℕ → List A → Result (Unit {0}) GraphFault
 check fault test i [] = Ok tt
-check fault test i (x ∷ xs) = if test i x then check fault test (suc i) xs else Err (fault (told i))
+check fault test i (x ∷ xs) = if test i x then check fault test (suc i) xs else Err (fault (fault_place i))
 
 -- a fault that the file has, unless memory ran out
 abbrev pub Fails : {Y : Type 0} → GraphFault → Result Y GraphFault → Type 0
@@ -33,6 +33,12 @@ Fails fault read = (fault ≡ Memory → ⊥) → read ≡ Err fault
 abbrev pub Gives : {X Y : Type 0} → (X → Y) → Result X GraphFault → Result Y GraphFault → Type 0
 Gives view (Ok x) read = read ≡ Ok (view x)
 Gives view (Err fault) read = Fails fault read
+
+-- what a reader of one table answered, as the pass over the file tells it: out of shape is this fault
+abbrev pub answer_of : {X : Type 0} → GraphFault → Result X Misfit → Result X GraphFault
+answer_of fault (Ok x) = Ok x
+answer_of fault (Err misfit.Fault) = Err fault
+answer_of fault (Err misfit.Memory) = Err Memory
 
 -- what a function answered, seen by view, is an answer that reading allows, unless memory ran out
 abbrev pub Tells : {X Y : Type 0} → (X → Y) → Result X GraphFault → (Result Y GraphFault → Type 0) → Type 0

@@ -1,5 +1,6 @@
 -- Numbers and counts are within their limits.
-use Rattle.std.specs.Prelude.{ℕ, ◌-◌, ◌^◌, ℤ, pos, negsuc, max, nat_le, nat_lt, sum_by, Bool, ◌&&◌, List, ◌++◌, length, replicate, map, Option, Some, None, option_map, option_and_then, if◌then◌else◌, Result, Ok, Err}
+use Rattle.std.specs.Prelude.{ℕ, ◌-◌, ◌^◌, ℤ, pos, negsuc, max, nat_le, nat_lt, sum_by, Bool, ◌&&◌, List, ◌++◌, length, replicate, map, Option, Some, None}
+use Rattle.std.specs.Prelude.{option_map, if◌then◌else◌, Result, Ok, Err}
 use Rattle.csdf_graph.specs.declared.fault.GraphFault.{GraphFault}
 use Rattle.csdf_graph.specs.declared.fault.GraphFault.TheVariants as fault
 use Rattle.csdf_graph.specs.declared.fault.At.TheVariants as at
@@ -10,13 +11,10 @@ use Rattle.csdf_graph.specs.declared.ranges.Ranged.{Ranged as FileCode}
 use Rattle.csdf_graph.specs.Graph.{Actor, actor_view}
 use Rattle.csdf_graph.specs.Shape.{KernelDraft, source, sink, copy, sum, fir, ActorDraft, ChannelDraft, Draft}
 use Rattle.csdf_graph.specs.Passes as passes
-use Rattle.csdf_graph.specs.Told.{told}
+use Rattle.csdf_graph.specs.FaultPlace.{fault_place}
+use Rattle.csdf_graph.specs.Optional.{◌>>=◌}
 use Rattle.csdf_graph.specs.Passes.{or_fault, each}
 use Rattle.csdf_graph.specs.Tree.{all_some}
-
-infixl 10 ◌>>=◌
-abbrev ◌>>=◌ : {A B : Type 0} → Option A → (A → Option B) → Option B
-o >>= f = option_and_then f o
 
 -- a whole number from low to high
 abbrev pub number_within : ℕ → ℕ → ℤ → Option ℕ
@@ -91,10 +89,10 @@ channel_within d = do
   Some (record { name = d.name; from = d.from; to = d.to; produce = produce; consume = consume; initial = initial; capacity = capacity })
 
 abbrev pub ranged_actor : ℕ → ActorDraft → Result Actor GraphFault
-ranged_actor i a = or_fault (fault.Range (at.Actor (told i))) (actor_within a)
+ranged_actor i a = or_fault (fault.Range (at.Actor (fault_place i))) (actor_within a)
 
 abbrev pub ranged_channel : ℕ → ChannelDraft → Result RangedChannel GraphFault
-ranged_channel i d = or_fault (fault.Range (at.Channel (told i))) (channel_within d)
+ranged_channel i d = or_fault (fault.Range (at.Channel (fault_place i))) (channel_within d)
 
 -- a file whose numbers are in range
 pub record Ranged : Type 0 where

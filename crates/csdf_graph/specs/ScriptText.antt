@@ -1,5 +1,6 @@
 -- The script of a file: the lines of its table `script`, with their limits.
-use Rattle.std.specs.Prelude.{◌≡◌, ◌⊎◌, ℕ, ℤ, pos, codes, nat_le, List, [], ◌∷◌, length, map, Option, Some, None, option_and_then, option_map, if◌then◌else◌, string_bytes, Result, Ok, Err}
+use Rattle.std.specs.Prelude.{◌≡◌, ◌⊎◌, ℕ, ℤ, pos, codes, nat_le, List, [], ◌∷◌, length, map, Option, Some, None, option_and_then, option_map, if◌then◌else◌}
+use Rattle.std.specs.Prelude.{string_bytes, Result, Ok, Err}
 use Rattle.toml.specs.Data.{Members, no_members, as_table, get_member}
 use Rattle.csdf_graph.specs.declared.fault.GraphFault.{GraphFault}
 use Rattle.csdf_graph.specs.declared.fault.GraphFault.TheVariants.{NotToml, Shape, Range}
@@ -7,15 +8,12 @@ use Rattle.csdf_graph.specs.declared.fault.At.TheVariants as at
 use Rattle.csdf_graph.specs.declared.script.Script.{Script as ScriptCode}
 use Rattle.csdf_graph.specs.declared.script_text.ScriptDraft.{ScriptDraft as DraftCode}
 use Rattle.csdf_graph.specs.Passes as passes
+use Rattle.csdf_graph.specs.Optional.{◌>>=◌}
 use Rattle.csdf_graph.specs.Passes.{or_fault}
 use Rattle.csdf_graph.specs.Tree.{found_or, has_only, integer_or, optional_integer_at, texts_or_none}
 use Rattle.csdf_graph.specs.Ranges.{number_within}
 use Rattle.csdf_graph.specs.Graph.{Graph}
 use Rattle.csdf_graph.specs.GraphText.{file_of, IsGraphOf}
-
-infixl 10 ◌>>=◌
-abbrev ◌>>=◌ : {A B : Type 0} → Option A → (A → Option B) → Option B
-o >>= f = option_and_then f o
 
 -- the greatest number of firings of each actor, the tokens of each source, the greatest number of firings of all, and the lines
 pub record Script : Type 0 where

@@ -13,13 +13,11 @@ use Rattle.csdf_graph.specs.declared.shape.FileTables.{FileTables}
 use Rattle.csdf_graph.specs.declared.shape.Draft.{Draft as DraftCode}
 use Rattle.toml.specs.View.{table_view}
 use Rattle.csdf_graph.specs.Passes as passes
-use Rattle.csdf_graph.specs.Told.{told}
+use Rattle.csdf_graph.specs.FaultPlace.{fault_place}
+use Rattle.csdf_graph.specs.Optional.{◌>>=◌}
 use Rattle.csdf_graph.specs.Passes.{or_fault, each}
-use Rattle.csdf_graph.specs.Tree.{has_only, text_at, integer_at, integer_or, integers_at, optional_integer_at, integers_or_none, tables_at, tables_or_none, found_or}
-
-infixl 10 ◌>>=◌
-abbrev ◌>>=◌ : {A B : Type 0} → Option A → (A → Option B) → Option B
-o >>= f = option_and_then f o
+use Rattle.csdf_graph.specs.Tree.{has_only, text_at, integer_at, integer_or, integers_at, optional_integer_at, integers_or_none, tables_at, tables_or_none}
+use Rattle.csdf_graph.specs.Tree.{found_or}
 
 pub data KernelDraft : Type 0 where
   source : KernelDraft
@@ -106,10 +104,10 @@ channel_of ms = if has_only channel_keys ms then (do
   Some (record { name = name; from = from; to = to; produce = produce; consume = consume; initial = initial; capacity = capacity })) else None
 
 abbrev pub actor_at : ℕ → Members → Result ActorDraft GraphFault
-actor_at i ms = or_fault (Shape (Actor (told i))) (actor_of ms)
+actor_at i ms = or_fault (Shape (Actor (fault_place i))) (actor_of ms)
 
 abbrev pub channel_at : ℕ → Members → Result ChannelDraft GraphFault
-channel_at i ms = or_fault (Shape (Channel (told i))) (channel_of ms)
+channel_at i ms = or_fault (Shape (Channel (fault_place i))) (channel_of ms)
 
 -- the tables of a file, and its number of cells
 pub record Tables : Type 0 where
@@ -132,7 +130,8 @@ tables_of_file ms = if has_only file_keys ms then (do
   actors ← tables_at (codes "actor") ms
   channels ← tables_or_none (codes "channel") ms
   cells ← optional_integer_at (codes "cells") ms
-  if is_some (found_or no_members as_table (get_member (codes "script") ms)) then Some (record { actors = actors; channels = channels; cells = cells }) else None) else None
+  if is_some (found_or no_members as_table (get_member (codes "script") ms)) then Some (record { actors = actors; channels = channels; cells = cells })
+      else None) else None
 
 -- a file of the right shape
 pub record Draft : Type 0 where

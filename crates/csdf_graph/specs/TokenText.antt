@@ -1,5 +1,6 @@
 -- Token text: the tokens that a text of lines holds, and the text that is written for tokens.
-use Rattle.std.specs.Prelude.{ℕ, ◌+◌, ◌^◌, Bool, ◌&&◌, ◌||◌, ◌==◌, nat_lt, if◌then◌else◌, List, [], ◌∷◌, ◌++◌, length, map, reverse, take, ℤ, pos, negsuc, neg_ℤ, Result, Ok, Err}
+use Rattle.std.specs.Prelude.{ℕ, ◌+◌, ◌^◌, Bool, ◌&&◌, ◌||◌, ◌==◌, nat_lt, if◌then◌else◌, List, [], ◌∷◌, ◌++◌, length, map, reverse, take, ℤ, pos, negsuc}
+use Rattle.std.specs.Prelude.{neg_ℤ, Result, Ok, Err}
 use Rattle.std.specs.Char.{is_ascii_digit}
 use Rattle.std.specs.Fmt.{signed_decimal}
 use Rattle.std.specs.List.{enumerate_from, filter, flat_map, list_all, slice_split}
@@ -67,13 +68,13 @@ words_from n bytes =
     filter (λ entry. nat_lt 0 (length entry.1)) (enumerate_from n (map word_of (slice_split is_newline bytes)))
 
 -- a word's fault, told at its line
-abbrev pub told_at : ℕ → WordFault → TokenFault
-told_at line Malformed = Syntax line
-told_at line OutOfRange = Range line
+abbrev pub at_line : ℕ → WordFault → TokenFault
+at_line line Malformed = Syntax line
+at_line line OutOfRange = Range line
 
 -- the token of a word, or its fault at its line
 abbrev pub entry_of : ℕ × List ℕ → Result ℤ TokenFault
-entry_of entry = result_map_both (λ token. token) (told_at entry.0) (token_in entry.1)
+entry_of entry = result_map_both (λ token. token) (at_line entry.0) (token_in entry.1)
 
 -- all the tokens, or the first fault
 abbrev pub collected : List (Result ℤ TokenFault) → Result (List ℤ) TokenFault

@@ -1,5 +1,6 @@
 -- What every graph keeps: all that reading tests of names, ranges, ends, phases, rates, ports and connection.
-use Rattle.std.specs.Prelude.{◌≡◌, ◌≢◌, ℕ, ◌-◌, ◌<◌, ◌≤◌, ℤ, pos, negsuc, ◌≤ℤ◌, true, List, length, map, drop, replicate, sum, sum_by, All, AllPairs, IfSome, slice_index_or}
+use Rattle.std.specs.Prelude.{◌≡◌, ◌≢◌, ℕ, ◌-◌, ◌<◌, ◌≤◌, ℤ, pos, negsuc, ◌≤ℤ◌, true, List, length, map, drop, replicate, sum, sum_by, All, AllPairs, IfSome}
+use Rattle.std.specs.Prelude.{slice_index_or}
 use Rattle.csdf_graph.specs.declared.parts.Kernel.{Kernel}
 use Rattle.csdf_graph.specs.declared.parts.Kernel.TheVariants as kernel
 use Rattle.csdf_graph.specs.Graph.{Actor, Channel, Graph, phases_of}

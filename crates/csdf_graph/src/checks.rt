@@ -6,7 +6,7 @@ ghost use Rattle.csdf_graph.specs.Passes.{Gives, check, itself};
 ghost use Rattle.csdf_graph.specs.Graph.{actor_view, channel_view, phases_of, input_count, output_count};
 ghost use Rattle.csdf_graph.specs.Checks.{phase_lengths_fit, has_rates, ports_fit, has_ports};
 
-use crate::fault::{GraphFault, told};
+use crate::fault::{GraphFault, fault_place};
 use crate::parts::{Actor, Channel, Kernel};
 
 /// How many phases an actor has, and none where there is no such actor.
@@ -31,7 +31,7 @@ pub(crate) fn check_phase_lengths(actors: &[Actor], channels: &[Channel]) -> Res
 {
     for (place, channel) in channels.iter().enumerate() {
         if !phase_lengths_fit(actors, channel) {
-            return Err(GraphFault::PhaseLength(told(place)));
+            return Err(GraphFault::PhaseLength(fault_place(place)));
         }
     }
     Ok(())
@@ -54,7 +54,7 @@ pub(crate) fn check_rates(channels: &[Channel]) -> Result<(), GraphFault>
 {
     for (place, channel) in channels.iter().enumerate() {
         if !has_rates(channel) {
-            return Err(GraphFault::ZeroRate(told(place)));
+            return Err(GraphFault::ZeroRate(fault_place(place)));
         }
     }
     Ok(())
@@ -103,7 +103,7 @@ pub(crate) fn check_ports(actors: &[Actor], channels: &[Channel]) -> Result<(), 
 {
     for (place, actor) in actors.iter().enumerate() {
         if !has_ports(channels, place, actor) {
-            return Err(GraphFault::KernelPorts(told(place)));
+            return Err(GraphFault::KernelPorts(fault_place(place)));
         }
     }
     Ok(())

@@ -2,7 +2,8 @@
 
 ghost use Rattle.std.specs.Prelude.{◌≡◌};
 ghost use Rattle.csdf_graph.specs.declared.fault.GraphFault.TheVariants.{Memory};
-ghost use Rattle.csdf_graph.specs.Told.{told};
+ghost use Rattle.csdf_graph.specs.FaultPlace.{fault_place};
+ghost use Rattle.csdf_graph.specs.Passes.{answer_of};
 
 use std::alloc::{AllocError, AllocFailed};
 use std::fmt;
@@ -21,7 +22,7 @@ pub enum At {
 
 impl fmt::Display for At {
     ghost use Rattle.std.specs.Prelude.{Some};
-    ghost use Rattle.csdf_graph.specs.Told.{place_text};
+    ghost use Rattle.csdf_graph.specs.FaultPlace.{place_text};
 
     ghost output = { λ at. Some (place_text at) };
 
@@ -106,9 +107,21 @@ impl From<AllocError> for Misfit {
     }
 }
 
+/// What a reader of one table answered, as the pass over the file tells it: out of shape is this
+/// fault.
+pub(crate) fn answer_of<T>(read: Result<T, Misfit>, fault: GraphFault) -> Result<T, GraphFault>
+    ensures { result ≡ answer_of fault read }
+{
+    match read {
+        Ok(found) => Ok(found),
+        Err(Misfit::Fault) => Err(fault),
+        Err(Misfit::Memory) => Err(GraphFault::Memory),
+    }
+}
+
 /// A place as a fault tells it.
-pub(crate) fn told(place: usize) -> u32
-    ensures { result ≡ told place }
+pub(crate) fn fault_place(place: usize) -> u32
+    ensures { result ≡ fault_place place }
 {
     u32::try_from(place).unwrap_or(u32::MAX)
 }

@@ -1,12 +1,12 @@
 //! The type of a graph that has passed each check.
 
 ghost use Rattle.std.specs.Prelude.{◌≡◌, ◌<◌, ◌≤◌, map, length, string_bytes, All, IfOk};
-ghost use Rattle.csdf_graph.specs.Graph.{actor_view, channel_view, inputs_of, outputs_of, ports_of, ports_view};
+ghost use Rattle.csdf_graph.specs.Graph.{actor_view, channel_view, graph_view, inputs_of, outputs_of, ports_of, ports_view};
 ghost use Rattle.csdf_graph.specs.WellFormed.{IsWellFormed};
 ghost use Rattle.csdf_graph.specs.Links.{number_in};
 
-use crate::parts::{Actor, Channel};
 use crate::links::number_in;
+use crate::parts::{Actor, Channel};
 use crate::ports::{Ports, gathered};
 use indexmap::IndexSet;
 use std::alloc::{AllocError, Global};
@@ -27,14 +27,16 @@ pub struct Graph {
 
 impl Model for Graph {
     ghost use Rattle.std.specs.Prelude.{◌≡◌, length, map, string_bytes};
-    ghost use Rattle.csdf_graph.specs.Graph.{Graph as GraphModel, actor_view, channel_view, ports_view};
+    ghost use Rattle.csdf_graph.specs.Graph.{Graph as GraphModel, actor_view, channel_view, graph_view, ports_view};
     ghost use Rattle.csdf_graph.specs.Kept.{IsKept, all_ports};
 
     ghost Value = { GraphModel };
 
-    ghost view = { λ g. record { actors = map actor_view g.actors.items; channels = map channel_view g.channels.items; cells = g.cells } };
+    ghost view = { λ g. graph_view g.actors.items g.channels.items g.cells };
 
-    ghost invariant = { λ g. IsKept (map string_bytes g.actor_names.keys) (map string_bytes g.channel_names.keys) (record { actors = map actor_view g.actors.items; channels = map channel_view g.channels.items; cells = g.cells }) × (map ports_view g.ports.items ≡ all_ports (map channel_view g.channels.items) (length (map actor_view g.actors.items))) };
+    ghost invariant = { λ g. IsKept (map string_bytes g.actor_names.keys) (map string_bytes g.channel_names.keys)
+        (graph_view g.actors.items g.channels.items g.cells)
+        × (map ports_view g.ports.items ≡ all_ports (map channel_view g.channels.items) (length (map actor_view g.actors.items))) };
 }
 
 impl Graph {
@@ -49,8 +51,8 @@ impl Graph {
         actor_names: IndexSet<String>,
         channel_names: IndexSet<String>,
     ) -> Result<Graph, AllocError>
-        requires { IsKept (map string_bytes actor_names.keys) (map string_bytes channel_names.keys) (record { actors = map actor_view actors.items; channels = map channel_view channels.items; cells = cells }) }
-        ensures { IfOk result (λ graph. graph ≡ record { actors = map actor_view actors.items; channels = map channel_view channels.items; cells = cells }) }
+        requires { IsKept (map string_bytes actor_names.keys) (map string_bytes channel_names.keys) (graph_view actors.items channels.items cells) }
+        ensures { IfOk result (λ graph. graph ≡ graph_view actors.items channels.items cells) }
     {
         let ports = gathered(alloc, &channels, actors.len())?;
         Ok(Graph {

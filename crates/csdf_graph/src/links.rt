@@ -7,7 +7,7 @@ ghost use Rattle.csdf_graph.specs.Graph.{channel_view};
 ghost use Rattle.csdf_graph.specs.Ranges.{ranged_view};
 ghost use Rattle.csdf_graph.specs.Links.{number_in, linked, linked_at};
 
-use crate::fault::{GraphFault, Misfit, told};
+use crate::fault::{GraphFault, Misfit, answer_of, fault_place};
 use crate::parts::Channel;
 use crate::ranges::RangedChannel;
 use indexmap::IndexSet;
@@ -55,6 +55,7 @@ fn linked(
     })
 }
 
+#[tactic(auto, using(crate::proofs::PassLemmas::gives_read))]
 fn channel_linked(
     alloc: Global,
     names: &IndexSet<String>,
@@ -64,11 +65,8 @@ fn channel_linked(
     requires { length names.now.keys ≤ 64 }
     ensures { Gives channel_view result (linked_at (map string_bytes names.now.keys) place (ranged_view channel.entry)) }
 {
-    match linked(alloc, names, channel) {
-        Ok(channel) => Ok(channel),
-        Err(Misfit::Fault) => Err(GraphFault::UnknownActor(told(place))),
-        Err(Misfit::Memory) => Err(GraphFault::Memory),
-    }
+    let fault = GraphFault::UnknownActor(fault_place(place));
+    answer_of(linked(alloc, names, channel), fault)
 }
 
 /// The channels, with the numbers of their ends.

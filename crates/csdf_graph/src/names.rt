@@ -5,7 +5,7 @@ ghost use Rattle.std.specs.List.{list_all};
 ghost use Rattle.csdf_graph.specs.Passes.{Gives};
 ghost use Rattle.csdf_graph.specs.Names.{is_word_byte, is_name, is_free, at, names_of};
 
-use crate::fault::{At, GraphFault, told};
+use crate::fault::{At, GraphFault, fault_place};
 use indexmap::IndexSet;
 use std::alloc::Global;
 
@@ -71,7 +71,7 @@ pub(crate) fn numbered(
     let mut numbers = IndexSet::new(alloc);
     for (place, name) in names.iter().enumerate() {
         if !is_free(name, &numbers) {
-            return Err(GraphFault::Name(kind.at(told(place))));
+            return Err(GraphFault::Name(kind.at(fault_place(place))));
         }
         numbers.insert(String::from_str(alloc, name)?)?;
     }

@@ -5,9 +5,10 @@ ghost use Rattle.csdf_graph.specs.Passes.{Gives, Reads, each};
 ghost use Rattle.csdf_graph.specs.Tree.{all_some};
 ghost use Rattle.csdf_graph.specs.Graph.{actor_view};
 ghost use Rattle.csdf_graph.specs.Shape.{kernel_view, actor_view as draft_of_actor, channel_view as draft_of_channel, draft_view};
-ghost use Rattle.csdf_graph.specs.Ranges.{number_within, signed_within, weights_within, kernel_within, actor_within, tokens_within, capacity_within, initial_count, cells_within, channel_within, ranged_view, ranged_actor, ranged_channel, file_view, range_of};
+ghost use Rattle.csdf_graph.specs.Ranges.{number_within, signed_within, weights_within, kernel_within, actor_within, tokens_within, capacity_within};
+ghost use Rattle.csdf_graph.specs.Ranges.{initial_count, cells_within, channel_within, ranged_view, ranged_actor, ranged_channel, file_view, range_of};
 
-use crate::fault::{At, GraphFault, Misfit, told};
+use crate::fault::{At, GraphFault, Misfit, answer_of, fault_place};
 use crate::parts::{Actor, Kernel};
 use crate::shape::{ActorDraft, ChannelDraft, Draft, KernelDraft};
 use std::alloc::{AllocError, Global};
@@ -139,14 +140,12 @@ fn actor_within(alloc: Global, draft: &ActorDraft<'_>) -> Result<Actor, Misfit>
     })
 }
 
+#[tactic(auto, using(crate::proofs::PassLemmas::gives_read))]
 fn ranged_actor(alloc: Global, place: usize, draft: &ActorDraft<'_>) -> Result<Actor, GraphFault>
     ensures { Gives actor_view result (ranged_actor place (draft_of_actor draft.now)) }
 {
-    match actor_within(alloc, draft) {
-        Ok(actor) => Ok(actor),
-        Err(Misfit::Fault) => Err(GraphFault::Range(At::Actor(told(place)))),
-        Err(Misfit::Memory) => Err(GraphFault::Memory),
-    }
+    let fault = GraphFault::Range(At::Actor(fault_place(place)));
+    answer_of(actor_within(alloc, draft), fault)
 }
 
 fn ranged_actors(alloc: Global, drafts: &[ActorDraft<'_>]) -> Result<Vec<Actor>, GraphFault>
@@ -204,6 +203,7 @@ fn channel_within<'a>(alloc: Global, draft: &ChannelDraft<'a>) -> Result<RangedC
     })
 }
 
+#[tactic(auto, using(crate::proofs::PassLemmas::gives_read))]
 fn channel_ranged<'a>(
     alloc: Global,
     place: usize,
@@ -211,11 +211,8 @@ fn channel_ranged<'a>(
 ) -> Result<RangedChannel<'a>, GraphFault>
     ensures { Gives ranged_view result (ranged_channel place (draft_of_channel draft.now)) }
 {
-    match channel_within(alloc, draft) {
-        Ok(channel) => Ok(channel),
-        Err(Misfit::Fault) => Err(GraphFault::Range(At::Channel(told(place)))),
-        Err(Misfit::Memory) => Err(GraphFault::Memory),
-    }
+    let fault = GraphFault::Range(At::Channel(fault_place(place)));
+    answer_of(channel_within(alloc, draft), fault)
 }
 
 fn ranged_channels<'a>(

@@ -5,7 +5,7 @@ ghost use Rattle.toml.specs.View.{table_view};
 ghost use Rattle.csdf_graph.specs.Passes.{Gives, Reads};
 ghost use Rattle.csdf_graph.specs.ScriptText.{script_table, script_draft, draft_view, script_view, optional_within, script_within, script_of, script_in};
 
-use crate::fault::{At, GraphFault, Misfit};
+use crate::fault::{At, GraphFault, Misfit, answer_of};
 use crate::ranges::number_within;
 use crate::read::file_of;
 use crate::script::Script;
@@ -104,20 +104,12 @@ fn script_within(alloc: Global, draft: &ScriptDraft<'_>) -> Result<Script, Misfi
 }
 
 /// The script of a file.
-#[tactic(auto, unfolding(crate::specs::ScriptText::script_in))]
+#[tactic(auto, unfolding(crate::specs::ScriptText::script_in), using(crate::proofs::PassLemmas::gives_read))]
 pub(crate) fn script_in(alloc: Global, file: &Table) -> Result<Script, GraphFault>
     ensures { Gives script_view result (script_in (table_view file.now)) }
 {
-    let draft = match file_draft(alloc, file) {
-        Ok(draft) => draft,
-        Err(Misfit::Fault) => return Err(GraphFault::Shape(At::Script)),
-        Err(Misfit::Memory) => return Err(GraphFault::Memory),
-    };
-    match script_within(alloc, &draft) {
-        Ok(script) => Ok(script),
-        Err(Misfit::Fault) => Err(GraphFault::Range(At::Script)),
-        Err(Misfit::Memory) => Err(GraphFault::Memory),
-    }
+    let draft = answer_of(file_draft(alloc, file), GraphFault::Shape(At::Script))?;
+    answer_of(script_within(alloc, &draft), GraphFault::Range(At::Script))
 }
 
 /// Reads the table `script` of a graph file, and looks at nothing else of it.

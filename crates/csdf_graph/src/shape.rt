@@ -2,10 +2,11 @@
 
 ghost use Rattle.std.specs.Prelude.{◌≡◌, map, option_map, IfOk};
 ghost use Rattle.toml.specs.View.{table_view};
-ghost use Rattle.csdf_graph.specs.Shape.{plain_kernel, kernel_of, kernel_view, actor_of, actor_view, actor_at, channel_of, channel_view, channel_at, tables_of_file, tables_view, draft_of, draft_view};
+ghost use Rattle.csdf_graph.specs.Shape.{plain_kernel, kernel_of, kernel_view, actor_of, actor_view, actor_at, channel_of, channel_view, channel_at};
+ghost use Rattle.csdf_graph.specs.Shape.{tables_of_file, tables_view, draft_of, draft_view};
 ghost use Rattle.csdf_graph.specs.Passes.{Gives, Reads, each};
 
-use crate::fault::{At, GraphFault, Misfit, told};
+use crate::fault::{At, GraphFault, Misfit, answer_of, fault_place};
 use crate::tree::{
     has_only, integer_at, integer_or, integers_at, integers_or_none, optional_integer_at,
     tables_at, tables_or_none, text_at, value_at,
@@ -137,7 +138,7 @@ fn actor_at(alloc: Global, place: usize, table: &Table) -> Result<ActorDraft<'_>
 {
     match actor_of(alloc, table)? {
         Some(actor) => Ok(actor),
-        None => Err(GraphFault::Shape(At::Actor(told(place)))),
+        None => Err(GraphFault::Shape(At::Actor(fault_place(place)))),
     }
 }
 
@@ -151,14 +152,12 @@ fn actors_of<'a>(alloc: Global, tables: &[&'a Table]) -> Result<Vec<ActorDraft<'
     Ok(actors)
 }
 
+#[tactic(auto, using(crate::proofs::PassLemmas::gives_read))]
 fn channel_at(alloc: Global, place: usize, table: &Table) -> Result<ChannelDraft<'_>, GraphFault>
     ensures { Gives channel_view result (channel_at place (table_view table.now)) }
 {
-    match channel_of(alloc, table) {
-        Ok(channel) => Ok(channel),
-        Err(Misfit::Fault) => Err(GraphFault::Shape(At::Channel(told(place)))),
-        Err(Misfit::Memory) => Err(GraphFault::Memory),
-    }
+    let fault = GraphFault::Shape(At::Channel(fault_place(place)));
+    answer_of(channel_of(alloc, table), fault)
 }
 
 fn channels_of<'a>(alloc: Global, tables: &[&'a Table]) -> Result<Vec<ChannelDraft<'a>>, GraphFault>
@@ -210,15 +209,11 @@ pub(crate) struct Draft<'a> {
 }
 
 /// The file's tables, read, or the first that is out of shape.
-#[tactic(auto, unfolding(crate::specs::Shape::draft_of))]
+#[tactic(auto, unfolding(crate::specs::Shape::draft_of), using(crate::proofs::PassLemmas::gives_read))]
 pub(crate) fn draft_of(alloc: Global, file: &Table) -> Result<Draft<'_>, GraphFault>
     ensures { Gives draft_view result (draft_of (table_view file.now)) }
 {
-    let tables = match file_tables(alloc, file) {
-        Ok(tables) => tables,
-        Err(Misfit::Fault) => return Err(GraphFault::Shape(At::File)),
-        Err(Misfit::Memory) => return Err(GraphFault::Memory),
-    };
+    let tables = answer_of(file_tables(alloc, file), GraphFault::Shape(At::File))?;
     let actors = actors_of(alloc, &tables.actors)?;
     let channels = channels_of(alloc, &tables.channels)?;
     Ok(Draft {

@@ -4,7 +4,7 @@ ghost use Rattle.std.specs.Prelude.{◌≡◌, ◌≢◌, ◌↔◌, ◌≤◌, 
 ghost use Rattle.std.specs.Io.KnownBytes.{Appends, IsAtEnd};
 ghost use Rattle.std.specs.List.{after_first, before_first, position};
 ghost use Rattle.csdf_graph.specs.Device.{TakesAtMost};
-ghost use Rattle.csdf_graph.specs.TokenText.{entry_of, is_newline, told_at, token_text, tokens_in, tokens_up_to, words_from};
+ghost use Rattle.csdf_graph.specs.TokenText.{entry_of, is_newline, at_line, token_text, tokens_in, tokens_up_to, words_from};
 
 use crate::device::{Intake, Outlet};
 use crate::intake::{INPUT_LIMIT, InputFault, read_bytes};
@@ -111,7 +111,7 @@ fn end_of_line(text: &[u8]) -> Option<usize>
 
 /// A word's fault, told at its line.
 fn at_line(line: u32, fault: WordFault) -> TokenFault
-    ensures { result ≡ told_at line fault }
+    ensures { result ≡ at_line line fault }
 {
     match fault {
         WordFault::Malformed => TokenFault::Syntax(line),

@@ -3,7 +3,8 @@
 ghost use Rattle.std.specs.Prelude.{◌≡◌, map, option_map, option_copied, option_and_then, IfOk};
 ghost use Rattle.toml.specs.Data.{as_str, as_integer, as_table, get_member};
 ghost use Rattle.toml.specs.View.{view, table_view};
-ghost use Rattle.csdf_graph.specs.Tree.{is_among, has_only, all_some, text_at, integer_at, integer_or, optional_integer_at, array_at, array_or_none, integers_at, integers_or_none, tables_at, tables_or_none, texts_or_none};
+ghost use Rattle.csdf_graph.specs.Tree.{is_among, has_only, all_some, text_at, integer_at, integer_or, optional_integer_at, array_at, array_or_none};
+ghost use Rattle.csdf_graph.specs.Tree.{integers_at, integers_or_none, tables_at, tables_or_none, texts_or_none};
 
 use std::alloc::{AllocError, Global};
 use toml::{Table, Value};

@@ -3,7 +3,7 @@ use Rattle.std.specs.Prelude.{◌≡◌, ◌≢◌, ℕ, List, ◌++◌, Result,
 use Rattle.std.specs.Fmt.{decimal}
 use Rattle.csdf_graph.specs.declared.fault.GraphFault.{GraphFault}
 use Rattle.csdf_graph.specs.declared.fault.GraphFault.TheVariants as graph
-use Rattle.csdf_graph.specs.Told.{place_text}
+use Rattle.csdf_graph.specs.FaultPlace.{place_text}
 use Rattle.csdf_graph.specs.declared.intake.InputFault.{InputFault}
 use Rattle.csdf_graph.specs.declared.intake.InputFault.TheVariants as input
 use Rattle.csdf_analysis.specs.declared.fault.AcceptFault.{AcceptFault}

@@ -6,4 +6,5 @@ use Rattle.csdf_graph.specs.Checks.{phase_lengths_fit}
 use Rattle.csdf_graph.proofs.checks.check_phase_lengths.Given as goal
 
 abbrev pub invariant-loop-place : goal.invariant-loop-place
-invariant-loop-place l = check PhaseLength (phase_lengths_fit (map actor_view l.actors)) l.place (map channel_view (drop l.place l.channels)) ≡ check PhaseLength (phase_lengths_fit (map actor_view l.actors)) 0 (map channel_view l.channels)
+invariant-loop-place l = check PhaseLength (phase_lengths_fit (map actor_view l.actors)) l.place (map channel_view (drop l.place l.channels))
+    ≡ check PhaseLength (phase_lengths_fit (map actor_view l.actors)) 0 (map channel_view l.channels)

@@ -6,4 +6,5 @@ use Rattle.csdf_graph.specs.Checks.{has_ports}
 use Rattle.csdf_graph.proofs.checks.check_ports.Given as goal
 
 abbrev pub invariant-loop-place : goal.invariant-loop-place
-invariant-loop-place l = check KernelPorts (has_ports (map channel_view l.channels)) l.place (map actor_view (drop l.place l.actors)) ≡ check KernelPorts (has_ports (map channel_view l.channels)) 0 (map actor_view l.actors)
+invariant-loop-place l = check KernelPorts (has_ports (map channel_view l.channels)) l.place (map actor_view (drop l.place l.actors))
+    ≡ check KernelPorts (has_ports (map channel_view l.channels)) 0 (map actor_view l.actors)

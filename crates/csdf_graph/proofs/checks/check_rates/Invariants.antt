@@ -6,4 +6,5 @@ use Rattle.csdf_graph.specs.Checks.{has_rates}
 use Rattle.csdf_graph.proofs.checks.check_rates.Given as goal
 
 abbrev pub invariant-loop-place : goal.invariant-loop-place
-invariant-loop-place l = check ZeroRate has_rates l.place (map channel_view (drop l.place l.channels)) ≡ check ZeroRate has_rates 0 (map channel_view l.channels)
+invariant-loop-place l = check ZeroRate has_rates l.place (map channel_view (drop l.place l.channels))
+    ≡ check ZeroRate has_rates 0 (map channel_view l.channels)

@@ -7,4 +7,5 @@ use Rattle.csdf_graph.proofs.PassLemmas.{with_front}
 use Rattle.csdf_graph.proofs.ranges.ranged_actors.Given as goal
 
 abbrev pub invariant-loop-place : goal.invariant-loop-place
-invariant-loop-place l = with_front (map actor_view l.actors.items) (each ranged_actor l.place (map draft_of_actor (drop l.place l.drafts))) ≡ each ranged_actor 0 (map draft_of_actor l.drafts)
+invariant-loop-place l = with_front (map actor_view l.actors.items) (each ranged_actor l.place (map draft_of_actor (drop l.place l.drafts)))
+    ≡ each ranged_actor 0 (map draft_of_actor l.drafts)

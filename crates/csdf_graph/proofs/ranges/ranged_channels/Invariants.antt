@@ -7,4 +7,5 @@ use Rattle.csdf_graph.proofs.PassLemmas.{with_front}
 use Rattle.csdf_graph.proofs.ranges.ranged_channels.Given as goal
 
 abbrev pub invariant-loop-place : goal.invariant-loop-place
-invariant-loop-place l = with_front (map ranged_view l.channels.items) (each ranged_channel l.place (map draft_of_channel (drop l.place l.drafts))) ≡ each ranged_channel 0 (map draft_of_channel l.drafts)
+invariant-loop-place l = with_front (map ranged_view l.channels.items) (each ranged_channel l.place (map draft_of_channel (drop l.place l.drafts)))
+    ≡ each ranged_channel 0 (map draft_of_channel l.drafts)

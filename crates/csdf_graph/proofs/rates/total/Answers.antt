@@ -15,20 +15,24 @@ returns-then-is_empty c =
 
 pub overflow_mul-result : goal.overflow_mul-result
 overflow_mul-result c =
-    let fits : c.sum_of-2.result * (c.args.firings / length c.args.rates.now) + 0 < 2 ^ 64 = split_within c.args.firings (length c.args.rates.now) c.sum_of-2.result 0 (omega arith) c.sum_of-2.ensures.within (omega arith) in
+    let fits : c.sum_of-2.result * (c.args.firings / length c.args.rates.now) + 0 < 2 ^ 64 =
+    split_within c.args.firings (length c.args.rates.now) c.sum_of-2.result 0 (omega arith) c.sum_of-2.ensures.within (omega arith) in
     omega arith
 
 pub overflow_add-result : goal.overflow_add-result
 overflow_add-result c =
     let nonzero : length c.args.rates.now ≡ 0 → ⊥ = eqb-false (length c.args.rates.now) 0 (sym c.is_empty.ensures ∙ c.if-is_empty.false) in
     let some : 0 < length c.args.rates.now = omega (arith, nonzero) in
-    let len : length (take (c.args.firings % length c.args.rates.now) c.args.rates.now) ≡ c.args.firings % length c.args.rates.now = length-take-le _ c.args.rates.now (omega arith) in
-    let fits : c.sum_of-2.result * (c.args.firings / length c.args.rates.now) + c.sum_of-3.result < 2 ^ 64 = split_within c.args.firings (length c.args.rates.now) c.sum_of-2.result c.sum_of-3.result (omega arith) c.sum_of-2.ensures.within (omega arith) in
+    let len : length (take (c.args.firings % length c.args.rates.now) c.args.rates.now) ≡ c.args.firings % length c.args.rates.now =
+    length-take-le _ c.args.rates.now (omega arith) in
+    let fits : c.sum_of-2.result * (c.args.firings / length c.args.rates.now) + c.sum_of-3.result < 2 ^ 64 =
+    split_within c.args.firings (length c.args.rates.now) c.sum_of-2.result c.sum_of-3.result (omega arith) c.sum_of-2.ensures.within (omega arith) in
     omega arith
 
 pub returns : goal.returns
 returns c =
     let nonzero : length c.args.rates.now ≡ 0 → ⊥ = eqb-false (length c.args.rates.now) 0 (sym c.is_empty.ensures ∙ c.if-is_empty.false) in
     let some : 0 < length c.args.rates.now = omega (arith, nonzero) in
-    let whole : total c.args.rates.now c.args.firings ≡ sum c.args.rates.now * (c.args.firings / length c.args.rates.now) + sum (take (c.args.firings % length c.args.rates.now) c.args.rates.now) = total_split c.args.rates.now c.args.firings some in
+    let whole : total c.args.rates.now c.args.firings ≡ sum c.args.rates.now * (c.args.firings / length c.args.rates.now)
+    + sum (take (c.args.firings % length c.args.rates.now) c.args.rates.now) = total_split c.args.rates.now c.args.firings some in
     rw (c.sum_of-2.ensures.value, c.sum_of-3.ensures.value) (sym whole)

@@ -8,26 +8,39 @@ use Rattle.csdf_graph.proofs.read.judged.Goals as goal
 
 pub is_connected-requires : goal.is_connected-requires
 is_connected-requires c =
-    let len : length (map actor_view c.args.named.parts.actors.items) ≡ c.len.result = omega (arith, c.args.named.parts.actors.ok.0, length-map c.args.named.parts.actors.items actor_view) in
-    rw c.deref.ensures.value (subst (λ n. HasEnds n (map channel_view c.args.named.parts.channels.items)) len (ends_of (map actor_view c.args.named.parts.actors.items) (map channel_view c.args.named.parts.channels.items) c.requires.fitting.channels))
+    let len : length (map actor_view c.args.named.parts.actors.items) ≡ c.len.result =
+    omega (arith, c.args.named.parts.actors.ok.0, length-map c.args.named.parts.actors.items actor_view) in
+    rw c.deref.ensures.value (subst (λ n. HasEnds n (map channel_view c.args.named.parts.channels.items)) len
+    (ends_of (map actor_view c.args.named.parts.actors.items) (map channel_view c.args.named.parts.channels.items) c.requires.fitting.channels))
 
 pub returns-then-not-branch : goal.returns-then-not-branch
 returns-then-not-branch c =
-    let len : length (map actor_view c.args.named.parts.actors.items) ≡ c.len.result = omega (arith, c.args.named.parts.actors.ok.0, length-map c.args.named.parts.actors.items actor_view) in
-    λ _. (refl, unjoined_by _ c.len.result (map channel_view c.args.named.parts.channels.items) c.in_ok-is_connected.field-0 len (rw c.deref.ensures.value at c.in_ok-is_connected.ensures) c.if-not-branch.true)
+    let len : length (map actor_view c.args.named.parts.actors.items) ≡ c.len.result =
+    omega (arith, c.args.named.parts.actors.ok.0, length-map c.args.named.parts.actors.items actor_view) in
+    λ _. (
+      refl,
+      unjoined_by _ c.len.result (map channel_view c.args.named.parts.channels.items) c.in_ok-is_connected.field-0 len
+          (rw c.deref.ensures.value at c.in_ok-is_connected.ensures) c.if-not-branch.true,
+    )
 
 pub new-requires : goal.new-requires
 new-requires c =
-    let len : length (map actor_view c.args.named.parts.actors.items) ≡ c.len.result = omega (arith, c.args.named.parts.actors.ok.0, length-map c.args.named.parts.actors.items actor_view) in
+    let len : length (map actor_view c.args.named.parts.actors.items) ≡ c.len.result =
+    omega (arith, c.args.named.parts.actors.ok.0, length-map c.args.named.parts.actors.items actor_view) in
     record {
       numbered = c.requires.numbered;
       well_formed = record {
         fitting = c.requires.fitting;
-        joined = joined_by _ c.len.result (map channel_view c.args.named.parts.channels.items) c.in_ok-is_connected.field-0 len (rw c.deref.ensures.value at c.in_ok-is_connected.ensures) c.if-not-branch.false;
+        joined = joined_by _ c.len.result (map channel_view c.args.named.parts.channels.items) c.in_ok-is_connected.field-0 len
+            (rw c.deref.ensures.value at c.in_ok-is_connected.ensures) c.if-not-branch.false;
       };
     }
 
 pub returns : goal.returns
 returns c =
-    let len : length (map actor_view c.args.named.parts.actors.items) ≡ c.len.result = omega (arith, c.args.named.parts.actors.ok.0, length-map c.args.named.parts.actors.items actor_view) in
-    (c.in_ok-graph.ensures, joined_by _ c.len.result (map channel_view c.args.named.parts.channels.items) c.in_ok-is_connected.field-0 len (rw c.deref.ensures.value at c.in_ok-is_connected.ensures) c.if-not-branch.false)
+    let len : length (map actor_view c.args.named.parts.actors.items) ≡ c.len.result =
+    omega (arith, c.args.named.parts.actors.ok.0, length-map c.args.named.parts.actors.items actor_view) in (
+      c.in_ok-graph.ensures,
+      joined_by _ c.len.result (map channel_view c.args.named.parts.channels.items) c.in_ok-is_connected.field-0 len
+          (rw c.deref.ensures.value at c.in_ok-is_connected.ensures) c.if-not-branch.false,
+    )

@@ -13,4 +13,5 @@ pub returns-clause-ports : goal.returns-clause-ports
 returns-clause-ports c =
     let lt = rw (← c.self.view_is) at c.requires in
     rw (← c.self.view_is)
-    (made_at ports_view (ports_of (map channel_view c.self.inside.channels.items)) c.self.inside.ports.items _ c.args.actor _ c.self.invariant.1 lt c.index.ensures)
+    (made_at ports_view (ports_of (map channel_view c.self.inside.channels.items)) c.self.inside.ports.items _ c.args.actor _ c.self.invariant.1 lt
+    c.index.ensures)

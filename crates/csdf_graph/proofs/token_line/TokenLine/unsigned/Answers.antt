@@ -10,12 +10,18 @@ loop-rest-init c =
 
 pub loop-rest-preserved : goal.loop-rest-preserved
 loop-rest-preserved c = record {
-  so_far = rw c.push_front-in-loop-rest.ensures (decimal-moved c.args.number c.loop-rest.rest c.loop-rest.line c.loop-rest-test.true c.loop-rest.auto.rest-fits.fits c.loop-rest.invariant.so_far);
-  room = omega (arith, ap length c.push_front-in-loop-rest.ensures, length-decimal-moved c.loop-rest.rest c.loop-rest-test.true c.loop-rest.auto.rest-fits.fits);
+  so_far = rw c.push_front-in-loop-rest.ensures (decimal-moved c.args.number c.loop-rest.rest c.loop-rest.line c.loop-rest-test.true
+      c.loop-rest.auto.rest-fits.fits c.loop-rest.invariant.so_far);
+  room = omega (
+    arith,
+    ap length c.push_front-in-loop-rest.ensures,
+    length-decimal-moved c.loop-rest.rest c.loop-rest-test.true c.loop-rest.auto.rest-fits.fits,
+  );
 }
 
 pub returns-clause-digits : goal.returns-clause-digits
-returns-clause-digits c = c.push_front-2.ensures ∙ decimal-last c.args.number c.loop-rest.rest c.loop-rest.line c.loop-rest-test.false c.loop-rest.invariant.so_far
+returns-clause-digits c = c.push_front-2.ensures ∙ decimal-last c.args.number c.loop-rest.rest c.loop-rest.line c.loop-rest-test.false
+    c.loop-rest.invariant.so_far
 
 pub returns-clause-room : goal.returns-clause-room
 returns-clause-room c = omega (arith, ap length c.push_front-2.ensures, ap length (decimal_digit c.loop-rest.rest c.loop-rest-test.false))

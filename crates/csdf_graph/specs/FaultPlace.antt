@@ -5,8 +5,8 @@ use Rattle.csdf_graph.specs.declared.fault.At.{At}
 use Rattle.csdf_graph.specs.declared.fault.At.TheVariants as at
 
 -- past the numbers of 32 bits it is the last of them
-abbrev pub told : ℕ → ℕ
-told i = min i 4294967295
+abbrev pub fault_place : ℕ → ℕ
+fault_place i = min i 4294967295
 
 -- the text of a place
 abbrev pub place_text : At → List ℕ
