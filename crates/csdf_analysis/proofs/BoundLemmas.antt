@@ -1,5 +1,6 @@
 -- What the limits of a graph say of cycles and capacities.
-use Rattle.std.proofs.Common.{◌≡◌, ℕ, zero, suc, ◌+◌, ◌*◌, ◌%◌, ◌^◌, ◌<◌, ◌≤◌, List, [], ◌∷◌, ◌++◌, length, map, take, sum, sym, ap, subst, ◌∙◌, arith, mul-le-mul, length-append, inl, inr, ◌==◌}
+use Rattle.std.proofs.Common.{◌≡◌, ℕ, zero, suc, ◌+◌, ◌*◌, ◌%◌, ◌^◌, ◌<◌, ◌≤◌, List, [], ◌∷◌, ◌++◌, length, map, take, sum, sym, ap, subst, ◌∙◌, arith}
+use Rattle.std.proofs.Common.{mul-le-mul, length-append, inl, inr, ◌==◌}
 use Rattle.std.specs.Prelude.{All, slice_index, slice_index_or, Some, option_map, unwrap_or, EachIndex}
 use Rattle.std.proofs.Math.Nat.{mod-lt}
 use Rattle.std.proofs.Math.Seq.{get_or-append_seam}
@@ -75,15 +76,19 @@ firing_fits p n a b = let most : p * n ≤ 16 * 1024 = mul-le-mul a b in omega a
 room_all : (q : List ℕ) (channels : List Channel) (n : ℕ) → length channels ≤ n → HaveRoom q (take n channels) → HaveRoom q channels
 room_all q channels n le room = subst (λ cs. HaveRoom q cs) (take_all n channels le) room
 
-pub room_of : (q : List ℕ) (channels : List ChannelCode) (n : ℕ) → length channels ≤ n → HaveRoom q (take n (map channel_view channels)) → HaveRoom q (map channel_view channels)
+pub room_of : (q : List ℕ) (channels : List ChannelCode) (n : ℕ) → length channels ≤ n → HaveRoom q (take n (map channel_view channels))
+    → HaveRoom q (map channel_view channels)
 room_of q channels n le room = let len = length-map channels channel_view in room_all q (map channel_view channels) n (omega (arith, len)) room
 
-pub room_next : (q : List ℕ) (channels : List ChannelCode) (i : ℕ) (x : ChannelCode) → i < length channels → x ≡ slice_index_or channels i x → HaveRoom q (take i (map channel_view channels)) → full_capacity q (channel_view x) ≤ 65535 → HaveRoom q (take (i + 1) (map channel_view channels))
+pub room_next : (q : List ℕ) (channels : List ChannelCode) (i : ℕ) (x : ChannelCode) → i < length channels → x ≡ slice_index_or channels i x
+    → HaveRoom q (take i (map channel_view channels)) → full_capacity q (channel_view x) ≤ 65535 → HaveRoom q (take (i + 1) (map channel_view channels))
 room_next q channels i x lt is room fits =
     let len = length-map channels channel_view in
-    All-more (λ c. full_capacity q c ≤ 65535) (map channel_view channels) i (channel_view x) (omega (arith, len)) room (subst (λ c. full_capacity q c ≤ 65535) (sym (channel_at channels i x is)) fits)
+    All-more (λ c. full_capacity q c ≤ 65535) (map channel_view channels) i (channel_view x) (omega (arith, len)) room
+    (subst (λ c. full_capacity q c ≤ 65535) (sym (channel_at channels i x is)) fits)
 
-pub first_over : (q : List ℕ) (channels : List ChannelCode) (i : ℕ) (x : ChannelCode) → i < length channels → x ≡ slice_index_or channels i x → HaveRoom q (take i (map channel_view channels)) → 65535 < full_capacity q (channel_view x) → IsFirstOver q (map channel_view channels) i
+pub first_over : (q : List ℕ) (channels : List ChannelCode) (i : ℕ) (x : ChannelCode) → i < length channels → x ≡ slice_index_or channels i x
+    → HaveRoom q (take i (map channel_view channels)) → 65535 < full_capacity q (channel_view x) → IsFirstOver q (map channel_view channels) i
 first_over q channels i x lt is room above =
     let len = length-map channels channel_view in
     record {
@@ -95,27 +100,34 @@ first_over q channels i x lt is room above =
 
 -- ---- the loop over actors
 
-phases_at : (actors : List ActorCode) (i : ℕ) (x : ActorCode) → i < length actors → x ≡ slice_index_or actors i x → phases_of (map actor_view actors) i ≡ x.phases
+phases_at : (actors : List ActorCode) (i : ℕ) (x : ActorCode) → i < length actors → x ≡ slice_index_or actors i x
+    → phases_of (map actor_view actors) i ≡ x.phases
 phases_at actors i x lt is =
     let len = length-map actors actor_view in
-    ap (λ o. unwrap_or (option_map (λ (a : Actor). a.phases) o) 0) (slice_get-get_or (map actor_view actors) i (actor_view x) (omega (arith, len)) ∙ ap (λ a. Some a) (get_or-map actor_view actors i x ∙ ap actor_view (sym is)))
+    ap (λ o. unwrap_or (option_map (λ (a : Actor). a.phases) o) 0) (slice_get-get_or (map actor_view actors) i (actor_view x) (omega (arith, len))
+    ∙ ap (λ a. Some a) (get_or-map actor_view actors i x ∙ ap actor_view (sym is)))
 
-pub phases_few : (actors : List ActorCode) (i : ℕ) (x : ActorCode) → i < length actors → x ≡ slice_index_or actors i x → All IsActor (map actor_view actors) → x.phases ≤ 16
+pub phases_few : (actors : List ActorCode) (i : ℕ) (x : ActorCode) → i < length actors → x ≡ slice_index_or actors i x → All IsActor (map actor_view actors)
+    → x.phases ≤ 16
 phases_few actors i x lt is all = subst (λ n. n ≤ 16) (phases_at actors i x lt is) (phases_within (map actor_view actors) i all)
 
 pub length_pushed : (q next : List ℕ) (n : ℕ) → next ≡ q ++ n ∷ [] → length next ≡ length q + 1
 length_pushed q next n pushed = ap length pushed ∙ length-append q (n ∷ [])
 
 -- the firings of one actor more
-pub firings_next : (actors : List ActorCode) (r q next : List ℕ) (i n : ℕ) (x : ActorCode) → i < length actors → x ≡ slice_index_or actors i x → length q ≡ i → next ≡ q ++ n ∷ [] → n ≡ x.phases * slice_index r i →
-    EachIndex q (λ a. slice_index q a ≡ phases_of (map actor_view actors) a * slice_index r a) → EachIndex next (λ a. slice_index next a ≡ phases_of (map actor_view actors) a * slice_index r a)
+pub firings_next : (actors : List ActorCode) (r q next : List ℕ) (i n : ℕ) (x : ActorCode) → i < length actors → x ≡ slice_index_or actors i x → length q ≡ i
+    → next ≡ q ++ n ∷ [] → n ≡ x.phases * slice_index r i →
+    EachIndex q (λ a. slice_index q a ≡ phases_of (map actor_view actors) a * slice_index r a)
+    → EachIndex next (λ a. slice_index next a ≡ phases_of (map actor_view actors) a * slice_index r a)
 firings_next actors r q next i n x lt is len pushed product each a here =
     let more : length next ≡ length q + 1 = length_pushed q next n pushed in
     elim (cases_Bool (a == i)) [
       | inl y ↦
           let last : a ≡ i = eqb-true a i y in
-          let read : slice_index next a ≡ n = ap (λ xs. slice_index xs a) pushed ∙ ap (λ k. slice_index (q ++ n ∷ []) k) (last ∙ sym len) ∙ get_or-append_seam q n [] 0 in
-          read ∙ product ∙ ap (λ p. p * slice_index r i) (sym (phases_at actors i x lt is)) ∙ ap (λ k. phases_of (map actor_view actors) k * slice_index r k) (sym last)
+          let read : slice_index next a ≡ n = ap (λ xs. slice_index xs a) pushed ∙ ap (λ k. slice_index (q ++ n ∷ []) k) (last ∙ sym len)
+          ∙ get_or-append_seam q n [] 0 in
+          read ∙ product ∙ ap (λ p. p * slice_index r i) (sym (phases_at actors i x lt is))
+          ∙ ap (λ k. phases_of (map actor_view actors) k * slice_index r k) (sym last)
       | inr m ↦
           let differ = eqb-false a i m in
           let before : a < length q = omega (arith, differ) in

@@ -1,5 +1,6 @@
 -- Counts of firings, their sums, and totals of rates that grow with them.
-use Rattle.std.proofs.Common.{◌≡◌, ℕ, zero, suc, ◌+◌, ◌-◌, ◌<◌, ◌≤◌, ◌⊎◌, inl, inr, ◌==◌, nat_lt, List, [], ◌∷◌, length, replicate, get_or, sum, refl, sym, ap, subst, ◌∙◌, arith}
+use Rattle.std.proofs.Common.{◌≡◌, ℕ, zero, suc, ◌+◌, ◌-◌, ◌<◌, ◌≤◌, ◌⊎◌, inl, inr, ◌==◌, nat_lt, List, [], ◌∷◌, length, replicate, get_or, sum, refl, sym, ap}
+use Rattle.std.proofs.Common.{subst, ◌∙◌, arith}
 use Rattle.std.specs.Prelude.{slice_index}
 use Rattle.std.proofs.lemmas.Bool.{cases_Bool, eqb-true, eqb-false, ltb-true, ltb-false}
 use Rattle.std.proofs.lemmas.List.{get_or-set_same, get_or-set_other, length-set}
@@ -43,7 +44,8 @@ fired_length n a = length-set n a (suc (get_or n a 0))
 pub fired_more : (n : List ℕ) (a b : ℕ) → a < length n → get_or n b 0 ≤ get_or (fired n a) b 0
 fired_more n a b lt = elim (same_or_not b a) [
   | inl same ↦
-      let one : get_or (fired n a) b 0 ≡ suc (get_or n b 0) = ap (λ k. get_or (fired n a) k 0) same ∙ fired_same n a lt ∙ ap (λ k. suc (get_or n k 0)) (sym same) in
+      let one : get_or (fired n a) b 0 ≡ suc (get_or n b 0) = ap (λ k. get_or (fired n a) k 0) same ∙ fired_same n a lt
+      ∙ ap (λ k. suc (get_or n k 0)) (sym same) in
       omega arith
   | inr other ↦ let one = fired_other n a b other in omega arith
 ]

@@ -1,7 +1,8 @@
 -- Euclid's steps, and how two numbers with one multiple are made of their parts.
 use Rattle.std.proofs.Common.{◌≡◌, ℕ, zero, suc, ◌+◌, ◌*◌, ◌/◌, ◌%◌, ◌<◌, sym, ap, subst, ◌∙◌, arith}
 use Rattle.std.specs.Int.{◌∣◌}
-use Rattle.std.proofs.Math.Nat.{dvd-mod_iff, div-mul_cancel, div-add-mod, dvd-mul_left, dvd-mul_right_of_dvd, dvd-add_iff_right, dvd_of_mul-dvd-mul_right, mul-div_cancel, mul_comm}
+use Rattle.std.proofs.Math.Nat.{dvd-mod_iff, div-mul_cancel, div-add-mod, dvd-mul_left, dvd-mul_right_of_dvd, dvd-add_iff_right, dvd_of_mul-dvd-mul_right}
+use Rattle.std.proofs.Math.Nat.{mul-div_cancel, mul_comm}
 use Rattle.std.proofs.lemmas.Nat.Gcd.{dvd_refl, dvd-zero}
 use Rattle.csdf_analysis.specs.Divisor.{IsGreatestDivisor}
 

@@ -37,7 +37,8 @@ alone_members actors =
         λ a lt.
             let group : a ≡ group_at (alone n) a = ap (λ (m : Member). m.group) (sym (alone_at n a lt)) in
             let one : 1 ≡ entry_at (alone n) a = ap (λ (m : Member). m.entry) (sym (alone_at n a lt)) in
-            (let whole : slice_index w a ≡ slice_index w a * 1 = omega arith in whole) ∙ ap (λ e. slice_index w a * e) one ∙ ap (λ g. slice_index w g * entry_at (alone n) a) group,
+            (let whole : slice_index w a ≡ slice_index w a * 1 = omega arith in whole) ∙ ap (λ e. slice_index w a * e) one
+            ∙ ap (λ g. slice_index w g * entry_at (alone n) a) group,
       );
     }
 
@@ -76,7 +77,8 @@ members_can actors channels ms members = record {
   balances = entries_balance actors channels ms members;
 }
 
-pub members_least : (actors : List Actor) (channels : List Channel) (ms : List Member) → AreMembers actors channels ms → IsLeastRepetition actors channels (entries_of ms)
+pub members_least : (actors : List Actor) (channels : List Channel) (ms : List Member) → AreMembers actors channels ms
+    → IsLeastRepetition actors channels (entries_of ms)
 members_least actors channels ms members = record {
   vector = entries_vector actors ms members.entries;
   balances = entries_balance actors channels ms members;
@@ -85,12 +87,14 @@ members_least actors channels ms members = record {
       let here : a < length w = omega (arith, len, members.entries.each_actor, vector.each_actor) in
       let found = members.every w balances in
       let some : 1 ≤ slice_index w a = All-get_or (λ n. 1 ≤ n) w a 0 here vector.positive in
-      subst (λ n. n ≤ slice_index w a) (sym (entries_at ms a)) (multiple_le (found.0 (group_at ms a)) (entry_at ms a) (slice_index w a) (found.1 a (omega (arith, vector.each_actor))) some);
+      subst (λ n. n ≤ slice_index w a) (sym (entries_at ms a))
+      (multiple_le (found.0 (group_at ms a)) (entry_at ms a) (slice_index w a) (found.1 a (omega (arith, vector.each_actor))) some);
 }
 
 -- ---- the first channel that is refused
 
-pub first_unbalanced : (actors : List Actor) (channels : List Channel) (ms : List Member) (i : ℕ) (c : Channel) → i < length channels → slice_index_or channels i c ≡ c → AreMembers actors (take i channels) ms →
+pub first_unbalanced : (actors : List Actor) (channels : List Channel) (ms : List Member) (i : ℕ) (c : Channel) → i < length channels
+    → slice_index_or channels i c ≡ c → AreMembers actors (take i channels) ms →
     ((done : List Channel) → AreMembers actors done ms → CanBalance actors (done ++ c ∷ []) → ⊥) → IsFirstUnbalanced actors channels i
 first_unbalanced actors channels ms i c lt at members refuses = record {
   exists = lt;
@@ -98,7 +102,8 @@ first_unbalanced actors channels ms i c lt at members refuses = record {
   with_it = λ can. refuses (take i channels) members (subst (λ cs. CanBalance actors cs) (front_and_next channels i c lt at) can);
 }
 
-pub next_members : (actors : List Actor) (channels : List Channel) (ms next : List Member) (i : ℕ) (c : Channel) → i < length channels → slice_index_or channels i c ≡ c → AreMembers actors (take i channels) ms →
+pub next_members : (actors : List Actor) (channels : List Channel) (ms next : List Member) (i : ℕ) (c : Channel) → i < length channels
+    → slice_index_or channels i c ≡ c → AreMembers actors (take i channels) ms →
     ((done : List Channel) → AreMembers actors done ms → AreMembers actors (done ++ c ∷ []) next) → AreMembers actors (take (i + 1) channels) next
 next_members actors channels ms next i c lt at members keeps =
     let one : suc i ≡ i + 1 = omega arith in
@@ -106,10 +111,12 @@ next_members actors channels ms next i c lt at members keeps =
 
 -- ---- what the code reads
 
-pub channel_at : (channels : List ChannelCode) (i : ℕ) (x : ChannelCode) → x ≡ slice_index_or channels i x → slice_index_or (map channel_view channels) i (channel_view x) ≡ channel_view x
+pub channel_at : (channels : List ChannelCode) (i : ℕ) (x : ChannelCode) → x ≡ slice_index_or channels i x
+    → slice_index_or (map channel_view channels) i (channel_view x) ≡ channel_view x
 channel_at channels i x is = get_or-map channel_view channels i x ∙ ap channel_view (sym is)
 
-pub channel_has : (P : Channel → Type 0) (channels : List ChannelCode) (i : ℕ) (x : ChannelCode) → i < length channels → x ≡ slice_index_or channels i x → All P (map channel_view channels) → P (channel_view x)
+pub channel_has : (P : Channel → Type 0) (channels : List ChannelCode) (i : ℕ) (x : ChannelCode) → i < length channels → x ≡ slice_index_or channels i x
+    → All P (map channel_view channels) → P (channel_view x)
 channel_has P channels i x lt is all =
     let len = length-map channels channel_view in
     subst P (channel_at channels i x is) (all i (channel_view x) (omega (arith, len)))

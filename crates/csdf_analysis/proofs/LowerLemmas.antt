@@ -1,5 +1,6 @@
 -- The least capacities, channel by channel.
-use Rattle.std.proofs.Common.{◌≡◌, ℕ, zero, suc, ◌*◌, ◌<◌, ◌≤◌, ◌⊎◌, inl, inr, Bool, true, false, not, List, [], ◌∷◌, length, get_or, set, map, sum, Option, Some, None, refl, sym, ap, subst, ◌∙◌, arith}
+use Rattle.std.proofs.Common.{◌≡◌, ℕ, zero, suc, ◌*◌, ◌<◌, ◌≤◌, ◌⊎◌, inl, inr, Bool, true, false, not, List, [], ◌∷◌, length, get_or, set, map, sum, Option}
+use Rattle.std.proofs.Common.{Some, None, refl, sym, ap, subst, ◌∙◌, arith}
 use Rattle.std.specs.Prelude.{All, IfSome, slice_get, unwrap_or}
 use Rattle.std.specs.Option.{is_some}
 use Rattle.std.proofs.lemmas.Bool.{false≢true, true≢false}
@@ -48,18 +49,23 @@ bound_enough (Some given) full b w is same = inl (omega arith)
 
 pub first_initial : (g : Graph) (q : List ℕ) → IsWellFormed g → HoldInitial g.channels (first_bounds q g.channels)
 first_initial g q whole i c is =
-    subst (λ b. length c.initial ≤ b) (sym (bound_at (first_bound q) g.channels i c is)) (fits_capacity c.capacity c (full_capacity q c) (at (IsChannel g.actors) g.channels i c whole.fitting.channels is).capacity (omega arith))
+    subst (λ b. length c.initial ≤ b) (sym (bound_at (first_bound q) g.channels i c is))
+    (fits_capacity c.capacity c (full_capacity q c) (at (IsChannel g.actors) g.channels i c whole.fitting.channels is).capacity (omega arith))
 
 -- capacities that agree with the given ones complete a period only where the first bounds do
-first_completes : (channels : List Channel) (q w : List ℕ) → CompletesPeriod channels q w → Agrees channels w → CompletesPeriod channels q (first_bounds q channels)
+first_completes : (channels : List Channel) (q w : List ℕ) → CompletesPeriod channels q w → Agrees channels w
+    → CompletesPeriod channels q (first_bounds q channels)
 first_completes channels q w completes agrees = enough_complete channels q w (first_bounds q channels) completes (length-map channels (first_bound q)) (record {
-  enough = λ i c is. bound_enough c.capacity (full_capacity q c) (get_or (first_bounds q channels) i 0) (get_or w i 0) (bound_at (first_bound q) channels i c is) (agrees i c is);
+  enough = λ i c is. bound_enough c.capacity (full_capacity q c) (get_or (first_bounds q channels) i 0) (get_or w i 0)
+      (bound_at (first_bound q) channels i c is) (agrees i c is);
 })
 
-pub too_tight : (channels : List Channel) (q : List ℕ) → CompletesPeriod channels q (full_capacities q channels) → (CompletesPeriod channels q (first_bounds q channels) → ⊥) → IsTooTight channels q
+pub too_tight : (channels : List Channel) (q : List ℕ) → CompletesPeriod channels q (full_capacities q channels)
+    → (CompletesPeriod channels q (first_bounds q channels) → ⊥) → IsTooTight channels q
 too_tight channels q full none = record { full = full; none = λ w completes agrees. none (first_completes channels q w completes agrees) }
 
-pub lowered_first : (g : Graph) (r q : List ℕ) → IsWellFormed g → IsRepetition g.actors g.channels r q → CompletesPeriod g.channels q (first_bounds q g.channels) → IsLowered g.channels q 0 (first_bounds q g.channels)
+pub lowered_first : (g : Graph) (r q : List ℕ) → IsWellFormed g → IsRepetition g.actors g.channels r q
+    → CompletesPeriod g.channels q (first_bounds q g.channels) → IsLowered g.channels q 0 (first_bounds q g.channels)
 lowered_first g r q whole is completes = record {
   completes = completes;
   agrees = λ i c here. keeps_given c.capacity (full_capacity q c) (get_or (first_bounds q g.channels) i 0) (bound_at (first_bound q) g.channels i c here);
@@ -71,7 +77,8 @@ lowered_first g r q whole is completes = record {
 -- ---- one channel more
 
 -- a channel with a given capacity
-pub lowered_given : (channels : List Channel) (q bounds : List ℕ) (c : ℕ) (channel : Channel) (given : ℕ) → slice_get channels c ≡ Some channel → channel.capacity ≡ Some given → IsLowered channels q c bounds → IsLowered channels q (suc c) bounds
+pub lowered_given : (channels : List Channel) (q bounds : List ℕ) (c : ℕ) (channel : Channel) (given : ℕ) → slice_get channels c ≡ Some channel
+    → channel.capacity ≡ Some given → IsLowered channels q c bounds → IsLowered channels q (suc c) bounds
 lowered_given channels q bounds c channel given is has low = record {
   completes = low.completes;
   agrees = low.agrees;
@@ -90,19 +97,22 @@ lowered_given channels q bounds c channel given is has low = record {
 }
 
 -- where the capacities are the same below the channel, the other's entry is enough for it
-entry_completes : (channels : List Channel) (q bounds w : List ℕ) (c : ℕ) → c < length bounds → IsLowered channels q c bounds → AreSameBelow c bounds w → CompletesPeriod channels q w → Agrees channels w → CompletesPeriod channels q (set bounds c (get_or w c 0))
+entry_completes : (channels : List Channel) (q bounds w : List ℕ) (c : ℕ) → c < length bounds → IsLowered channels q c bounds → AreSameBelow c bounds w
+    → CompletesPeriod channels q w → Agrees channels w → CompletesPeriod channels q (set bounds c (get_or w c 0))
 entry_completes channels q bounds w c lt low same done agrees =
     enough_complete channels q w (set bounds c (get_or w c 0)) done (length-set bounds c (get_or w c 0) ∙ low.completes.each_channel) (record {
       enough = λ i d here. elim (same_or_not i c) [
         | inl this ↦
-            let entry : get_or (set bounds c (get_or w c 0)) i 0 ≡ get_or w c 0 = ap (λ k. get_or (set bounds c (get_or w c 0)) k 0) this ∙ get_or-set_same bounds c (get_or w c 0) 0 lt in
+            let entry : get_or (set bounds c (get_or w c 0)) i 0 ≡ get_or w c 0 = ap (λ k. get_or (set bounds c (get_or w c 0)) k 0) this
+            ∙ get_or-set_same bounds c (get_or w c 0) 0 lt in
             let there : get_or w i 0 ≡ get_or w c 0 = ap (λ k. get_or w k 0) this in
             inl (omega arith)
         | inr other ↦
             let entry = get_or-set_other bounds c i (get_or w c 0) 0 other in
             elim (less_or_not i c) [
               | inl below ↦ let e = same i below in inl (omega arith)
-              | inr above ↦ bound_enough d.capacity (full_capacity q d) (get_or (set bounds c (get_or w c 0)) i 0) (get_or w i 0) (entry ∙ low.ahead i d above here) (agrees i d here)
+              | inr above ↦ bound_enough d.capacity (full_capacity q d) (get_or (set bounds c (get_or w c 0)) i 0) (get_or w i 0) (entry
+                  ∙ low.ahead i d above here) (agrees i d here)
             ]
       ];
     })
@@ -122,7 +132,9 @@ before_set bounds w c b is =
     }
 
 -- a channel whose capacity is not given
-pub lowered_raised : (channels : List Channel) (q bounds next : List ℕ) (c b : ℕ) (channel : Channel) → slice_get channels c ≡ Some channel → channel.capacity ≡ None → next ≡ set bounds c b → IsLeastCapacity channels q bounds c b → IsLowered channels q c bounds → IsLowered channels q (suc c) next
+pub lowered_raised : (channels : List Channel) (q bounds next : List ℕ) (c b : ℕ) (channel : Channel) → slice_get channels c ≡ Some channel
+    → channel.capacity ≡ None → next ≡ set bounds c b → IsLeastCapacity channels q bounds c b → IsLowered channels q c bounds
+    → IsLowered channels q (suc c) next
 lowered_raised channels q bounds next c b channel is has pushed least low =
     let lt : c < length bounds = (let e = low.completes.each_channel in let h = slice_get_within channels c channel is in omega arith) in
     let here = get_or-set_same bounds c b 0 lt in
@@ -141,7 +153,8 @@ lowered_raised channels q bounds next c b channel is has pushed least low =
       least = λ w done agrees. elim (low.least w done agrees) [
         | inr before ↦ inr (before_set bounds w c b before)
         | inl same ↦
-            let keep : (j : ℕ) → j < c → get_or (set bounds c b) j 0 ≡ get_or w j 0 = λ j less. get_or-set_other bounds c j b 0 (λ e. absurd (omega arith)) ∙ same j less in
+            let keep : (j : ℕ) → j < c → get_or (set bounds c b) j 0 ≡ get_or w j 0 = λ j less. get_or-set_other bounds c j b 0 (λ e. absurd (omega arith))
+            ∙ same j less in
             elim (eq-or-lt_of_le (least.least (get_or w c 0) (entry_completes channels q bounds w c lt low same done agrees))) [
               | inl equal ↦ inl (λ j less. elim (same_or_not j c) [
                 | inl this ↦ subst (λ k. get_or (set bounds c b) k 0 ≡ get_or w k 0) (sym this) (here ∙ equal)
@@ -167,19 +180,23 @@ lowered_all channels q bounds low = record {
   completes = low.completes;
   agrees = low.agrees;
   least = λ w done agrees. elim (low.least w done agrees) [
-    | inl same ↦ inl (same_number_lists bounds w (low.completes.each_channel ∙ sym done.each_channel) (λ k lt. same k (let e = low.completes.each_channel in omega arith)))
+    | inl same ↦ inl (same_number_lists bounds w (low.completes.each_channel
+        ∙ sym done.each_channel) (λ k lt. same k (let e = low.completes.each_channel in omega arith)))
     | inr before ↦ inr before.before
   ];
 }
 
 -- ---- a channel as the code holds it
 
-pub seen_channel : (items : List ChannelCode) (channels : List Channel) (i : ℕ) (x : ChannelCode) → map channel_view items ≡ channels → i < length items → x ≡ get_or items i x → slice_get channels i ≡ Some (channel_view x)
+pub seen_channel : (items : List ChannelCode) (channels : List Channel) (i : ℕ) (x : ChannelCode) → map channel_view items ≡ channels → i < length items
+    → x ≡ get_or items i x → slice_get channels i ≡ Some (channel_view x)
 seen_channel items channels i x same lt is =
-    ap (λ cs. slice_get cs i) (sym same) ∙ slice_get_read (map channel_view items) (length items) i (channel_view x) (sym (length-map items channel_view)) lt (sym (channel_at items i x is))
+    ap (λ cs. slice_get cs i) (sym same) ∙ slice_get_read (map channel_view items) (length items) i (channel_view x) (sym (length-map items channel_view)) lt
+    (sym (channel_at items i x is))
 
 -- its ends are actors
-pub seen_ends : (g : Graph) (items : List ChannelCode) (i : ℕ) (x : ChannelCode) → IsWellFormed g → map channel_view items ≡ g.channels → i < length g.channels → x ≡ get_or items i x → (slice_get g.channels i ≡ Some (channel_view x)) × (x.from < length g.actors) × (x.to < length g.actors)
+pub seen_ends : (g : Graph) (items : List ChannelCode) (i : ℕ) (x : ChannelCode) → IsWellFormed g → map channel_view items ≡ g.channels → i < length g.channels
+    → x ≡ get_or items i x → (slice_get g.channels i ≡ Some (channel_view x)) × (x.from < length g.actors) × (x.to < length g.actors)
 seen_ends g items i x whole same lt is =
     let len = length-map items channel_view in
     let count = ap length same in
@@ -195,7 +212,8 @@ pub some_of : (o : Option ℕ) (b : Bool) → is_some o ≡ not b → b ≡ fals
 some_of None b is fails = absurd (false≢true (is ∙ ap not fails))
 some_of (Some x) b is fails = (x, refl)
 
-pub same_list : (f : List ℕ → List Channel → List ℕ) (q q2 : List ℕ) (channels channels2 : List Channel) → q2 ≡ q → channels2 ≡ channels → f q2 channels2 ≡ f q channels
+pub same_list : (f : List ℕ → List Channel → List ℕ) (q q2 : List ℕ) (channels channels2 : List Channel) → q2 ≡ q → channels2 ≡ channels
+    → f q2 channels2 ≡ f q channels
 same_list f q q2 channels channels2 same_q same_c = ap (λ ks. f ks channels2) same_q ∙ ap (f q) same_c
 
 -- capacities of so many channels add up to a number of 32 bits

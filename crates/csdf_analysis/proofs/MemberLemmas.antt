@@ -1,5 +1,6 @@
 -- What a merge makes of groups and entries.
-use Rattle.std.proofs.Common.{◌≡◌, ◌≢◌, ℕ, zero, suc, ◌+◌, ◌*◌, ◌<◌, ◌≤◌, ◌==◌, if◌then◌else◌, inl, inr, List, [], ◌∷◌, ◌++◌, length, take, drop, map, refl, sym, ap, ◌∙◌, arith}
+use Rattle.std.proofs.Common.{◌≡◌, ◌≢◌, ℕ, zero, suc, ◌+◌, ◌*◌, ◌<◌, ◌≤◌, ◌==◌, if◌then◌else◌, inl, inr, List, [], ◌∷◌, ◌++◌, length, take, drop, map, refl}
+use Rattle.std.proofs.Common.{sym, ap, ◌∙◌, arith}
 use Rattle.std.specs.Prelude.{All}
 use Rattle.std.proofs.lemmas.Bool.{cases_Bool, eqb-true, eq-eqb}
 use Rattle.std.proofs.Math.Seq.{take-append_seam, drop-append_seam}
@@ -15,7 +16,8 @@ pub All-front : {X : Type 0} (P : X → Type 0) (xs : List X) (x : X) → All P 
 All-front P xs x all = All-same P xs (take (length xs) (xs ++ x ∷ [])) (sym (take-append_seam xs (x ∷ []))) (All-take P (length xs) (xs ++ x ∷ []) all)
 
 pub All-last : {X : Type 0} (P : X → Type 0) (xs : List X) (x : X) → All P (xs ++ x ∷ []) → P x
-All-last P xs x all = All-head P x [] (All-same P (x ∷ []) (drop (length xs) (xs ++ x ∷ [])) (sym (drop-append_seam xs (x ∷ []))) (All-drop P (length xs) (xs ++ x ∷ []) all))
+All-last P xs x all = All-head P x [] (All-same P (x ∷ []) (drop (length xs) (xs ++ x ∷ [])) (sym (drop-append_seam xs (x ∷ [])))
+    (All-drop P (length xs) (xs ++ x ∷ []) all))
 
 -- ---- numbers
 
@@ -26,7 +28,8 @@ multiple_le (suc k) e w is some = let more : suc k * e ≡ k * e + e = omega ari
 
 -- ---- members
 
-pub group_moved : (m : Merge) (ms : List Member) (a : ℕ) → a < length ms → group_at (map (moved m) ms) a ≡ (if group_at ms a == m.gone then m.into else group_at ms a)
+pub group_moved : (m : Merge) (ms : List Member) (a : ℕ) → a < length ms
+    → group_at (map (moved m) ms) a ≡ (if group_at ms a == m.gone then m.into else group_at ms a)
 group_moved m ms a lt = ap (λ (x : Member). x.group) (get_or-map (moved m) ms a nobody nobody lt)
 
 pub entry_moved : (m : Merge) (ms : List Member) (a : ℕ) → a < length ms → entry_at (map (moved m) ms) a ≡ entry_at ms a * factor m (group_at ms a)
@@ -41,9 +44,11 @@ pub multiple_moved : (m : Merge) (k : ℕ → ℕ) (j r e w : ℕ) → k m.gone 
     w ≡ multiplier m k j (if r == m.gone then m.into else r) * (e * factor m r)
 multiple_moved m k j r e w at_gone at_into is =
     elim (cases_Bool (r == m.gone)) [
-      | inl y ↦ rw (y, eq-eqb m.into m.into refl) (is ∙ ap (λ n. k n * e) (eqb-true r m.gone y) ∙ ap (λ n. n * e) at_gone ∙ (let order : (j * m.gone_factor) * e ≡ j * (e * m.gone_factor) = omega arith in order))
+      | inl y ↦ rw (y, eq-eqb m.into m.into refl) (is ∙ ap (λ n. k n * e) (eqb-true r m.gone y) ∙ ap (λ n. n * e) at_gone
+          ∙ (let order : (j * m.gone_factor) * e ≡ j * (e * m.gone_factor) = omega arith in order))
       | inr n ↦ rw n (elim (cases_Bool (r == m.into)) [
-        | inl y ↦ rw y (is ∙ ap (λ n. k n * e) (eqb-true r m.into y) ∙ ap (λ n. n * e) at_into ∙ (let order : (j * m.into_factor) * e ≡ j * (e * m.into_factor) = omega arith in order))
+        | inl y ↦ rw y (is ∙ ap (λ n. k n * e) (eqb-true r m.into y) ∙ ap (λ n. n * e) at_into
+            ∙ (let order : (j * m.into_factor) * e ≡ j * (e * m.into_factor) = omega arith in order))
         | inr n2 ↦ rw n2 (is ∙ (let order : k r * e ≡ k r * (e * 1) = omega arith in order))
       ])
     ]

@@ -22,12 +22,14 @@ after_full q n c a from left =
     let more : produced c (suc (get_or n a 0)) ≤ produced c (get_or q a 0) = total_mono c.produce (suc (get_or n a 0)) (get_or q a 0) (omega arith) in
     omega arith
 
-schedule_within : (channels : List Channel) (q bounds more n actors : List ℕ) → AreEnough channels q bounds more → IsSchedule channels bounds n actors → counts_after n actors ≡ q → IsSchedule channels more n actors
+schedule_within : (channels : List Channel) (q bounds more n actors : List ℕ) → AreEnough channels q bounds more → IsSchedule channels bounds n actors
+    → counts_after n actors ≡ q → IsSchedule channels more n actors
 schedule_within channels q bounds more n [] enough able leads = tt
 schedule_within channels q bounds more n (a ∷ actors) enough able leads =
     let can = able.0 in
     let one = fired_same n a can.exists in
-    let rest : get_or (fired n a) a 0 ≤ get_or q a 0 = subst (λ ks. get_or (fired n a) a 0 ≤ get_or ks a 0) leads (after_more channels bounds (fired n a) actors a able.1) in
+    let rest : get_or (fired n a) a 0 ≤ get_or q a 0 =
+    subst (λ ks. get_or (fired n a) a 0 ≤ get_or ks a 0) leads (after_more channels bounds (fired n a) actors a able.1) in
     let left : get_or n a 0 < get_or q a 0 = omega arith in (
       record {
         exists = can.exists;
@@ -41,7 +43,8 @@ schedule_within channels q bounds more n (a ∷ actors) enough able leads =
     )
 
 -- such capacities complete what the others do
-pub enough_complete : (channels : List Channel) (q bounds more : List ℕ) → CompletesPeriod channels q bounds → length more ≡ length channels → AreEnough channels q bounds more → CompletesPeriod channels q more
+pub enough_complete : (channels : List Channel) (q bounds more : List ℕ) → CompletesPeriod channels q bounds → length more ≡ length channels
+    → AreEnough channels q bounds more → CompletesPeriod channels q more
 enough_complete channels q bounds more completes len enough = record {
   each_channel = len;
   initial = λ i c at. (let fits = completes.initial i c at in elim (enough.enough i c at) [ inl le ↦ omega arith | inr le ↦ omega arith ]);
@@ -55,13 +58,16 @@ enough_complete channels q bounds more completes len enough = record {
 -- ---- the laws
 
 pub greater_complete : GreaterCapacitiesComplete
-greater_complete channels q bounds greater completes len within = enough_complete channels q bounds greater completes len (record { enough = λ i c at. inl (within i) })
+greater_complete channels q bounds greater completes len within =
+    enough_complete channels q bounds greater completes len (record { enough = λ i c at. inl (within i) })
 
 min_or : (a b m : ℕ) → m ≡ min a b → (a ≤ m) ⊎ (b ≤ m)
 min_or a b m e = elim (less_or_not a b) [ inl lt ↦ inl (omega arith) | inr le ↦ inr (omega arith) ]
 
 pub full_suffices : FullCapacitySuffices
-full_suffices channels q bounds capped completes are = enough_complete channels q bounds capped completes are.each_channel (record { enough = λ i c at. min_or (get_or bounds i 0) (full_capacity q c) (get_or capped i 0) (are.least i c at) })
+full_suffices channels q bounds capped completes are =
+    enough_complete channels q bounds capped completes are.each_channel
+    (record { enough = λ i c at. min_or (get_or bounds i 0) (full_capacity q c) (get_or capped i 0) (are.least i c at) })
 
 pub every_goes_on : EveryScheduleGoesOn
 every_goes_on channels q bounds schedule completes able within =

@@ -1,12 +1,14 @@
 -- A firing makes none able but its actor and those at the other ends of its channels.
-use Rattle.std.proofs.Common.{◌≡◌, ℕ, zero, suc, ◌+◌, ◌-◌, ◌*◌, ◌%◌, ◌^◌, ◌<◌, ◌≤◌, ◌==◌, ◌⊎◌, inl, inr, cond, List, [], ◌∷◌, ◌++◌, length, get_or, sym, ap, subst, ◌∙◌, arith}
+use Rattle.std.proofs.Common.{◌≡◌, ℕ, zero, suc, ◌+◌, ◌-◌, ◌*◌, ◌%◌, ◌^◌, ◌<◌, ◌≤◌, ◌==◌, ◌⊎◌, inl, inr, cond, List, [], ◌∷◌, ◌++◌, length, get_or, sym, ap}
+use Rattle.std.proofs.Common.{subst, ◌∙◌, arith}
 use Rattle.std.specs.Prelude.{slice_get, Some}
 use Rattle.std.specs.Int.{bit_at, bit_not, trailing_zeros, w64}
 use Rattle.std.specs.Int.Bits.{bit_and, bit_or}
 use Rattle.std.proofs.Math.Seq.{get_or-append_seam}
 use Rattle.std.proofs.lemmas.List.{get_or_append_left, length_push}
 use Rattle.std.proofs.lemmas.Nat.{and_le_l}
-use Rattle.std.proofs.lemmas.Nat.Bits.{bit_at-zero, bit_at-lt, bit_at_and, bit_at_or, bit_at_above, bit_at_set_same, bit_at_set_other, bit_at_clear_same, bit_at_clear_other, bit_at-trailing_zeros}
+use Rattle.std.proofs.lemmas.Nat.Bits.{bit_at-zero, bit_at-lt, bit_at_and, bit_at_or, bit_at_above, bit_at_set_same, bit_at_set_other, bit_at_clear_same}
+use Rattle.std.proofs.lemmas.Nat.Bits.{bit_at_clear_other, bit_at-trailing_zeros}
 use Rattle.std.proofs.lemmas.Bool.{eq-eqb}
 use Rattle.csdf_graph.specs.Graph.{Channel, inputs_of, outputs_of}
 use Rattle.csdf_graph.specs.Rates.{produced, consumed, production, consumption}
@@ -119,7 +121,8 @@ held_apart n a c from to =
     omega arith
 
 -- an actor that is apart from the one that fired was able before
-apart_before : (channels : List Channel) (q bounds n : List ℕ) (mask a b : ℕ) → AreWoken channels a mask → (IsIn mask b → ⊥) → CanGo channels q bounds (fired n a) b → CanGo channels q bounds n b
+apart_before : (channels : List Channel) (q bounds n : List ℕ) (mask a b : ℕ) → AreWoken channels a mask → (IsIn mask b → ⊥)
+    → CanGo channels q bounds (fired n a) b → CanGo channels q bounds n b
 apart_before channels q bounds n mask a b woken off go =
     let other : b ≡ a → ⊥ = λ e. off (subst (IsIn mask) (sym e) woken.own) in
     let count : get_or (fired n a) b 0 ≡ get_or n b 0 = fired_other n a b other in
@@ -144,7 +147,8 @@ apart_before channels q bounds n mask a b woken off go =
     }
 
 -- a set with all that were able but the actor itself, and with those that it wakes, has all that are able after it fired
-pub woken_able : (channels : List Channel) (q bounds n : List ℕ) (mask a : ℕ) → AreWoken channels a mask → ((b : ℕ) → CanGo channels q bounds n b → (b ≡ a) ⊎ IsIn mask b) → HasAble channels q bounds (fired n a) mask
+pub woken_able : (channels : List Channel) (q bounds n : List ℕ) (mask a : ℕ) → AreWoken channels a mask
+    → ((b : ℕ) → CanGo channels q bounds n b → (b ≡ a) ⊎ IsIn mask b) → HasAble channels q bounds (fired n a) mask
 woken_able channels q bounds n mask a woken before b go = elim (in_or_not mask b) [
   | inl has ↦ has
   | inr off ↦ elim (before b (apart_before channels q bounds n mask a b woken off go)) [
@@ -155,7 +159,8 @@ woken_able channels q bounds n mask a woken before b go = elim (in_or_not mask b
 
 -- ---- masks made one by one
 
-pub neighbours_more : (channels : List Channel) (n k m : ℕ) (masks next : List ℕ) → next ≡ masks ++ m ∷ [] → AreWoken channels k m → AreActors n m → AreNeighbours channels n k masks → AreNeighbours channels n (k + 1) next
+pub neighbours_more : (channels : List Channel) (n k m : ℕ) (masks next : List ℕ) → next ≡ masks ++ m ∷ [] → AreWoken channels k m → AreActors n m
+    → AreNeighbours channels n k masks → AreNeighbours channels n (k + 1) next
 neighbours_more channels n k m masks next pushed woken actors are =
     let here : get_or (masks ++ m ∷ []) k 0 ≡ m = ap (λ j. get_or (masks ++ m ∷ []) j 0) (sym are.count) ∙ get_or-append_seam masks m [] 0 in
     subst (AreNeighbours channels n (k + 1)) (sym pushed) (record {

@@ -16,7 +16,8 @@ pub record IsBetween (n : ℕ) (c : Channel) : Type 0 where
   pub to : c.to < n
   pub small : All (λ x. x ≤ 64) c.produce
 
--- at most 128 channels between the actors, with full capacities up to 65,535, some token put into each in a period, and so many firings that their number fits 32 bits
+-- at most 128 channels between the actors, with full capacities up to 65,535, some token put into each in a period, and so many firings that their number fits
+-- 32 bits
 pub record IsFit (channels : List Channel) (q : List ℕ) : Type 0 where
   pub between : All (IsBetween (length q)) channels
   pub few : length channels ≤ 128

@@ -1,5 +1,6 @@
 -- How the least vector is found: the channels looked at join actors to groups, and each group has a least vector of its own.
-use Rattle.std.specs.Prelude.{◌≡◌, ℕ, ◌*◌, ◌/◌, ◌<◌, ◌≤◌, ◌==◌, if◌then◌else◌, List, [], ◌∷◌, ◌++◌, length, map, All, Option, Some, None, slice_index, slice_index_or}
+use Rattle.std.specs.Prelude.{◌≡◌, ℕ, ◌*◌, ◌/◌, ◌<◌, ◌≤◌, ◌==◌, if◌then◌else◌, List, [], ◌∷◌, ◌++◌, length, map, All, Option, Some, None, slice_index}
+use Rattle.std.specs.Prelude.{slice_index_or}
 use Rattle.std.specs.List.{range_with_len}
 use Rattle.csdf_graph.specs.Graph.{Actor, Channel}
 use Rattle.csdf_analysis.specs.declared.members.Member.{Member}
@@ -37,7 +38,8 @@ pub record AreMembers (actors : List Actor) (channels : List Channel) (members :
   pub ends : All (λ c. (c.from < length actors) × (c.to < length actors)) channels
   pub balanced : All (λ c. entry_at members c.from * cycle_produced actors c ≡ entry_at members c.to * cycle_consumed actors c) channels
   pub joined : All (λ c. group_at members c.from ≡ group_at members c.to) channels
-  pub every : (w : List ℕ) → Balances actors w channels → (k : ℕ → ℕ) × ((a : ℕ) → a < length actors → slice_index w a ≡ k (group_at members a) * entry_at members a)
+  pub every : (w : List ℕ) → Balances actors w channels → (k : ℕ → ℕ)
+      × ((a : ℕ) → a < length actors → slice_index w a ≡ k (group_at members a) * entry_at members a)
 
 -- each actor in a group of its own
 abbrev pub alone : ℕ → List Member
@@ -55,7 +57,8 @@ abbrev pub Moves : Merge → List Member → Option (List Member) → Type 0
 Moves m members None = (a : ℕ) × (a < length members) × (1024 < entry_at (map (moved m) members) a)
 Moves m members (Some next) = (next ≡ map (moved m) members) × All (λ a. a.entry ≤ 1024) next
 
--- the group of one member goes into that of another, where a cycle of the one, as often as its entry, puts in so many tokens, and of the other takes out so many: the factors are what a greatest common divisor leaves of these
+-- the group of one member goes into that of another, where a cycle of the one, as often as its entry, puts in so many tokens, and of the other takes out so
+-- many: the factors are what a greatest common divisor leaves of these
 pub record IsMergeOf (from to : Member) (put taken : ℕ) (m : Merge) : Type 0 where
   pub gone : m.gone ≡ from.group
   pub into : m.into ≡ to.group

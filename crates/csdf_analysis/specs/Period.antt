@@ -65,7 +65,8 @@ pub record IsNext (channels : List Channel) (q bounds n : List ℕ) (a : ℕ) : 
   pub can_go : CanGo channels q bounds n a
   pub lowest : (b : ℕ) → b < a → CanGo channels q bounds n b → ⊥
 
--- the printed schedule from these counts on: at each place the lowest-numbered actor that is able to fire and has fired less often than in a period; it leads to the counts of the period
+-- the printed schedule from these counts on: at each place the lowest-numbered actor that is able to fire and has fired less often than in a period; it leads
+-- to the counts of the period
 abbrev pub IsScheduleFrom : List Channel → List ℕ → List ℕ → List ℕ → List ℕ → Type 0
 IsScheduleFrom channels q bounds n [] = n ≡ q
 IsScheduleFrom channels q bounds n (a ∷ actors) = IsNext channels q bounds n a × IsScheduleFrom channels q bounds (fired n a) actors

@@ -23,7 +23,8 @@ IsRight channels n lengths i = (c : Channel) → slice_get channels i ≡ Some c
 abbrev pub AreHeld : List Channel → List ℕ → List ℕ → Type 0
 AreHeld channels n lengths = (i : ℕ) → IsRight channels n lengths i
 
--- the counts were reached by a schedule under the bounds, none is above the firings of the period, and the lengths and the number of firings are those of these counts
+-- the counts were reached by a schedule under the bounds, none is above the firings of the period, and the lengths and the number of firings are those of these
+-- counts
 pub record IsAt (channels : List Channel) (q bounds counts lengths : List ℕ) (firings : ℕ) : Type 0 where
   pub each_bound : length bounds ≡ length channels
   pub each_actor : length counts ≡ length q

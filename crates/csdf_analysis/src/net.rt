@@ -30,7 +30,8 @@ impl<'a> Model for Net<'a> {
 
     ghost view = { λ n. record { actors = n.graph.now.actors; channels = n.graph.now.channels; firings = n.firings.now } };
 
-    ghost invariant = { λ n. IsFit n.graph.now.channels n.firings.now × IsPhased n.graph.now.actors n.graph.now.channels n.firings.now × AreNeighbours n.graph.now.channels (length n.firings.now) (length n.firings.now) n.neighbours.items };
+    ghost invariant = { λ n. IsFit n.graph.now.channels n.firings.now × IsPhased n.graph.now.actors n.graph.now.channels n.firings.now
+        × AreNeighbours n.graph.now.channels (length n.firings.now) (length n.firings.now) n.neighbours.items };
 }
 
 impl<'a> Net<'a> {

@@ -1,6 +1,7 @@
 //! A run of a period: actors fire as long as one can.
 
-ghost use Rattle.std.specs.Prelude.{◌≡◌, ◌+◌, ◌-◌, ◌%◌, ◌<◌, ◌≤◌, ◌↔◌, ◌==◌, if◌then◌else◌, ◌⊎◌, ℕ, IfOk, IsTrue, MatchOption, Some, length, replicate, slice_get, slice_index, slice_set, sum};
+ghost use Rattle.std.specs.Prelude.{◌≡◌, ◌+◌, ◌-◌, ◌%◌, ◌<◌, ◌≤◌, ◌↔◌, ◌==◌, if◌then◌else◌, ◌⊎◌, ℕ, IfOk, IsTrue, MatchOption, Some, length, replicate};
+ghost use Rattle.std.specs.Prelude.{slice_get, slice_index, slice_set, sum};
 ghost use Rattle.csdf_graph.specs.Graph.{Channel as ChannelModel, phases_of};
 ghost use Rattle.csdf_graph.specs.Rates.{consumption};
 ghost use Rattle.csdf_analysis.specs.Fitting.{IsFit, IsPhased};
@@ -57,8 +58,10 @@ fn take(net: &Net, actor: u32, phase: u32, lengths: &mut [u32])
     requires exists { actor < length net.now.firings }
     requires phase { phase < phases_of net.now.actors actor }
     requires each_channel { length lengths.old ≡ length net.now.channels }
-    requires enough { (i : ℕ) (c : ChannelModel) → slice_get net.now.channels i ≡ Some c → c.to ≡ actor → slice_index c.consume phase ≤ slice_index lengths.old i }
-    ensures { (i : ℕ) (c : ChannelModel) → slice_get net.now.channels i ≡ Some c → slice_index lengths.new i ≡ (if c.to == actor then slice_index lengths.old i - slice_index c.consume phase else slice_index lengths.old i) }
+    requires enough { (i : ℕ) (c : ChannelModel) → slice_get net.now.channels i ≡ Some c → c.to ≡ actor
+        → slice_index c.consume phase ≤ slice_index lengths.old i }
+    ensures { (i : ℕ) (c : ChannelModel) → slice_get net.now.channels i ≡ Some c
+        → slice_index lengths.new i ≡ (if c.to == actor then slice_index lengths.old i - slice_index c.consume phase else slice_index lengths.old i) }
 {
     for number in net.inputs(actor) {
         lengths[*number as usize] -= net.consumption(*number, phase);
@@ -72,7 +75,8 @@ fn put(net: &Net, actor: u32, phase: u32, lengths: &mut [u32])
     requires phase { phase < phases_of net.now.actors actor }
     requires each_channel { length lengths.old ≡ length net.now.channels }
     requires small { (i : ℕ) (c : ChannelModel) → slice_get net.now.channels i ≡ Some c → slice_index lengths.old i ≤ 65535 }
-    ensures { (i : ℕ) (c : ChannelModel) → slice_get net.now.channels i ≡ Some c → slice_index lengths.new i ≡ (if c.from == actor then slice_index lengths.old i + slice_index c.produce phase else slice_index lengths.old i) }
+    ensures { (i : ℕ) (c : ChannelModel) → slice_get net.now.channels i ≡ Some c
+        → slice_index lengths.new i ≡ (if c.from == actor then slice_index lengths.old i + slice_index c.produce phase else slice_index lengths.old i) }
 {
     for number in net.outputs(actor) {
         lengths[*number as usize] += net.production(*number, phase);
@@ -126,8 +130,10 @@ impl Run {
         requires run { IsRun net.now self.now }
         requires exists { number < length net.now.channels }
         requires within { (c : ChannelModel) → slice_get net.now.channels number ≡ Some c → phase < phases_of net.now.actors c.to }
-        requires phase { (c : ChannelModel) → slice_get net.now.channels number ≡ Some c → phase ≡ slice_index self.now.counts.items c.to % phases_of net.now.actors c.to }
-        ensures { IsTrue result ↔ ((c : ChannelModel) → slice_get net.now.channels number ≡ Some c → consumption c (slice_index self.now.counts.items c.to) ≤ held c self.now.counts.items) }
+        requires phase { (c : ChannelModel) → slice_get net.now.channels number ≡ Some c
+            → phase ≡ slice_index self.now.counts.items c.to % phases_of net.now.actors c.to }
+        ensures { IsTrue result ↔ ((c : ChannelModel) → slice_get net.now.channels number ≡ Some c
+            → consumption c (slice_index self.now.counts.items c.to) ≤ held c self.now.counts.items) }
     {
         net.consumption(number, phase) <= self.lengths[number as usize]
     }
@@ -193,7 +199,8 @@ impl Run {
     pub(crate) fn next(&self, net: &Net, waiting: &mut u64) -> Option<u32>
         requires run { IsRun net.now self.now }
         requires waiting { AreWaiting net.now.channels net.now.firings self.now.bounds.items self.now.counts.items waiting.old }
-        ensures found { MatchOption result (IsStalled net.now.channels net.now.firings self.now.bounds.items self.now.counts.items) (IsNext net.now.channels net.now.firings self.now.bounds.items self.now.counts.items) }
+        ensures found { MatchOption result (IsStalled net.now.channels net.now.firings self.now.bounds.items self.now.counts.items)
+            (IsNext net.now.channels net.now.firings self.now.bounds.items self.now.counts.items) }
         ensures waiting { AreWaiting net.now.channels net.now.firings self.now.bounds.items self.now.counts.items waiting.new }
     {
         while let Some(actor) = lowest(*waiting) {

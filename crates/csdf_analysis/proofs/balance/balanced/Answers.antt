@@ -15,7 +15,8 @@ loop-place-init c =
 
 pub joined-requires-clause-channel : goal.joined-requires-clause-channel
 joined-requires-clause-channel c =
-    channel_has (IsLink (map actor_view c.args.actors.now)) c.args.channels.now c.loop-place.place c.index-channels-place.result c.loop-place-test.true c.index-channels-place.is c.requires.channels
+    channel_has (IsLink (map actor_view c.args.actors.now)) c.args.channels.now c.loop-place.place c.index-channels-place.result c.loop-place-test.true
+    c.index-channels-place.is c.requires.channels
 
 pub returns-in-None-clause-refusal : goal.returns-in-None-clause-refusal
 returns-in-None-clause-refusal c =
@@ -24,7 +25,8 @@ returns-in-None-clause-refusal c =
     let channel = channel_view c.index-channels-place.result in
     let len = length-map c.args.channels.now channel_view in
     let here : c.loop-place.place < length channels = omega (arith, len, c.loop-place-test.true) in
-    first_unbalanced actors channels c.loop-place.members.items c.loop-place.place channel here (channel_at c.args.channels.now c.loop-place.place c.index-channels-place.result c.index-channels-place.is) c.loop-place.invariant
+    first_unbalanced actors channels c.loop-place.members.items c.loop-place.place channel here
+    (channel_at c.args.channels.now c.loop-place.place c.index-channels-place.result c.index-channels-place.is) c.loop-place.invariant
     (subst (λ o. Joins actors channel c.loop-place.members.items (option_map (λ v. v.items) o)) c.in-None.is c.in_ok-next.ensures)
 
 pub loop-place-preserved : goal.loop-place-preserved
@@ -34,5 +36,6 @@ loop-place-preserved c =
     let channel = channel_view c.index-channels-place.result in
     let len = length-map c.args.channels.now channel_view in
     let here : c.loop-place.place < length channels = omega (arith, len, c.loop-place-test.true) in
-    next_members actors channels c.loop-place.members.items c.in-Some.next.items c.loop-place.place channel here (channel_at c.args.channels.now c.loop-place.place c.index-channels-place.result c.index-channels-place.is) c.loop-place.invariant
+    next_members actors channels c.loop-place.members.items c.in-Some.next.items c.loop-place.place channel here
+    (channel_at c.args.channels.now c.loop-place.place c.index-channels-place.result c.index-channels-place.is) c.loop-place.invariant
     (subst (λ o. Joins actors channel c.loop-place.members.items (option_map (λ v. v.items) o)) c.in-Some.is c.in_ok-next.ensures)

@@ -13,7 +13,8 @@ returns-then-from-to c =
     let channel = channel_view c.args.channel.now in
     let members = c.args.members.items in
     let link = c.requires.channel in
-    let merge = merge_read actors channel members c.merge_of.result c.index-from.result.now c.index-to.result.now c.put_in-put.result c.taken_out-taken.result link c.requires.members
+    let merge = merge_read actors channel members c.merge_of.result c.index-from.result.now c.index-to.result.now c.put_in-put.result c.taken_out-taken.result
+    link c.requires.members
     c.index-from.ensures c.index-to.ensures c.put_in-put.ensures c.taken_out-taken.ensures c.if-from-to.true c.merge_of.ensures in
     IfOk-weaker c.merged.result _ _ (λ next moves.
     merge_joins actors channel members c.merge_of.result c.merge_of.ensures.divisor link merge (option_map (λ v. v.items) next)
@@ -25,9 +26,11 @@ returns-then-put-taken c =
     let channel = channel_view c.args.channel.now in
     let members = c.args.members.items in
     let link = c.requires.channel in
-    let group = same_group_read actors channel members c.index-from.result.now c.index-to.result.now link c.requires.members c.index-from.ensures c.index-to.ensures c.if-from-to.false in
+    let group = same_group_read actors channel members c.index-from.result.now c.index-to.result.now link c.requires.members c.index-from.ensures
+    c.index-to.ensures c.if-from-to.false in
     let put = put_read actors channel members c.index-from.result.now c.put_in-put.result link c.requires.members c.index-from.ensures c.put_in-put.ensures in
-    let taken = taken_read actors channel members c.index-to.result.now c.taken_out-taken.result link c.requires.members c.index-to.ensures c.taken_out-taken.ensures in
+    let taken = taken_read actors channel members c.index-to.result.now c.taken_out-taken.result link c.requires.members c.index-to.ensures
+    c.taken_out-taken.ensures in
     λ done kept. same_keeps actors done channel members link group (sym put ∙ c.if-put-taken.true ∙ taken) kept
 
 pub returns-else-put-taken : goal.returns-else-put-taken
@@ -36,7 +39,9 @@ returns-else-put-taken c =
     let channel = channel_view c.args.channel.now in
     let members = c.args.members.items in
     let link = c.requires.channel in
-    let group = same_group_read actors channel members c.index-from.result.now c.index-to.result.now link c.requires.members c.index-from.ensures c.index-to.ensures c.if-from-to.false in
+    let group = same_group_read actors channel members c.index-from.result.now c.index-to.result.now link c.requires.members c.index-from.ensures
+    c.index-to.ensures c.if-from-to.false in
     let put = put_read actors channel members c.index-from.result.now c.put_in-put.result link c.requires.members c.index-from.ensures c.put_in-put.ensures in
-    let taken = taken_read actors channel members c.index-to.result.now c.taken_out-taken.result link c.requires.members c.index-to.ensures c.taken_out-taken.ensures in
+    let taken = taken_read actors channel members c.index-to.result.now c.taken_out-taken.result link c.requires.members c.index-to.ensures
+    c.taken_out-taken.ensures in
     λ done kept can. same_refuses actors done channel members link group (λ same. c.if-put-taken.false (put ∙ same ∙ sym taken)) kept can

@@ -8,7 +8,8 @@ pub returns-clause-less : goal.returns-clause-less
 returns-clause-less c = clear_less c.args.mask c.args.actor (in_below c.args.mask c.args.actor c.ranges.mask.fits c.requires) c.requires
 
 pub returns-clause-others : goal.returns-clause-others
-returns-clause-others c = λ a set. clear_others c.args.mask c.args.actor a (in_below c.args.mask c.args.actor c.ranges.mask.fits c.requires) c.ranges.mask.fits set
+returns-clause-others c = λ a set. clear_others c.args.mask c.args.actor a (in_below c.args.mask c.args.actor c.ranges.mask.fits c.requires) c.ranges.mask.fits
+    set
 
 pub returns-clause-kept : goal.returns-clause-kept
 returns-clause-kept c = λ a set. clear_kept c.args.mask c.args.actor a set

@@ -9,18 +9,23 @@ pub with_actor-mask-requires : goal.with_actor-mask-requires
 with_actor-mask-requires c =
     let numbers = c.inputs-number-items.result.now in
     let k = c.loop-number.number-index in
-    let ends = seen_ends c.args.graph.now c.channels-channels.result.now (get_or numbers k 0) c.index-channels-number.result c.channels-channels.ensures.well_formed c.channels-channels.ensures.value (c.inputs-number-items.ensures.within k 0 c.loop-number-test.true) c.index-channels-number.is in
+    let ends = seen_ends c.args.graph.now c.channels-channels.result.now (get_or numbers k 0) c.index-channels-number.result
+    c.channels-channels.ensures.well_formed c.channels-channels.ensures.value (c.inputs-number-items.ensures.within k 0 c.loop-number-test.true)
+    c.index-channels-number.is in
     omega (arith, ends.1, c.requires.few)
 
 pub loop-number-preserved : goal.loop-number-preserved
 loop-number-preserved c =
     let numbers = c.inputs-number-items.result.now in
     let k = c.loop-number.number-index in
-    let ends = seen_ends c.args.graph.now c.channels-channels.result.now (get_or numbers k 0) c.index-channels-number.result c.channels-channels.ensures.well_formed c.channels-channels.ensures.value (c.inputs-number-items.ensures.within k 0 c.loop-number-test.true) c.index-channels-number.is in
+    let ends = seen_ends c.args.graph.now c.channels-channels.result.now (get_or numbers k 0) c.index-channels-number.result
+    c.channels-channels.ensures.well_formed c.channels-channels.ensures.value (c.inputs-number-items.ensures.within k 0 c.loop-number-test.true)
+    c.index-channels-number.is in
     record {
       kept = λ a set. c.with_actor-mask.ensures.kept a (c.loop-number.invariant.kept a set);
       so_far = below_more _ _ (λ j lt d at. c.with_actor-mask.ensures.kept d.from (c.loop-number.invariant.so_far j lt d at))
-          (λ d at. (let seen = ends.0 in let same : channel_view c.index-channels-number.result ≡ d = cc in subst (λ (e : Channel). IsIn c.with_actor-mask.result e.from) same c.with_actor-mask.ensures.added));
+          (λ d at. (let seen = ends.0 in let same : channel_view c.index-channels-number.result ≡ d = cc in
+          subst (λ (e : Channel). IsIn c.with_actor-mask.result e.from) same c.with_actor-mask.ensures.added));
       actors = λ a set. elim (c.with_actor-mask.ensures.others a set) [
         | inl this ↦ subst (λ n. n < length c.args.graph.now.actors) (sym this) ends.1
         | inr has ↦ c.loop-number.invariant.actors a has
@@ -28,4 +33,5 @@ loop-number-preserved c =
     }
 
 pub returns-clause-producers : goal.returns-clause-producers
-returns-clause-producers c = producers_all _ c.inputs-number-items.result.now _ _ c.loop-number.number-index c.inputs-number-items.ensures.value c.loop-number-test.false c.loop-number.invariant.so_far
+returns-clause-producers c = producers_all _ c.inputs-number-items.result.now _ _ c.loop-number.number-index c.inputs-number-items.ensures.value
+    c.loop-number-test.false c.loop-number.invariant.so_far

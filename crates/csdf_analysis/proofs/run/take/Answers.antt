@@ -6,7 +6,9 @@ use Rattle.csdf_analysis.proofs.run.take.Goals as goal
 
 pub consumption-requires-clause-phase : goal.consumption-requires-clause-phase
 consumption-requires-clause-phase c = λ d at.
-    subst (λ b. c.args.phase < phases_of c.args.net.now.actors b) (sym (input_end _ c.inputs-number-items.result.now c.args.actor c.loop-number.number-index d c.inputs-number-items.ensures.value c.loop-number-test.true at)) c.requires.phase
+    subst (λ b. c.args.phase < phases_of c.args.net.now.actors b)
+    (sym (input_end _ c.inputs-number-items.result.now c.args.actor c.loop-number.number-index d c.inputs-number-items.ensures.value c.loop-number-test.true
+    at)) c.requires.phase
 
 pub overflow_sub-lengths : goal.overflow_sub-lengths
 overflow_sub-lengths c =
@@ -23,10 +25,13 @@ pub loop-number-preserved : goal.loop-number-preserved
 loop-number-preserved c =
     let numbers = c.inputs-number-items.result.now in
     let k = c.loop-number.number-index in
-    let within : get_or numbers k 0 < length c.loop-number.lengths = omega (arith, c.inputs-number-items.ensures.within k 0 c.loop-number-test.true, c.requires.each_channel, c.loop-number.auto.lengths) in
-    one_changed _ (λ (e : Channel). e.to == c.args.actor) _ numbers _ c.loop-number.lengths _ k _ c.inputs-number-items.ensures.value c.loop-number-test.true within refl
+    let within : get_or numbers k 0 < length c.loop-number.lengths =
+    omega (arith, c.inputs-number-items.ensures.within k 0 c.loop-number-test.true, c.requires.each_channel, c.loop-number.auto.lengths) in
+    one_changed _ (λ (e : Channel). e.to == c.args.actor) _ numbers _ c.loop-number.lengths _ k _ c.inputs-number-items.ensures.value c.loop-number-test.true
+    within refl
     (λ d at. ap (λ r. get_or c.loop-number.lengths (get_or numbers k 0) 0 - r) (c.consumption.ensures.value d at)) c.loop-number.invariant
 
 pub returns : goal.returns
 returns c =
-    all_changed _ (λ (e : Channel). e.to == c.args.actor) _ c.inputs-number-items.result.now _ _ c.loop-number.number-index c.inputs-number-items.ensures.value c.loop-number-test.false c.loop-number.auto.number-index-end c.loop-number.invariant
+    all_changed _ (λ (e : Channel). e.to == c.args.actor) _ c.inputs-number-items.result.now _ _ c.loop-number.number-index c.inputs-number-items.ensures.value
+    c.loop-number-test.false c.loop-number.auto.number-index-end c.loop-number.invariant

@@ -10,7 +10,8 @@ pub completes-requires-2-clause-initial : goal.completes-requires-2-clause-initi
 completes-requires-2-clause-initial c =
     let channels = c.args.graph.now.channels in
     let first = c.in_ok-bounds.ensures ∙ same_list first_bounds _ _ _ _ c.deref-3.ensures.value c.channels-2.ensures.value in
-    subst (HoldInitial channels) (sym (c.deref-4.ensures.value ∙ first)) (first_initial c.args.graph.now c.args.vector.now.q.items c.channels.ensures.well_formed)
+    subst (HoldInitial channels) (sym (c.deref-4.ensures.value ∙ first))
+    (first_initial c.args.graph.now c.args.vector.now.q.items c.channels.ensures.well_formed)
 
 pub returns-then-not-branch-2-clause-refusal : goal.returns-then-not-branch-2-clause-refusal
 returns-then-not-branch-2-clause-refusal c =
@@ -19,7 +20,8 @@ returns-then-not-branch-2-clause-refusal c =
     let full = c.in_ok-full.ensures ∙ same_list full_capacities _ _ _ _ c.deref.ensures.value c.channels.ensures.value in
     let first = c.in_ok-bounds.ensures ∙ same_list first_bounds _ _ _ _ c.deref-3.ensures.value c.channels-2.ensures.value in
     too_tight channels q (subst (CompletesPeriod channels q) (c.deref-2.ensures.value ∙ full) (c.in_ok-completes.ensures.0 c.if-not-branch.false))
-    (λ completes. false≢true (sym c.if-not-branch-2.true ∙ c.in_ok-completes-2.ensures.1 (subst (CompletesPeriod channels q) (sym (c.deref-4.ensures.value ∙ first)) completes)))
+    (λ completes. false≢true (sym c.if-not-branch-2.true
+    ∙ c.in_ok-completes-2.ensures.1 (subst (CompletesPeriod channels q) (sym (c.deref-4.ensures.value ∙ first)) completes)))
 
 pub lowered-requires-clause-first : goal.lowered-requires-clause-first
 lowered-requires-clause-first c =
@@ -27,7 +29,8 @@ lowered-requires-clause-first c =
     let q = c.args.vector.now.q.items in
     let first = c.in_ok-bounds.ensures ∙ same_list first_bounds _ _ _ _ c.deref-3.ensures.value c.channels-2.ensures.value in
     subst (IsLowered channels q 0) (sym first)
-    (lowered_first c.args.graph.now c.args.vector.now.r.items q c.channels.ensures.well_formed c.requires (subst (CompletesPeriod channels q) (c.deref-4.ensures.value ∙ first) (c.in_ok-completes-2.ensures.0 c.if-not-branch-2.false)))
+    (lowered_first c.args.graph.now c.args.vector.now.r.items q c.channels.ensures.well_formed c.requires
+    (subst (CompletesPeriod channels q) (c.deref-4.ensures.value ∙ first) (c.in_ok-completes-2.ensures.0 c.if-not-branch-2.false)))
 
 pub returns-clause-least : goal.returns-clause-least
 returns-clause-least c = lowered_all _ _ _ c.in_ok-least.ensures

@@ -4,7 +4,9 @@ use Rattle.csdf_analysis.proofs.LeastLemmas.{channel_has}
 use Rattle.csdf_analysis.proofs.calls.capacities.first_bounds.Goals as goal
 
 pub first_bound-requires-clause-channel : goal.first_bound-requires-clause-channel
-first_bound-requires-clause-channel c = channel_has (IsWithin (length c.args.q.now)) c.args.channels.now c.loop-channel.channel-index c.channel-item.result c.loop-channel-test.true c.channel-item.is c.requires.channels
+first_bound-requires-clause-channel c = channel_has (IsWithin (length c.args.q.now)) c.args.channels.now c.loop-channel.channel-index c.channel-item.result
+    c.loop-channel-test.true c.channel-item.is c.requires.channels
 
 pub first_bound-requires-clause-room : goal.first_bound-requires-clause-room
-first_bound-requires-clause-room c = channel_has (λ d. full_capacity c.args.q.now d ≤ 65535) c.args.channels.now c.loop-channel.channel-index c.channel-item.result c.loop-channel-test.true c.channel-item.is c.requires.room
+first_bound-requires-clause-room c = channel_has (λ d. full_capacity c.args.q.now d ≤ 65535) c.args.channels.now c.loop-channel.channel-index
+    c.channel-item.result c.loop-channel-test.true c.channel-item.is c.requires.room

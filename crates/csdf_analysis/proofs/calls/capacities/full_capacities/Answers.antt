@@ -4,9 +4,11 @@ use Rattle.csdf_analysis.proofs.LeastLemmas.{channel_has}
 use Rattle.csdf_analysis.proofs.calls.capacities.full_capacities.Goals as goal
 
 pub full_capacity-requires : goal.full_capacity-requires
-full_capacity-requires c = channel_has (IsWithin (length c.args.q.now)) c.args.channels.now c.loop-channel.channel-index c.channel-item.result c.loop-channel-test.true c.channel-item.is c.requires.channels
+full_capacity-requires c = channel_has (IsWithin (length c.args.q.now)) c.args.channels.now c.loop-channel.channel-index c.channel-item.result
+    c.loop-channel-test.true c.channel-item.is c.requires.channels
 
 pub overflow_cast-full_capacity : goal.overflow_cast-full_capacity
 overflow_cast-full_capacity c =
-    let room = channel_has (λ d. full_capacity c.args.q.now d ≤ 65535) c.args.channels.now c.loop-channel.channel-index c.channel-item.result c.loop-channel-test.true c.channel-item.is c.requires.room in
+    let room = channel_has (λ d. full_capacity c.args.q.now d ≤ 65535) c.args.channels.now c.loop-channel.channel-index c.channel-item.result
+    c.loop-channel-test.true c.channel-item.is c.requires.room in
     omega (arith, room, c.full_capacity.ensures)

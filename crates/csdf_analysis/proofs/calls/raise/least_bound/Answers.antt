@@ -8,7 +8,9 @@ pub loop-run-init : goal.loop-run-init
 loop-run-init c = record {
   run = c.go_on.ensures.run;
   stalled = c.go_on.ensures.stalled;
-  search = search_first _ _ c.args.bounds.now _ c.args.number c.max.result _ c.channel.ensures.fit c.requires.completes c.channel.ensures.value (c.max.ensures ∙ ap (λ n. max n 1) (omega (arith, c.len.ensures, c.channel.result.now.initial.ok.0))) (c.go_on.ensures.bounds ∙ c.in_ok-run.ensures.bounds ∙ ap (λ ks. set ks c.args.number c.max.result) c.in_ok-start.ensures);
+  search = search_first _ _ c.args.bounds.now _ c.args.number c.max.result _ c.channel.ensures.fit c.requires.completes c.channel.ensures.value (c.max.ensures
+      ∙ ap (λ n. max n 1) (omega (arith, c.len.ensures, c.channel.result.now.initial.ok.0))) (c.go_on.ensures.bounds ∙ c.in_ok-run.ensures.bounds
+      ∙ ap (λ ks. set ks c.args.number c.max.result) c.in_ok-start.ensures);
   waiting = c.go_on.ensures.waiting;
 }
 
@@ -21,7 +23,8 @@ loop-run-preserved c =
     record {
       run = c.go_on-in-loop-run.ensures.run;
       stalled = c.go_on-in-loop-run.ensures.stalled;
-      search = search_next _ _ c.args.bounds.now _ _ _ c.args.number _ lt c.channel.ensures.value c.loop-run.invariant.search c.raise.ensures.bounds c.raise.ensures.raised c.raise.ensures.low c.go_on-in-loop-run.ensures.bounds;
+      search = search_next _ _ c.args.bounds.now _ _ _ c.args.number _ lt c.channel.ensures.value c.loop-run.invariant.search c.raise.ensures.bounds
+          c.raise.ensures.raised c.raise.ensures.low c.go_on-in-loop-run.ensures.bounds;
       waiting = c.go_on-in-loop-run.ensures.waiting;
     }
 
@@ -34,5 +37,6 @@ pub returns-clause-least : goal.returns-clause-least
 returns-clause-least c =
     let most = firings_within _ _ _ _ _ _ c.loop-run.invariant.run.at in
     let lt : c.args.number < length c.loop-run.run.bounds.items = omega (arith, c.requires.exists, c.loop-run.invariant.run.at.each_bound) in
-    search_least _ _ c.args.bounds.now _ _ _ c.loop-run.run.firings c.args.number _ c.loop-run.invariant.search c.loop-run.invariant.run.at (omega (arith, most, c.total.ensures.total, c.loop-run-test.false))
+    search_least _ _ c.args.bounds.now _ _ _ c.loop-run.run.firings c.args.number _ c.loop-run.invariant.search c.loop-run.invariant.run.at
+    (omega (arith, most, c.total.ensures.total, c.loop-run-test.false))
     (c.index.ensures ∙ get_or_default c.loop-run.run.bounds.items c.args.number c.index.result.now 0 lt)

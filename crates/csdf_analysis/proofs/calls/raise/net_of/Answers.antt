@@ -9,4 +9,5 @@ new-requires-clause-fit c =
 
 pub new-requires-clause-phased : goal.new-requires-clause-phased
 new-requires-clause-phased c =
-    subst (IsPhased c.args.graph.now.actors c.args.graph.now.channels) (sym c.deref.ensures.value) (phased_of c.args.graph.now _ _ c.channels-well_formed.ensures.well_formed c.requires)
+    subst (IsPhased c.args.graph.now.actors c.args.graph.now.channels) (sym c.deref.ensures.value)
+    (phased_of c.args.graph.now _ _ c.channels-well_formed.ensures.well_formed c.requires)

@@ -9,4 +9,5 @@ pub cycles-requires-clause-channels : goal.cycles-requires-clause-channels
 cycles-requires-clause-channels c =
     let whole = c.actors.ensures.well_formed in
     subst (λ (actors : List Actor). All (IsLink actors) (map channel_view c.channels.result.now)) (sym c.actors.ensures.value)
-    (subst (λ (channels : List Channel). All (IsLink c.args.graph.now.actors) channels) (sym c.channels.ensures.value) (links_of c.args.graph.now.actors c.args.graph.now.channels whole.fitting.actors whole.fitting.channels))
+    (subst (λ (channels : List Channel). All (IsLink c.args.graph.now.actors) channels) (sym c.channels.ensures.value)
+    (links_of c.args.graph.now.actors c.args.graph.now.channels whole.fitting.actors whole.fitting.channels))

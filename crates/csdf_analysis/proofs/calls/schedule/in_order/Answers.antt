@@ -7,4 +7,5 @@ pub loop-actor-smaller : goal.loop-actor-smaller
 loop-actor-smaller c = omega (arith, firings_left _ _ _ _ _ _ _ c.loop-actor.invariant.run.at c.in-Some.ensures.found.can_go, c.step.ensures.firings)
 
 pub returns : goal.returns
-returns c = printed_all _ _ _ _ _ _ _ _ c.loop-actor.invariant.run.at c.in_default.ensures.found c.requires c.loop-actor.invariant.bounds c.loop-actor.invariant.so_far
+returns c = printed_all _ _ _ _ _ _ _ _ c.loop-actor.invariant.run.at c.in_default.ensures.found c.requires c.loop-actor.invariant.bounds
+    c.loop-actor.invariant.so_far

@@ -9,7 +9,8 @@ invariant-loop-actor l = record {
   run : IsRun l.net l.run;
   bounds : l.run.bounds.items ≡ l.fn.bounds.items;
   waiting : AreWaiting l.net.channels l.net.firings l.run.bounds.items l.run.counts.items l.waiting;
-  so_far : (rest : List ℕ) → IsScheduleFrom l.net.channels l.net.firings l.run.bounds.items l.run.counts.items rest → IsScheduleOf l.net.channels l.net.firings l.run.bounds.items (l.schedule.items ++ rest);
+  so_far : (rest : List ℕ) → IsScheduleFrom l.net.channels l.net.firings l.run.bounds.items l.run.counts.items rest
+      → IsScheduleOf l.net.channels l.net.firings l.run.bounds.items (l.schedule.items ++ rest);
 }
 
 abbrev pub decreases-loop-actor : goal.decreases-loop-actor

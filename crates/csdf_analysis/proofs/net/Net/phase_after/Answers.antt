@@ -7,4 +7,5 @@ pub returns-then-next-phases : goal.returns-then-next-phases
 returns-then-next-phases c = phase_last c.args.phase (phases_of c.args.self.now.actors c.args.actor) (c.if-next-phases.true ∙ c.phases-phases.ensures)
 
 pub returns-else-next-phases : goal.returns-else-next-phases
-returns-else-next-phases c = phase_next c.args.phase (phases_of c.args.self.now.actors c.args.actor) c.requires.phase (λ e. c.if-next-phases.false (e ∙ sym c.phases-phases.ensures))
+returns-else-next-phases c = phase_next c.args.phase (phases_of c.args.self.now.actors c.args.actor) c.requires.phase
+    (λ e. c.if-next-phases.false (e ∙ sym c.phases-phases.ensures))

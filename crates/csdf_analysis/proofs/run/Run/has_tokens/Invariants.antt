@@ -6,4 +6,5 @@ use Rattle.csdf_analysis.specs.Period.{held}
 use Rattle.csdf_analysis.proofs.run.Run.has_tokens.Given as goal
 
 abbrev pub invariant-loop-number : goal.invariant-loop-number
-invariant-loop-number l = (k : ℕ) → k < l.number-index → (c : Channel) → slice_get l.net.channels (slice_index l.number-items k) ≡ Some c → consumption c (slice_index l.self.counts.items c.to) ≤ held c l.self.counts.items
+invariant-loop-number l = (k : ℕ) → k < l.number-index → (c : Channel) → slice_get l.net.channels (slice_index l.number-items k) ≡ Some c
+    → consumption c (slice_index l.self.counts.items c.to) ≤ held c l.self.counts.items

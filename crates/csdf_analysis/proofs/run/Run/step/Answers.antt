@@ -13,5 +13,6 @@ returns-clause-waiting c =
     (λ b go. elim (c.requires.able b go) [ inl this ↦ inl this | inr has ↦ inr (c.woken.ensures.kept b has) ]) in
     record {
       actors = c.woken.ensures.actors;
-      able = subst (λ (bs : List ℕ). HasAble channels q bs c.fire.new.self.counts.items mask) (sym c.fire.ensures.bounds) (subst (λ (ks : List ℕ). HasAble channels q bounds ks mask) (sym c.fire.ensures.counts) able);
+      able = subst (λ (bs : List ℕ). HasAble channels q bs c.fire.new.self.counts.items mask) (sym c.fire.ensures.bounds)
+          (subst (λ (ks : List ℕ). HasAble channels q bounds ks mask) (sym c.fire.ensures.counts) able);
     }
