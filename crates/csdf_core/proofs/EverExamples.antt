@@ -35,11 +35,11 @@ tokens (suc (suc a)) k = []
 
 -- what refuses each of the moves, where one does
 refusals : Plan → List Move → List (Option Refusal)
-refusals plan moves = told (replies_of plan (opening plan) moves)
+refusals plan moves = each_refused (replies_of plan (opening plan) moves)
   where
-    told : List Reply → List (Option Refusal)
-    told [] = []
-    told (r ∷ replies) = refused r ∷ told replies
+    each_refused : List Reply → List (Option Refusal)
+    each_refused [] = []
+    each_refused (r ∷ replies) = refused r ∷ each_refused replies
 
 periods : ℕ → List Move
 periods m = whole_firings tokens (none_finished sums) (repeated m schedule)

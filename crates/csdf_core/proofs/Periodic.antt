@@ -1,16 +1,15 @@
 -- After whole periods a channel has lost what it was given; and a firing of a later period, by the counts of the first.
-use Rattle.std.proofs.Common.{◌≡◌, ℕ, zero, suc, ◌+◌, ◌*◌, ◌<◌, ◌≤◌, ◌==◌, ◌&&◌, nat_lt, cond, inl, inr, List, [], ◌∷◌, length, get_or, map, sum, refl, ap, sym}
-use Rattle.std.proofs.Common.{◌∙◌, arith, Bool, true, false, Some, take_all, le-ltb, mul_comm, mul_assoc, mul-suc}
+use Rattle.std.proofs.Common.{◌≡◌, ℕ, suc, ◌+◌, ◌*◌, ◌<◌, ◌≤◌, ◌==◌, ◌&&◌, nat_lt, cond, inl, inr, List, [], ◌∷◌, length, get_or, map, sum, refl, ap, sym}
+use Rattle.std.proofs.Common.{◌∙◌, arith, Bool, true, false, Some, take_all, le-ltb, mul_comm, mul_assoc}
 use Rattle.std.specs.Prelude.{sum_by, slice_get, if◌then◌else◌}
 use Rattle.std.specs.List.{zip, AllByRecursion}
-use Rattle.std.proofs.Math.Nat.{mul-add-mod_self_left}
 use Rattle.std.proofs.lemmas.List.Sums.{sum_by-cons}
 use Rattle.std.proofs.lemmas.Bool.Decides.{eqb_tells}
 use Rattle.csdf_graph.specs.Graph as graph
 use Rattle.csdf_graph.specs.Graph.{phases_of}
-use Rattle.csdf_graph.specs.Rates.{rate, total, produced, consumed}
+use Rattle.csdf_graph.specs.Rates.{total, produced, consumed}
 use Rattle.csdf_graph.specs.WellFormed.{IsChannel}
-use Rattle.csdf_graph.proofs.RateLemmas.{total_front}
+use Rattle.csdf_graph.proofs.RateLemmas.{total_front, total_after, total_cycles}
 use Rattle.csdf_analysis.specs.Period.{CanFire, fired as fired_counts}
 use Rattle.csdf_analysis.specs.Repetition.{IsBalanced}
 use Rattle.csdf_analysis.proofs.CountLemmas.{total_mono, fired_same, fired_other}
@@ -19,27 +18,6 @@ use Rattle.csdf_core.specs.Plan.{Channel, Plan}
 use Rattle.csdf_core.specs.Layout.{with_capacity}
 use Rattle.csdf_core.specs.Step.{given}
 use Rattle.csdf_core.proofs.Able.{IsAbleAt, later}
-
-total_after : (rates : List ℕ) (k m : ℕ) → total rates (length rates * k + m) ≡ total rates (length rates * k) + total rates m
-total_after rates k zero = let e : length rates * k + 0 ≡ length rates * k = omega arith in ap (total rates) e
-    ∙ sym (let z : total rates (length rates * k) + 0 ≡ total rates (length rates * k) = omega arith in z)
-total_after rates k (suc m) =
-    let before : total rates (length rates * k + m) ≡ total rates (length rates * k) + total rates m = total_after rates k m in
-    let next : length rates * k + suc m ≡ suc (length rates * k + m) = omega arith in
-    let place : rate rates (length rates * k + m) ≡ rate rates m = ap (λ j. get_or rates j 0) (mul-add-mod_self_left (length rates) k m) in
-    let whole : total rates (length rates * k + suc m) ≡ total rates (length rates * k + m) + rate rates (length rates * k + m) = ap (total rates) next in
-    omega arith
-
-total_cycles : (rates : List ℕ) (k : ℕ) → total rates (length rates * k) ≡ sum rates * k
-total_cycles rates zero = let e : length rates * 0 ≡ 0 = omega arith in ap (total rates) e ∙ (let z : 0 ≡ sum rates * 0 = omega arith in z)
-total_cycles rates (suc k) =
-    let before : total rates (length rates * k) ≡ sum rates * k = total_cycles rates k in
-    let next : length rates * suc k ≡ length rates * k + length rates = omega (arith, mul-suc (length rates) k) in
-    let cycle : total rates (length rates) ≡ sum rates = total_front rates (length rates) (omega arith)
-    ∙ ap sum (take_all (length rates) rates (omega arith)) in
-    let whole : total rates (length rates * suc k) ≡ total rates (length rates * k) + total rates (length rates) = ap (total rates) next
-    ∙ total_after rates k (length rates) in
-    omega (arith, mul-suc (sum rates) k)
 
 -- j periods of n firings more, where a period has len * r firings
 shifted : (rates : List ℕ) (len r q j n : ℕ) → length rates ≡ len → q ≡ len * r → total rates (j * q + n) ≡ sum rates * (r * j) + total rates n

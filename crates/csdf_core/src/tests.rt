@@ -169,7 +169,7 @@ fn tell(text: &mut String, reply: &Reply) -> Result<(), AllocError> {
 }
 
 /// The replies, in order.
-fn told(alloc: Global, replies: &[Reply]) -> Result<String, Fail> {
+fn text_of(alloc: Global, replies: &[Reply]) -> Result<String, Fail> {
     let mut text = String::new(alloc);
     for reply in replies {
         if !text.is_empty() {
@@ -188,7 +188,7 @@ fn answers_of(
     script: &str,
 ) -> Result<String, Fail> {
     let played = played(alloc, accepted, limits, script)?;
-    told(alloc, &played.replies)
+    text_of(alloc, &played.replies)
 }
 
 /// What the graph of the file answers to the script.
