@@ -5,7 +5,7 @@ use Rattle.csdf_core.specs.State.{Present}
 use Rattle.csdf_core.specs.Ports.{tokens_in}
 use Rattle.csdf_core.specs.Moves.{Read}
 use Rattle.csdf_core.specs.Rows.{need, gift, left}
-use Rattle.csdf_core.specs.Shows.{raised}
+use Rattle.csdf_core.specs.Shows.{raised, AreSharedOut}
 use Rattle.csdf_core.specs.Sound.{IsSound}
 use Rattle.csdf_core.specs.Step.{refusal, count}
 use Rattle.csdf_core.specs.Inside.{now_in}
@@ -15,6 +15,7 @@ use Rattle.csdf_core.specs.Next.{fetched}
 use Rattle.csdf_core.proofs.SoundLemmas.{sound_fetched}
 use Rattle.csdf_core.proofs.Peaceful.{peaks_stay}
 use Rattle.csdf_core.proofs.firing_core.Core.read.Goals as goal
+use Rattle.csdf_core.proofs.firing_core.Core.read.Goals.{After-saturating_sub}
 
 pub returns-in-Some-clause-step : goal.returns-in-Some-clause-step
 returns-in-Some-clause-step c =
@@ -30,80 +31,78 @@ take_inputs-n-requires-clause-enough c =
     let k : c.fired-firing.result ≡ count p a = rw (← c.self.view_is) at c.fired-firing.ensures.value in
     enough_here plan p a c.fired-firing.result c.self.invariant.fit none k
 
+-- what is known once the tokens are taken
+module _ (c : After-saturating_sub) where
+  abbrev p : Present
+  p = now_in c.self.inside
+
+  abbrev plan : Plan
+  plan = c.self.inside.layout
+
+  abbrev a : ℕ
+  a = c.args.actor
+
+  none : refusal plan p (Read a) ≡ None
+  none = rw (← c.self.view_is) at (sym c.read_refusal.ensures ∙ c.in_default.is)
+
+  firing : c.fired-firing.result ≡ count p a
+  firing = rw (← c.self.view_is) at c.fired-firing.ensures.value
+
+  gone : tokens_in c.take_inputs-n.new.pool ≡ left a (count p a) plan.channels p.tokens
+  gone = left_here plan p a c.fired-firing.result (tokens_in c.take_inputs-n.new.pool) c.self.invariant.fit firing c.take_inputs-n.ensures.left
+
+  cells : AreSharedOut plan c.take_inputs-n.new.pool
+  cells = record { size = c.take_inputs-n.ensures.size ∙ c.self.invariant.cells.size; partition = c.take_inputs-n.ensures.partition }
+
+  gives : c.gives-gift.result ≡ gift a (count p a) plan.channels
+  gives = rw (← c.self.view_is) at c.gives-gift.ensures.sum
+
+  more : c.saturating_sub.result ≡ gift a (count p a) plan.channels - need a (count p a) plan.channels
+  more =
+      let needs : c.need-need.result ≡ need a (count p a) plan.channels = rw (← c.self.view_is) at c.need-need.ensures.value in
+      c.saturating_sub.ensures ∙ ap (λ n. n - c.need-need.result) gives ∙ ap (λ n. gift a (count p a) plan.channels - n) needs
+
+  within : c.saturating_sub.result ≤ c.self.inside.reserved
+  within = kept_to_read plan p a c.self.inside.reserved c.saturating_sub.result c.self.invariant.fit none c.self.invariant.keeps more
+
+  abbrev kept : ℕ
+  kept = c.self.inside.reserved - c.saturating_sub.result + c.gives-gift.result
+
+  sound : IsSound plan (fetched plan p a) c.self.inside.peaks.items c.self.inside.sums.items c.self.inside.started kept c.take_inputs-n.new.pool
+  sound =
+      let enough : kept + (gift a (count p a) plan.channels - need a (count p a) plan.channels) ≡ c.self.inside.reserved + gift a (count p a) plan.channels =
+      omega (arith, within, more, gives) in
+      sound_fetched plan p c.self.inside.peaks.items c.self.inside.sums.items c.self.inside.started c.self.inside.reserved c.self.inside.pool a kept
+      c.take_inputs-n.new.pool c.self.invariant none enough c.take_inputs-n.ensures.same cells
+
 pub overflow_sub-self : goal.overflow_sub-self
-overflow_sub-self c =
-    let p : Present = now_in c.self.inside in
-    let plan : Plan = c.self.inside.layout in
-    let a : ℕ = c.args.actor in
-    let none : refusal plan p (Read a) ≡ None = rw (← c.self.view_is) at (sym c.read_refusal.ensures ∙ c.in_default.is) in
-    let k : c.fired-firing.result ≡ count p a = rw (← c.self.view_is) at c.fired-firing.ensures.value in
-    let g : c.gives-gift.result ≡ gift a (count p a) plan.channels = rw (← c.self.view_is) at c.gives-gift.ensures.sum in
-    let n : c.need-need.result ≡ need a (count p a) plan.channels = rw (← c.self.view_is) at c.need-need.ensures.value in
-    let more : c.saturating_sub.result ≡ gift a (count p a) plan.channels - need a (count p a) plan.channels = rw (c.saturating_sub.ensures, g, n) refl in
-    let le : c.saturating_sub.result ≤ c.self.inside.reserved = kept_to_read plan p a c.self.inside.reserved c.saturating_sub.result c.self.invariant.fit none
-    c.self.invariant.keeps more in
-    le
+overflow_sub-self c = within (goal.at.overflow_sub-self c).After-saturating_sub
 
 pub invariant_of-self : goal.invariant_of-self
 invariant_of-self c =
-    let p : Present = now_in c.self.inside in
-    let plan : Plan = c.self.inside.layout in
-    let a : ℕ = c.args.actor in
-    let none : refusal plan p (Read a) ≡ None = rw (← c.self.view_is) at (sym c.read_refusal.ensures ∙ c.in_default.is) in
-    let k : c.fired-firing.result ≡ count p a = rw (← c.self.view_is) at c.fired-firing.ensures.value in
-    let gone : tokens_in c.take_inputs-n.new.pool ≡ left a (count p a) plan.channels p.tokens =
-    left_here plan p a c.fired-firing.result (tokens_in c.take_inputs-n.new.pool) c.self.invariant.fit k c.take_inputs-n.ensures.left in
-    let g : c.gives-gift.result ≡ gift a (count p a) plan.channels = rw (← c.self.view_is) at c.gives-gift.ensures.sum in
-    let n : c.need-need.result ≡ need a (count p a) plan.channels = rw (← c.self.view_is) at c.need-need.ensures.value in
-    let more : c.saturating_sub.result ≡ gift a (count p a) plan.channels - need a (count p a) plan.channels = rw (c.saturating_sub.ensures, g, n) refl in
-    let le : c.saturating_sub.result ≤ c.self.inside.reserved = kept_to_read plan p a c.self.inside.reserved c.saturating_sub.result c.self.invariant.fit none
-    c.self.invariant.keeps more in
-    let kept : c.self.inside.reserved - c.saturating_sub.result + c.gives-gift.result + (gift a (count p a) plan.channels - need a (count p a) plan.channels)
-    ≡ c.self.inside.reserved + gift a (count p a) plan.channels = omega (arith, le, more, g) in
-    let sound = sound_fetched plan p c.self.inside.peaks.items c.self.inside.sums.items c.self.inside.started c.self.inside.reserved c.self.inside.pool a
-    (c.self.inside.reserved - c.saturating_sub.result + c.gives-gift.result) c.take_inputs-n.new.pool c.self.invariant none kept
-    c.take_inputs-n.ensures.same (record
-    { size = c.take_inputs-n.ensures.size ∙ c.self.invariant.cells.size; partition = c.take_inputs-n.ensures.partition }) in
-    subst (λ ts. IsSound plan (record
-    { counts = c.self.inside.counts.items; stages = set c.self.inside.stages.items a Fetched; opens = c.self.inside.opens.items; tokens = ts })
+    let at : After-saturating_sub = (goal.at.invariant_of-self c).After-saturating_sub in
+    subst (λ ts. IsSound c.self.inside.layout (record
+    { counts = c.self.inside.counts.items; stages = set c.self.inside.stages.items c.args.actor Fetched; opens = c.self.inside.opens.items; tokens = ts })
     c.self.inside.peaks.items c.self.inside.sums.items c.self.inside.started (c.self.inside.reserved - c.saturating_sub.result + c.gives-gift.result)
-    c.take_inputs-n.new.pool) (sym gone) sound
+    c.take_inputs-n.new.pool) (sym (gone at)) (sound at)
 
 pub returns-clause-step : goal.returns-clause-step
 returns-clause-step c =
-    let p : Present = now_in c.self.inside in
-    let plan : Plan = c.self.inside.layout in
-    let a : ℕ = c.args.actor in
-    let none : refusal plan p (Read a) ≡ None = rw (← c.self.view_is) at (sym c.read_refusal.ensures ∙ c.in_default.is) in
-    let k : c.fired-firing.result ≡ count p a = rw (← c.self.view_is) at c.fired-firing.ensures.value in
-    let gone : tokens_in c.take_inputs-n.new.pool ≡ left a (count p a) plan.channels p.tokens =
-    left_here plan p a c.fired-firing.result (tokens_in c.take_inputs-n.new.pool) c.self.invariant.fit k c.take_inputs-n.ensures.left in
-    let g : c.gives-gift.result ≡ gift a (count p a) plan.channels = rw (← c.self.view_is) at c.gives-gift.ensures.sum in
-    let n : c.need-need.result ≡ need a (count p a) plan.channels = rw (← c.self.view_is) at c.need-need.ensures.value in
-    let more : c.saturating_sub.result ≡ gift a (count p a) plan.channels - need a (count p a) plan.channels = rw (c.saturating_sub.ensures, g, n) refl in
-    let le : c.saturating_sub.result ≤ c.self.inside.reserved = kept_to_read plan p a c.self.inside.reserved c.saturating_sub.result c.self.invariant.fit none
-    c.self.invariant.keeps more in
-    let kept : c.self.inside.reserved - c.saturating_sub.result + c.gives-gift.result + (gift a (count p a) plan.channels - need a (count p a) plan.channels)
-    ≡ c.self.inside.reserved + gift a (count p a) plan.channels = omega (arith, le, more, g) in
-    let sound = sound_fetched plan p c.self.inside.peaks.items c.self.inside.sums.items c.self.inside.started c.self.inside.reserved c.self.inside.pool a
-    (c.self.inside.reserved - c.saturating_sub.result + c.gives-gift.result) c.take_inputs-n.new.pool c.self.invariant none kept
-    c.take_inputs-n.ensures.same (record
-    { size = c.take_inputs-n.ensures.size ∙ c.self.invariant.cells.size; partition = c.take_inputs-n.ensures.partition }) in
+    let at : After-saturating_sub = (goal.at.returns-clause-step c).After-saturating_sub in
     let now : record {
       counts = c.self.inside.counts.items;
-      stages = set c.self.inside.stages.items a Fetched;
+      stages = set c.self.inside.stages.items c.args.actor Fetched;
       opens = c.self.inside.opens.items;
       tokens = tokens_in c.take_inputs-n.new.pool;
-    } ≡ fetched plan p a = ap
+    } ≡ fetched c.self.inside.layout (now_in c.self.inside) c.args.actor = ap
     (λ ts. record {
       counts = c.self.inside.counts.items;
-      stages = set c.self.inside.stages.items a Fetched;
+      stages = set c.self.inside.stages.items c.args.actor Fetched;
       opens = c.self.inside.opens.items;
       tokens = ts;
-    }) gone in
-    let answered = answered_here plan p a c.fired-firing.result c.take_inputs-n.result c.take_inputs-n.new.into c.args.into.now c.self.invariant.fit none k
-    c.take_inputs-n.ensures.count c.take_inputs-n.ensures.answer in
+    }) (gone at) in
+    let answered = answered_here c.self.inside.layout (now_in c.self.inside) c.args.actor c.fired-firing.result c.take_inputs-n.result
+    c.take_inputs-n.new.into c.args.into.now c.self.invariant.fit (none at) (firing at) c.take_inputs-n.ensures.count c.take_inputs-n.ensures.answer in
     let peaks : c.self.inside.peaks.items ≡ raised c.self.inside.peaks.items (tokens_in c.take_inputs-n.new.pool) =
-    sym (ap (raised c.self.inside.peaks.items) gone ∙ peaks_stay _ _ _ _ _ _ _ sound) in
-    rw (← c.self.view_is) (follows_accepted _ _ (Read a) _ refl none answered now c.self.invariant.fit refl
-    (record { size = c.take_inputs-n.ensures.size ∙ c.self.invariant.cells.size; partition = c.take_inputs-n.ensures.partition }) peaks)
+    sym (ap (raised c.self.inside.peaks.items) (gone at) ∙ peaks_stay _ _ _ _ _ _ _ (sound at)) in
+    rw (← c.self.view_is) (follows_accepted _ _ (Read c.args.actor) _ refl (none at) answered now c.self.invariant.fit refl (cells at) peaks)

@@ -7,7 +7,7 @@ use Rattle.csdf_core.specs.State.{Present}
 use Rattle.csdf_core.specs.Ports.{tokens_in, outputs_at, raise_over}
 use Rattle.csdf_core.specs.Moves.{Write}
 use Rattle.csdf_core.specs.Rows.{gift, joined, shares}
-use Rattle.csdf_core.specs.Shows.{raised}
+use Rattle.csdf_core.specs.Shows.{raised, AreSharedOut}
 use Rattle.csdf_core.specs.Sound.{IsSound}
 use Rattle.csdf_core.specs.Step.{first_of, write_table, count, held}
 use Rattle.csdf_core.specs.Inside.{now_in}
@@ -19,6 +19,7 @@ use Rattle.csdf_core.specs.Next.{written}
 use Rattle.csdf_core.proofs.SoundLemmas.{sound_written}
 use Rattle.csdf_core.proofs.Peaceful.{peaks_stay}
 use Rattle.csdf_core.proofs.firing_core.Core.write.Goals as goal
+use Rattle.csdf_core.proofs.firing_core.Core.write.Goals.{After-raise_peaks}
 
 pub returns-in-Some-clause-step : goal.returns-in-Some-clause-step
 returns-in-Some-clause-step c =
@@ -57,75 +58,80 @@ overflow_sub-self c =
     let none : first_of (write_table plan p a c.args.tokens.now) ≡ None = rw (← c.self.view_is) at (sym c.write_refusal.ensures ∙ c.in_default.is) in
     kept_to_write plan p a c.self.inside.reserved c.args.tokens.now c.self.invariant.fit none c.self.invariant.keeps
 
+-- what is known once the tokens are put and the peaks raised
+module _ (c : After-raise_peaks) where
+  abbrev p : Present
+  p = now_in c.self.inside
+
+  abbrev plan : Plan
+  plan = c.self.inside.layout
+
+  abbrev a : ℕ
+  a = c.args.actor
+
+  none : first_of (write_table plan p a c.args.tokens.now) ≡ None
+  none = rw (← c.self.view_is) at (sym c.write_refusal.ensures ∙ c.in_default.is)
+
+  put : tokens_in c.put_outputs.new.pool ≡ joined p.tokens (shares a (count p a) plan.channels c.args.tokens.now)
+  put =
+      let firing : c.fired-firing.result ≡ count p a = rw (← c.self.view_is) at c.fired-firing.ensures.value in
+      put_here plan p a c.fired-firing.result c.args.tokens.now (tokens_in c.put_outputs.new.pool) c.self.invariant.fit firing c.put_outputs.ensures.put
+
+  peaks : c.raise_peaks.new.peaks ≡ raised c.self.inside.peaks.items (joined p.tokens (shares a (count p a) plan.channels c.args.tokens.now))
+  peaks = peaks_here plan p a c.args.tokens.now (tokens_in c.put_outputs.new.pool) c.self.inside.peaks.items c.raise_peaks.new.peaks c.self.invariant.fit
+      c.self.invariant.peaked c.self.invariant.high put
+      (c.raise_peaks.ensures ∙ ap (raise_over (outputs_at plan.channels a) (tokens_in c.put_outputs.new.pool)) c.deref_mut.ensures.value)
+
+  cells : AreSharedOut plan c.put_outputs.new.pool
+  cells = record { size = c.put_outputs.ensures.size ∙ c.self.invariant.cells.size; partition = c.put_outputs.ensures.partition }
+
+  sound : IsSound plan (written plan p a c.args.tokens.now) c.raise_peaks.new.peaks c.self.inside.sums.items c.self.inside.started
+      (c.self.inside.reserved - length c.args.tokens.now) c.put_outputs.new.pool
+  sound =
+      let le = kept_to_write plan p a c.self.inside.reserved c.args.tokens.now c.self.invariant.fit none c.self.invariant.keeps in
+      let all = (writes plan p a c.args.tokens.now none).1 in
+      let kept : c.self.inside.reserved - length c.args.tokens.now + gift a (count p a) plan.channels ≡ c.self.inside.reserved = omega (arith, le, all) in
+      sound_written plan p c.self.inside.peaks.items c.self.inside.sums.items c.self.inside.started c.self.inside.reserved c.self.inside.pool a
+      (c.self.inside.reserved - length c.args.tokens.now) c.args.tokens.now c.raise_peaks.new.peaks c.put_outputs.new.pool c.self.invariant none kept peaks
+      c.put_outputs.ensures.same cells
+
+  items : (with_items c.self.inside.peaks c.raise_peaks.new.peaks).items ≡ c.raise_peaks.new.peaks
+  items =
+      let same_length = ap length c.deref_mut.ensures.value in
+      let size : length c.raise_peaks.new.peaks ≡ c.self.inside.peaks.len =
+      omega (arith, sound.peaked, c.self.invariant.peaked, same_length, c.deref_mut.ensures.len) in
+      with_items_is c.self.inside.peaks c.raise_peaks.new.peaks size
+
 pub invariant_of-self : goal.invariant_of-self
 invariant_of-self c =
-    let p : Present = now_in c.self.inside in
-    let plan : Plan = c.self.inside.layout in
-    let a : ℕ = c.args.actor in
-    let none : first_of (write_table plan p a c.args.tokens.now) ≡ None = rw (← c.self.view_is) at (sym c.write_refusal.ensures ∙ c.in_default.is) in
-    let k : c.fired-firing.result ≡ count p a = rw (← c.self.view_is) at c.fired-firing.ensures.value in
-    let put : tokens_in c.put_outputs.new.pool ≡ joined p.tokens (shares a (count p a) plan.channels c.args.tokens.now) =
-    put_here plan p a c.fired-firing.result c.args.tokens.now (tokens_in c.put_outputs.new.pool) c.self.invariant.fit k c.put_outputs.ensures.put in
-    let peaks : c.raise_peaks.new.peaks ≡ raised c.self.inside.peaks.items (joined p.tokens (shares a (count p a) plan.channels c.args.tokens.now)) =
-    peaks_here plan p a c.args.tokens.now (tokens_in c.put_outputs.new.pool) c.self.inside.peaks.items c.raise_peaks.new.peaks c.self.invariant.fit
-    c.self.invariant.peaked c.self.invariant.high put
-    (c.raise_peaks.ensures ∙ ap (raise_over (outputs_at plan.channels a) (tokens_in c.put_outputs.new.pool)) c.deref_mut.ensures.value) in
-    let le = kept_to_write plan p a c.self.inside.reserved c.args.tokens.now c.self.invariant.fit none c.self.invariant.keeps in
-    let all = (writes plan p a c.args.tokens.now none).1 in
-    let kept : c.self.inside.reserved - length c.args.tokens.now + gift a (count p a) plan.channels ≡ c.self.inside.reserved = omega (arith, le, all) in
-    let sound = sound_written plan p c.self.inside.peaks.items c.self.inside.sums.items c.self.inside.started c.self.inside.reserved c.self.inside.pool a
-    (c.self.inside.reserved - length c.args.tokens.now) c.args.tokens.now c.raise_peaks.new.peaks c.put_outputs.new.pool c.self.invariant none kept peaks
-    c.put_outputs.ensures.same (record { size = c.put_outputs.ensures.size ∙ c.self.invariant.cells.size; partition = c.put_outputs.ensures.partition }) in
-    let size : length c.raise_peaks.new.peaks ≡ c.self.inside.peaks.len =
-    (let same_length = ap length c.deref_mut.ensures.value in omega (arith, sound.peaked, c.self.invariant.peaked, same_length, c.deref_mut.ensures.len)) in
-    let items : (with_items c.self.inside.peaks c.raise_peaks.new.peaks).items ≡ c.raise_peaks.new.peaks =
-    with_items_is c.self.inside.peaks c.raise_peaks.new.peaks size in
-    subst (λ qs. IsSound plan (record {
+    let at : After-raise_peaks = (goal.at.invariant_of-self c).After-raise_peaks in
+    subst (λ qs. IsSound c.self.inside.layout (record {
       counts = c.self.inside.counts.items;
-      stages = set c.self.inside.stages.items a Written;
+      stages = set c.self.inside.stages.items c.args.actor Written;
       opens = c.self.inside.opens.items;
       tokens = tokens_in c.put_outputs.new.pool;
     }) qs c.self.inside.sums.items c.self.inside.started (c.self.inside.reserved - length c.args.tokens.now)
-    c.put_outputs.new.pool) (sym items)
-    (subst (λ ts. IsSound plan (record
-    { counts = c.self.inside.counts.items; stages = set c.self.inside.stages.items a Written; opens = c.self.inside.opens.items; tokens = ts })
+    c.put_outputs.new.pool) (sym (items at))
+    (subst (λ ts. IsSound c.self.inside.layout (record
+    { counts = c.self.inside.counts.items; stages = set c.self.inside.stages.items c.args.actor Written; opens = c.self.inside.opens.items; tokens = ts })
     c.raise_peaks.new.peaks c.self.inside.sums.items c.self.inside.started (c.self.inside.reserved - length c.args.tokens.now) c.put_outputs.new.pool)
-    (sym put) sound)
+    (sym (put at)) (sound at))
 
 pub returns-clause-step : goal.returns-clause-step
 returns-clause-step c =
-    let p : Present = now_in c.self.inside in
-    let plan : Plan = c.self.inside.layout in
-    let a : ℕ = c.args.actor in
-    let none : first_of (write_table plan p a c.args.tokens.now) ≡ None = rw (← c.self.view_is) at (sym c.write_refusal.ensures ∙ c.in_default.is) in
-    let k : c.fired-firing.result ≡ count p a = rw (← c.self.view_is) at c.fired-firing.ensures.value in
-    let put : tokens_in c.put_outputs.new.pool ≡ joined p.tokens (shares a (count p a) plan.channels c.args.tokens.now) =
-    put_here plan p a c.fired-firing.result c.args.tokens.now (tokens_in c.put_outputs.new.pool) c.self.invariant.fit k c.put_outputs.ensures.put in
-    let peaks : c.raise_peaks.new.peaks ≡ raised c.self.inside.peaks.items (joined p.tokens (shares a (count p a) plan.channels c.args.tokens.now)) =
-    peaks_here plan p a c.args.tokens.now (tokens_in c.put_outputs.new.pool) c.self.inside.peaks.items c.raise_peaks.new.peaks c.self.invariant.fit
-    c.self.invariant.peaked c.self.invariant.high put
-    (c.raise_peaks.ensures ∙ ap (raise_over (outputs_at plan.channels a) (tokens_in c.put_outputs.new.pool)) c.deref_mut.ensures.value) in
-    let le = kept_to_write plan p a c.self.inside.reserved c.args.tokens.now c.self.invariant.fit none c.self.invariant.keeps in
-    let all = (writes plan p a c.args.tokens.now none).1 in
-    let kept : c.self.inside.reserved - length c.args.tokens.now + gift a (count p a) plan.channels ≡ c.self.inside.reserved = omega (arith, le, all) in
-    let sound = sound_written plan p c.self.inside.peaks.items c.self.inside.sums.items c.self.inside.started c.self.inside.reserved c.self.inside.pool a
-    (c.self.inside.reserved - length c.args.tokens.now) c.args.tokens.now c.raise_peaks.new.peaks c.put_outputs.new.pool c.self.invariant none kept peaks
-    c.put_outputs.ensures.same (record { size = c.put_outputs.ensures.size ∙ c.self.invariant.cells.size; partition = c.put_outputs.ensures.partition }) in
+    let at : After-raise_peaks = (goal.at.returns-clause-step c).After-raise_peaks in
     let now : record {
       counts = c.self.inside.counts.items;
-      stages = set c.self.inside.stages.items a Written;
+      stages = set c.self.inside.stages.items c.args.actor Written;
       opens = c.self.inside.opens.items;
       tokens = tokens_in c.put_outputs.new.pool;
-    } ≡ written plan p a c.args.tokens.now = ap
+    } ≡ written c.self.inside.layout (now_in c.self.inside) c.args.actor c.args.tokens.now = ap
     (λ ts. record {
       counts = c.self.inside.counts.items;
-      stages = set c.self.inside.stages.items a Written;
+      stages = set c.self.inside.stages.items c.args.actor Written;
       opens = c.self.inside.opens.items;
       tokens = ts;
-    }) put in
-    let size : length c.raise_peaks.new.peaks ≡ c.self.inside.peaks.len =
-    (let same_length = ap length c.deref_mut.ensures.value in omega (arith, sound.peaked, c.self.invariant.peaked, same_length, c.deref_mut.ensures.len)) in
+    }) (put at) in
     let same : (with_items c.self.inside.peaks c.raise_peaks.new.peaks).items ≡ raised c.self.inside.peaks.items (tokens_in c.put_outputs.new.pool) =
-    with_items_is c.self.inside.peaks c.raise_peaks.new.peaks size ∙ peaks ∙ ap (raised c.self.inside.peaks.items) (sym put) in
-    rw (← c.self.view_is) (follows_accepted _ _ (Write a c.args.tokens.now) _ refl none refl now c.self.invariant.fit refl
-    (record { size = c.put_outputs.ensures.size ∙ c.self.invariant.cells.size; partition = c.put_outputs.ensures.partition }) same)
+    items at ∙ peaks at ∙ ap (raised c.self.inside.peaks.items) (sym (put at)) in
+    rw (← c.self.view_is) (follows_accepted _ _ (Write c.args.actor c.args.tokens.now) _ refl (none at) refl now c.self.invariant.fit refl (cells at) same)
