@@ -1,5 +1,6 @@
 -- Two runs have the same token at every place of a channel that both have written.
-use Rattle.std.proofs.Common.{◌≡◌, ℕ, zero, suc, ◌+◌, ◌<◌, ◌≤◌, inl, inr, List, [], ◌∷◌, ◌++◌, length, take, drop, get_or, map, refl, ap, sym, subst, ◌∙◌, arith, append-nil, take-add, Bool}
+use Rattle.std.proofs.Common.{◌≡◌, ℕ, zero, suc, ◌+◌, ◌<◌, ◌≤◌, inl, inr, List, [], ◌∷◌, ◌++◌, length, take, drop, get_or, map, refl, ap, sym, subst, ◌∙◌}
+use Rattle.std.proofs.Common.{arith, append-nil, take-add, Bool}
 use Rattle.std.specs.Prelude.{ℤ, pos}
 use Rattle.std.specs.List.{zip, AllByRecursion}
 use Rattle.std.proofs.lemmas.List.{take-append-le, take-take, take_all, drop-take, length-take-le, get_or-take}
@@ -79,7 +80,8 @@ agreed-drained a k (c ∷ cs) (x ∷ xs) [] same = tt
 agreed-drained a k (c ∷ cs) (x ∷ xs) (y ∷ ys) same = (same.0, agreed-drained a k cs xs ys same.1)
 
 -- a firing that both have begun has the same inputs in both
-pub inputs_agree : (p1 g1 b1 p2 g2 b2 : ℕ → ℕ) (a k : ℕ) (cs : List Channel) (xs ys : List Stream) → length xs ≡ length cs → length ys ≡ length cs → suc k ≤ b1 a → suc k ≤ b2 a
+pub inputs_agree : (p1 g1 b1 p2 g2 b2 : ℕ → ℕ) (a k : ℕ) (cs : List Channel) (xs ys : List Stream) → length xs ≡ length cs → length ys ≡ length cs
+    → suc k ≤ b1 a → suc k ≤ b2 a
     → AreTallied p1 g1 b1 cs xs → AreTallied p2 g2 b2 cs ys → AreAgreed xs ys → inputs_at a k cs xs ≡ inputs_at a k cs ys
 inputs_agree p1 g1 b1 p2 g2 b2 a k [] xs ys l1 l2 le1 le2 t1 t2 same = refl
 inputs_agree p1 g1 b1 p2 g2 b2 a k (c ∷ cs) [] ys l1 l2 le1 le2 t1 t2 same = absurd (omega arith)
@@ -102,7 +104,8 @@ inputs_agree p1 g1 b1 p2 g2 b2 a k (c ∷ cs) (x ∷ xs) (y ∷ ys) l1 l2 le1 le
     ap (λ (z : List ℤ). z ++ inputs_at a k cs xs) here ∙ ap (λ (z : List ℤ). take n (drop p y.written) ++ z) rest
 
 -- a firing that the other has written
-agreed_same : (p1 g1 b1 p2 g2 b2 : ℕ → ℕ) (a k : ℕ) (cs : List Channel) (xs ys : List Stream) → length xs ≡ length cs → length ys ≡ length cs → p1 a ≡ k → suc k ≤ p2 a
+agreed_same : (p1 g1 b1 p2 g2 b2 : ℕ → ℕ) (a k : ℕ) (cs : List Channel) (xs ys : List Stream) → length xs ≡ length cs → length ys ≡ length cs → p1 a ≡ k
+    → suc k ≤ p2 a
     → AreTallied p1 g1 b1 cs xs → AreTallied p2 g2 b2 cs ys → AreAgreed xs ys → AreAgreed (filled xs (outputs_at a k cs ys)) ys
 agreed_same p1 g1 b1 p2 g2 b2 a k [] [] ys l1 l2 at le t1 t2 same = tt
 agreed_same p1 g1 b1 p2 g2 b2 a k [] (x ∷ xs) ys l1 l2 at le t1 t2 same = absurd (omega arith)
@@ -117,13 +120,15 @@ agreed_same p1 g1 b1 p2 g2 b2 a k (c ∷ cs) (x ∷ xs) (y ∷ ys) l1 l2 at le t
         let some : total c.produce (suc k) ≤ total c.produce (p2 c.from) = total_mono c.produce (suc k) (p2 c.from) (let q = ap p2 e.1 in omega arith) in
         let there = t2.0.written in
         agreed_more x.written y.written (length c.initial + total c.produce k) (gives_of a k c) same.0 here (omega arith)
-    | inr e ↦ agreed_none x.written (take (gives_of a k c) (drop (length c.initial + total c.produce k) y.written)) y.written same.0 (none_taken (gives_of a k c) (drop (length c.initial + total c.produce k) y.written) (gives_none a k c e.1))
+    | inr e ↦ agreed_none x.written (take (gives_of a k c) (drop (length c.initial + total c.produce k) y.written)) y.written same.0
+        (none_taken (gives_of a k c) (drop (length c.initial + total c.produce k) y.written) (gives_none a k c e.1))
   ],
   agreed_same p1 g1 b1 p2 g2 b2 a k cs xs ys (omega arith) (omega arith) at le t1.1 t2.1 same.1,
 )
 
 -- one that it has not
-agreed_new : (p1 g1 b1 p2 g2 b2 : ℕ → ℕ) (a k : ℕ) (v : List ℤ) (cs : List Channel) (xs ys : List Stream) → length xs ≡ length cs → length ys ≡ length cs → p1 a ≡ k → p2 a ≤ k
+agreed_new : (p1 g1 b1 p2 g2 b2 : ℕ → ℕ) (a k : ℕ) (v : List ℤ) (cs : List Channel) (xs ys : List Stream) → length xs ≡ length cs → length ys ≡ length cs
+    → p1 a ≡ k → p2 a ≤ k
     → AreTallied p1 g1 b1 cs xs → AreTallied p2 g2 b2 cs ys → AreAgreed xs ys → AreAgreed (filled xs (shares a k cs v)) ys
 agreed_new p1 g1 b1 p2 g2 b2 a k v [] [] ys l1 l2 at le t1 t2 same = tt
 agreed_new p1 g1 b1 p2 g2 b2 a k v [] (x ∷ xs) ys l1 l2 at le t1 t2 same = absurd (omega arith)
@@ -144,7 +149,8 @@ agreed_new p1 g1 b1 p2 g2 b2 a k v (c ∷ cs) (x ∷ xs) (y ∷ ys) l1 l2 at le 
 -- ---- moves
 
 -- t has the kernels' values, and stays; s writes one more
-pub agreed_written : (w : Program) (s t : State) (kept held : List (List ℤ)) (a : ℕ) → IsFaithful w s kept → IsFaithful w t held → stage (present s) a ≡ Fetched → AreAgreed s.streams t.streams
+pub agreed_written : (w : Program) (s t : State) (kept held : List (List ℤ)) (a : ℕ) → IsFaithful w s kept → IsFaithful w t held → stage (present s) a ≡ Fetched
+    → AreAgreed s.streams t.streams
     → AreAgreed (filled s.streams (shares a (count (present s) a) w.plan.channels (value w a (count (present s) a) (get_or kept a [])))) t.streams
 agreed_written w s t kept held a fs ft at same =
     let cs : List Channel = w.plan.channels in
@@ -159,24 +165,31 @@ agreed_written w s t kept held a fs ft at same =
       | inl less ↦
           let under = put_begun (get_or t.stages a Idle) (get_or t.counts a 0) in
           let read : get_or kept a [] ≡ inputs_at a k cs t.streams =
-          fs.keeps a at ∙ inputs_agree p1 (got s.counts s.stages) (begun s.counts s.stages) p2 (got t.counts t.stages) (begun t.counts t.stages) a k cs s.streams t.streams bs.streamed bt.streamed (omega arith) (omega arith) bs.tallied bt.tallied same in
-          let there : outputs_at a k cs t.streams ≡ shares a k cs (value w a k (get_or kept a [])) = ft.values a k less ∙ ap (λ (z : List ℤ). shares a k cs (value w a k z)) (sym read) in
+          fs.keeps a at ∙ inputs_agree p1 (got s.counts s.stages) (begun s.counts s.stages) p2 (got t.counts t.stages) (begun t.counts t.stages) a k cs
+          s.streams t.streams bs.streamed bt.streamed (omega arith) (omega arith) bs.tallied bt.tallied same in
+          let there : outputs_at a k cs t.streams ≡ shares a k cs (value w a k (get_or kept a [])) = ft.values a k less
+          ∙ ap (λ (z : List ℤ). shares a k cs (value w a k z)) (sym read) in
           subst (λ (parts : List (List ℤ)). AreAgreed (filled s.streams parts) t.streams) there
-          (agreed_same p1 (got s.counts s.stages) (begun s.counts s.stages) p2 (got t.counts t.stages) (begun t.counts t.stages) a k cs s.streams t.streams bs.streamed bt.streamed puts less bs.tallied bt.tallied same)
+          (agreed_same p1 (got s.counts s.stages) (begun s.counts s.stages) p2 (got t.counts t.stages) (begun t.counts t.stages) a k cs s.streams t.streams
+          bs.streamed bt.streamed puts less bs.tallied bt.tallied same)
       | inr ge ↦
-          agreed_new p1 (got s.counts s.stages) (begun s.counts s.stages) p2 (got t.counts t.stages) (begun t.counts t.stages) a k (value w a k (get_or kept a [])) cs s.streams t.streams bs.streamed bt.streamed puts ge bs.tallied bt.tallied same
+          agreed_new p1 (got s.counts s.stages) (begun s.counts s.stages) p2 (got t.counts t.stages) (begun t.counts t.stages) a k
+          (value w a k (get_or kept a [])) cs s.streams t.streams bs.streamed bt.streamed puts ge bs.tallied bt.tallied same
     ]
 
-agreed_honest : (w : Program) (s t : State) (kept held : List (List ℤ)) (m : Move) → IsFaithful w s kept → IsFaithful w t held → IsHonestMove w s kept m → AreAgreed s.streams t.streams → AreAgreed (accepted w.plan s m).streams t.streams
+agreed_honest : (w : Program) (s t : State) (kept held : List (List ℤ)) (m : Move) → IsFaithful w s kept → IsFaithful w t held → IsHonestMove w s kept m
+    → AreAgreed s.streams t.streams → AreAgreed (accepted w.plan s m).streams t.streams
 agreed_honest w s t kept held (Begin a) fs ft h same = same
 agreed_honest w s t kept held (Read a) fs ft h same = agreed-drained a (count (present s) a) w.plan.channels s.streams t.streams same
 agreed_honest w s t kept held (Write a v) fs ft h same =
     let r = writes w.plan (present s) a v h.accepted in
-    subst (λ (u : List ℤ). AreAgreed (filled s.streams (shares a (count (present s) a) w.plan.channels u)) t.streams) (sym h.just) (agreed_written w s t kept held a fs ft r.0.at same)
+    subst (λ (u : List ℤ). AreAgreed (filled s.streams (shares a (count (present s) a) w.plan.channels u)) t.streams) (sym h.just)
+    (agreed_written w s t kept held a fs ft r.0.at same)
 agreed_honest w s t kept held (Finish a) fs ft h same = same
 agreed_honest w s t kept held (Close c) fs ft h same = same
 
-pub agreed_from : (w : Program) (s t : State) (kept held : List (List ℤ)) (ms : List Move) → IsFaithful w s kept → IsFaithful w t held → IsHonestFrom w s kept ms → AreAgreed s.streams t.streams → AreAgreed (state_after w.plan s ms).streams t.streams
+pub agreed_from : (w : Program) (s t : State) (kept held : List (List ℤ)) (ms : List Move) → IsFaithful w s kept → IsFaithful w t held
+    → IsHonestFrom w s kept ms → AreAgreed s.streams t.streams → AreAgreed (state_after w.plan s ms).streams t.streams
 agreed_from w s t kept held [] fs ft h same = same
 agreed_from w s t kept held (m ∷ ms) fs ft h same =
     agreed_from w (after w.plan s m) t (reads_after w.plan s kept m) held ms (faithful_after w s kept m fs h.0) ft h.1
@@ -184,11 +197,13 @@ agreed_from w s t kept held (m ∷ ms) fs ft h same =
 
 -- any honest journal agrees with the opening
 pub agreed_opening : (w : Program) (ms : List Move) → IsHonest w ms → AreAgreed (state_after w.plan (opening w.plan) ms).streams (opening w.plan).streams
-agreed_opening w ms h = agreed_from w (opening w.plan) (opening w.plan) (no_reads w.plan) (no_reads w.plan) ms (faithful_opening w) (faithful_opening w) h (agreed_self (opening w.plan).streams)
+agreed_opening w ms h = agreed_from w (opening w.plan) (opening w.plan) (no_reads w.plan) (no_reads w.plan) ms (faithful_opening w) (faithful_opening w) h
+    (agreed_self (opening w.plan).streams)
 
 -- ---- the sequential run
 
-agreed_fired : (w : Program) (s t : State) (held : List (List ℤ)) (a : ℕ) (r : IsAtRest w s) → IsFaithful w t held → CanGo w.plan (present s) a → AreAgreed s.streams t.streams → AreAgreed (fired w s a).streams t.streams
+agreed_fired : (w : Program) (s t : State) (held : List (List ℤ)) (a : ℕ) (r : IsAtRest w s) → IsFaithful w t held → CanGo w.plan (present s) a
+    → AreAgreed s.streams t.streams → AreAgreed (fired w s a).streams t.streams
 agreed_fired w s t held a r ft can same =
     let g = goes w s r.kept a r.faithful can in
     let k : ℕ = count (present s) a in
@@ -196,7 +211,8 @@ agreed_fired w s t held a r ft can same =
     subst (λ (u : List ℤ). AreAgreed (filled (after_read w s a).streams (shares a k w.plan.channels (value w a k u))) t.streams) g.holds
     (agreed_written w (after_read w s a) t (kept_by w s r.kept a) held a g.second ft g.read read)
 
-pub agreed_sequential : (w : Program) (s t : State) (held : List (List ℤ)) (actors : List ℕ) → IsAtRest w s → IsFaithful w t held → IsSequentialFrom w s actors → AreAgreed s.streams t.streams → AreAgreed (state_from w s actors).streams t.streams
+pub agreed_sequential : (w : Program) (s t : State) (held : List (List ℤ)) (actors : List ℕ) → IsAtRest w s → IsFaithful w t held → IsSequentialFrom w s actors
+    → AreAgreed s.streams t.streams → AreAgreed (state_from w s actors).streams t.streams
 agreed_sequential w s t held [] r ft p same = same
 agreed_sequential w s t held (a ∷ actors) r ft p same =
     agreed_sequential w (fired w s a) t held actors (rest_fired w s a r p.0.can_go) ft p.1 (agreed_fired w s t held a r ft p.0.can_go same)
@@ -207,7 +223,8 @@ nothing_agreed : (y : List ℤ) → IsAgreed [] y
 nothing_agreed y zero a b = refl
 nothing_agreed y (suc n) a b = absurd (omega arith)
 
-at_channel : (c : ℕ) (xs ys : List Stream) → AreAgreed xs ys → IsAgreed (part c (map (λ (st : Stream). st.written) xs)) (part c (map (λ (st : Stream). st.written) ys))
+at_channel : (c : ℕ) (xs ys : List Stream) → AreAgreed xs ys
+    → IsAgreed (part c (map (λ (st : Stream). st.written) xs)) (part c (map (λ (st : Stream). st.written) ys))
 at_channel c [] ys same = nothing_agreed _
 at_channel c (x ∷ xs) [] same = λ n a b. sym (nothing_agreed (part c (map (λ (st : Stream). st.written) (x ∷ xs))) n b a)
 at_channel zero (x ∷ xs) (y ∷ ys) same = same.0
@@ -236,7 +253,8 @@ is_like v w e =
     ∙ ap (λ (x : List (List ℤ)). like w v.plan.sources v.plan.channels v.kernels x) (sym e.feeds)
 
 -- what is faithful to the one is to the other
-faithful_like : (v w : Program) (s : State) (kept : List (List ℤ)) → IsFaithful (like w v.plan.sources v.plan.channels v.kernels v.feeds) s kept → IsFaithful v s kept
+faithful_like : (v w : Program) (s : State) (kept : List (List ℤ)) → IsFaithful (like w v.plan.sources v.plan.channels v.kernels v.feeds) s kept
+    → IsFaithful v s kept
 unfolding like value given
 faithful_like v w s kept f = record {
   booked = (let b = f.booked in record { counted = b.counted; staged = b.staged; streamed = b.streamed; tallied = b.tallied });

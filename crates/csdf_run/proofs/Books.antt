@@ -1,5 +1,6 @@
 -- A book, from one move to the next.
-use Rattle.std.proofs.Common.{◌≡◌, ◌≢◌, ℕ, zero, suc, ◌+◌, ◌<◌, cond, inl, inr, List, [], ◌∷◌, ◌++◌, length, map, get_or, set, refl, ap, sym, subst, ◌∙◌, arith, append-nil, append_assoc, Bool, true, false, Option, None, eq-eqb, length-set, ◌-◌}
+use Rattle.std.proofs.Common.{◌≡◌, ◌≢◌, ℕ, zero, suc, ◌+◌, ◌<◌, cond, inl, inr, List, [], ◌∷◌, ◌++◌, length, map, get_or, set, refl, ap, sym, subst, ◌∙◌, arith}
+use Rattle.std.proofs.Common.{append-nil, append_assoc, Bool, true, false, Option, None, eq-eqb, length-set, ◌-◌}
 use Rattle.std.specs.Prelude.{ℤ, Ok, Err, vec_len, vec_capacity, replicate}
 use Rattle.std.specs.Global.{Vec}
 use Rattle.std.specs.List.{range_with_len}
@@ -38,7 +39,12 @@ abbrev pub floor_of : Work → View → List Move → List (List ℤ) → FloorV
 floor_of w core journal sinks = record { work = w; core = core; journal = journal; sinks = sinks }
 
 abbrev pub book_of : Work → View → Vec MoveCode → ListsView → List (List ℤ) → BookView
-book_of w core moves sinks reads = record { shown = floor_of w core (map move_of moves.items) sinks.lists; room = vec_capacity moves - vec_len moves; rooms = sinks.rooms; reads = reads }
+book_of w core moves sinks reads = record {
+  shown = floor_of w core (map move_of moves.items) sinks.lists;
+  room = vec_capacity moves - vec_len moves;
+  rooms = sinks.rooms;
+  reads = reads;
+}
 
 -- ---- the core
 
@@ -46,11 +52,13 @@ book_of w core moves sinks reads = record { shown = floor_of w core (map move_of
 pub accepted_as : (w : Program) (core nxt : View) (journal : List Move) (m : Move) (tokens : List ℤ) → IsKept w core journal → Follows core nxt m (Ok tokens)
     → (refusal w.plan (present (state_of w journal)) m ≡ None) × (tokens ≡ answer w.plan (present (state_of w journal)) m)
 accepted_as w core nxt journal m tokens k f =
-    let reply : Ok tokens ≡ reply_to w.plan (state_of w journal) m = f.reply_is (state_of w journal) k.shows ∙ ap (λ (u : Plan). reply_to u (state_of w journal) m) k.plan in
+    let reply : Ok tokens ≡ reply_to w.plan (state_of w journal) m = f.reply_is (state_of w journal) k.shows
+    ∙ ap (λ (u : Plan). reply_to u (state_of w journal) m) k.plan in
     accepted_of_reply w.plan (state_of w journal) m tokens (sym reply)
 
 -- the core made a move, which goes to the end of the journal
-pub moved : (w : Program) (core nxt : View) (journal : List Move) (m : Move) (tokens : List ℤ) → IsKept w core journal → Follows core nxt m (Ok tokens) → IsJust w (state_of w journal) (reads_of w journal) m
+pub moved : (w : Program) (core nxt : View) (journal : List Move) (m : Move) (tokens : List ℤ) → IsKept w core journal → Follows core nxt m (Ok tokens)
+    → IsJust w (state_of w journal) (reads_of w journal) m
     → IsKept w nxt (journal ++ m ∷ [])
 moved w core nxt journal m tokens k f just =
     let s : State = state_of w journal in
@@ -62,7 +70,8 @@ moved w core nxt journal m tokens k f just =
     }
 
 -- what is present then
-pub now_next : (w : Program) (core nxt : View) (journal : List Move) (m : Move) (tokens : List ℤ) → IsKept w core journal → Follows core nxt m (Ok tokens) → nxt.now ≡ next core.plan core.now m
+pub now_next : (w : Program) (core nxt : View) (journal : List Move) (m : Move) (tokens : List ℤ) → IsKept w core journal → Follows core nxt m (Ok tokens)
+    → nxt.now ≡ next core.plan core.now m
 now_next w core nxt journal m tokens k f =
     let s : State = state_of w journal in
     let is : refusal core.plan (present s) m ≡ None = ap (λ (u : Plan). refusal u (present s) m) k.plan ∙ (accepted_as w core nxt journal m tokens k f).0 in
@@ -71,7 +80,8 @@ now_next w core nxt journal m tokens k f =
     ∙ present_accepted core.plan s m k.shows.lawful
     ∙ ap (λ (p : Present). next core.plan p m) (sym k.shows.same)
 
-peaks_push : (w : Program) (core nxt : View) (journal : List Move) (m : Move) (tokens : List ℤ) (first : List ℕ) → IsKept w core journal → Follows core nxt m (Ok tokens)
+peaks_push : (w : Program) (core nxt : View) (journal : List Move) (m : Move) (tokens : List ℤ) (first : List ℕ) → IsKept w core journal
+    → Follows core nxt m (Ok tokens)
     → core.peaks ≡ raised_over w.plan (opening w.plan) first journal → nxt.peaks ≡ raised_over w.plan (opening w.plan) first (journal ++ m ∷ [])
 peaks_push w core nxt journal m tokens first k f is =
     let s : State = state_of w journal in
@@ -133,7 +143,8 @@ had_read plan p (Write b v) a is e = was_there p.stages b a Written Fetched (λ 
 had_read plan p (Finish b) a is e = was_there p.stages b a Idle Fetched (λ q. absurd (cc)) e
 had_read plan p (Close c) a is e = e
 
-pub book_moved : (w : Work) (core nxt : View) (journal : List Move) (sinks reads : List (List ℤ)) (m : Move) (tokens : List ℤ) → IsNoRead m → IsBook (floor_of w core journal sinks) reads → Follows core nxt m (Ok tokens)
+pub book_moved : (w : Work) (core nxt : View) (journal : List Move) (sinks reads : List (List ℤ)) (m : Move) (tokens : List ℤ) → IsNoRead m
+    → IsBook (floor_of w core journal sinks) reads → Follows core nxt m (Ok tokens)
     → IsJust (program w) (state_of (program w) journal) (reads_of (program w) journal) m → IsBook (floor_of w nxt (journal ++ m ∷ []) sinks) reads
 book_moved w core nxt journal sinks reads m tokens no_read b f just = record {
   work = b.work;
@@ -142,14 +153,17 @@ book_moved w core nxt journal sinks reads m tokens no_read b f just = record {
   sinks = b.sinks ∙ sym (sinks_stay (program w) journal m no_read);
   each_actor = b.each_actor ∙ ap (λ (u : Plan). length u.sources) (sym f.plan);
   last_reads = λ a lt has_read.
-      let was : stage core.now a ≡ Fetched = had_read core.plan core.now m a no_read (subst (λ (p : Present). stage p a ≡ Fetched) (now_next (program w) core nxt journal m tokens b.kept f) has_read) in
-      b.last_reads a (subst (λ (u : Plan). a < length u.sources) f.plan lt) was ∙ ap (λ (rs : List (List ℤ)). get_or rs a []) (sym (reads_stay (program w) journal m no_read));
+      let was : stage core.now a ≡ Fetched = had_read core.plan core.now m a no_read
+      (subst (λ (p : Present). stage p a ≡ Fetched) (now_next (program w) core nxt journal m tokens b.kept f) has_read) in
+      b.last_reads a (subst (λ (u : Plan). a < length u.sources) f.plan lt) was
+      ∙ ap (λ (rs : List (List ℤ)). get_or rs a []) (sym (reads_stay (program w) journal m no_read));
 }
 
 -- ---- a read
 
 -- a list made from the numbers from k on, one of which is another
-one_other : {A : Type 0} (f g : ℕ → A) (k n i : ℕ) (y : A) → ((j : ℕ) → j ≢ k + i → g j ≡ f j) → g (k + i) ≡ y → map g (range_with_len k n) ≡ set (map f (range_with_len k n)) i y
+one_other : {A : Type 0} (f g : ℕ → A) (k n i : ℕ) (y : A) → ((j : ℕ) → j ≢ k + i → g j ≡ f j) → g (k + i) ≡ y
+    → map g (range_with_len k n) ≡ set (map f (range_with_len k n)) i y
 one_other f g k zero i y same own = refl
 one_other {A = A} f g k (suc n) zero y same own =
     let e : k + 0 ≡ k = omega arith in
@@ -181,7 +195,8 @@ took_other w journal a t ne =
     ]
     none (Err why) = refl
 
-sink_own : (w : Program) (journal : List Move) (a : ℕ) (tokens : List ℤ) → is_sink_kernel (get_or w.kernels a Sink) ≡ true → reply_to w.plan (state_of w journal) (Read a) ≡ Ok tokens
+sink_own : (w : Program) (journal : List Move) (a : ℕ) (tokens : List ℤ) → is_sink_kernel (get_or w.kernels a Sink) ≡ true
+    → reply_to w.plan (state_of w journal) (Read a) ≡ Ok tokens
     → sink_of w (journal ++ Read a ∷ []) a ≡ sink_of w journal a ++ tokens
 sink_own w journal a tokens is replied =
     let whole : sink_tokens a (journal ++ Read a ∷ []) (replies_to w (journal ++ Read a ∷ [])) ≡ sink_tokens a journal (replies_to w journal) ++ tokens =
@@ -192,38 +207,47 @@ sink_own w journal a tokens is replied =
     ∙ whole
     ∙ ap (λ b. cond b (sink_tokens a journal (replies_to w journal)) [] ++ tokens) (sym is)
 
-sinks_grow : (w : Program) (journal : List Move) (a : ℕ) (tokens : List ℤ) → a < length w.plan.sources → is_sink_kernel (get_or w.kernels a Sink) ≡ true → reply_to w.plan (state_of w journal) (Read a) ≡ Ok tokens
+sinks_grow : (w : Program) (journal : List Move) (a : ℕ) (tokens : List ℤ) → a < length w.plan.sources → is_sink_kernel (get_or w.kernels a Sink) ≡ true
+    → reply_to w.plan (state_of w journal) (Read a) ≡ Ok tokens
     → sinks_of w (journal ++ Read a ∷ []) ≡ set (sinks_of w journal) a (get_or (sinks_of w journal) a [] ++ tokens)
 sinks_grow w journal a tokens lt is replied =
     let n : ℕ = length w.plan.sources in
     let at : get_or (sinks_of w journal) a [] ≡ sink_of w journal a = get_or-map-range_with_len (sink_of w journal) 0 n a a [] lt (omega arith) in
     let e : 0 + a ≡ a = omega arith in
-    one_other (sink_of w journal) (sink_of w (journal ++ Read a ∷ [])) 0 n a (get_or (sinks_of w journal) a [] ++ tokens) (λ j ne. took_other w journal a j (λ q. ne (q ∙ sym e)))
+    one_other (sink_of w journal) (sink_of w (journal ++ Read a ∷ [])) 0 n a (get_or (sinks_of w journal) a []
+    ++ tokens) (λ j ne. took_other w journal a j (λ q. ne (q ∙ sym e)))
     (ap (sink_of w (journal ++ Read a ∷ [])) e ∙ sink_own w journal a tokens is replied ∙ ap (λ (xs : List ℤ). xs ++ tokens) (sym at))
 
-sinks_keep : (w : Program) (journal : List Move) (a : ℕ) → is_sink_kernel (get_or w.kernels a Sink) ≡ false → sinks_of w (journal ++ Read a ∷ []) ≡ sinks_of w journal
-sinks_keep w journal a is = map_same (sink_of w (journal ++ Read a ∷ [])) (sink_of w journal) (range_with_len 0 (length w.plan.sources)) (λ t. elim (eqb_tells t a) [
-  | inl e ↦
-      let off : is_sink_kernel (get_or w.kernels t Sink) ≡ false = ap (λ b. is_sink_kernel (get_or w.kernels b Sink)) e.1 ∙ is in
-      ap (λ b. cond b (sink_tokens t (journal ++ Read a ∷ []) (replies_to w (journal ++ Read a ∷ []))) []) off ∙ sym (ap (λ b. cond b (sink_tokens t journal (replies_to w journal)) []) off)
-  | inr e ↦ took_other w journal a t e.1
-])
+sinks_keep : (w : Program) (journal : List Move) (a : ℕ) → is_sink_kernel (get_or w.kernels a Sink) ≡ false
+    → sinks_of w (journal ++ Read a ∷ []) ≡ sinks_of w journal
+sinks_keep w journal a is = map_same (sink_of w (journal ++ Read a ∷ [])) (sink_of w journal) (range_with_len 0 (length w.plan.sources))
+    (λ t. elim (eqb_tells t a) [
+      | inl e ↦
+          let off : is_sink_kernel (get_or w.kernels t Sink) ≡ false = ap (λ b. is_sink_kernel (get_or w.kernels b Sink)) e.1 ∙ is in
+          ap (λ b. cond b (sink_tokens t (journal ++ Read a ∷ []) (replies_to w (journal ++ Read a ∷ []))) []) off
+          ∙ sym (ap (λ b. cond b (sink_tokens t journal (replies_to w journal)) []) off)
+      | inr e ↦ took_other w journal a t e.1
+    ])
 
-sinks_step : (w : Program) (journal : List Move) (sinks : List (List ℤ)) (a : ℕ) (tokens : List ℤ) (on : Bool) → is_sink_kernel (get_or w.kernels a Sink) ≡ on → a < length w.plan.sources → reply_to w.plan (state_of w journal) (Read a) ≡ Ok tokens
+sinks_step : (w : Program) (journal : List Move) (sinks : List (List ℤ)) (a : ℕ) (tokens : List ℤ) (on : Bool) → is_sink_kernel (get_or w.kernels a Sink) ≡ on
+    → a < length w.plan.sources → reply_to w.plan (state_of w journal) (Read a) ≡ Ok tokens
     → sinks ≡ sinks_of w journal → cond on (set sinks a (get_or sinks a [] ++ tokens)) sinks ≡ sinks_of w (journal ++ Read a ∷ [])
-sinks_step w journal sinks a tokens true is lt replied e = ap (λ (xs : List (List ℤ)). set xs a (get_or xs a [] ++ tokens)) e ∙ sym (sinks_grow w journal a tokens lt is replied)
+sinks_step w journal sinks a tokens true is lt replied e = ap (λ (xs : List (List ℤ)). set xs a (get_or xs a [] ++ tokens)) e
+    ∙ sym (sinks_grow w journal a tokens lt is replied)
 sinks_step w journal sinks a tokens false is lt replied e = e ∙ sym (sinks_keep w journal a is)
 
 -- what the sinks took once the actor has read
 abbrev pub sinks_after : Work → List (List ℤ) → ℕ → List ℤ → List (List ℤ)
 sinks_after w sinks a tokens = cond (is_sink_kernel (get_or (program w).kernels a Sink)) (set sinks a (get_or sinks a [] ++ tokens)) sinks
 
-pub book_read : (w : Work) (core nxt : View) (journal : List Move) (sinks reads : List (List ℤ)) (a : ℕ) (tokens : List ℤ) → a < length core.plan.sources → IsBook (floor_of w core journal sinks) reads → Follows core nxt (Read a) (Ok tokens)
+pub book_read : (w : Work) (core nxt : View) (journal : List Move) (sinks reads : List (List ℤ)) (a : ℕ) (tokens : List ℤ) → a < length core.plan.sources
+    → IsBook (floor_of w core journal sinks) reads → Follows core nxt (Read a) (Ok tokens)
     → IsBook (floor_of w nxt (journal ++ Read a ∷ []) (sinks_after w sinks a tokens)) (set reads a tokens)
 book_read w core nxt journal sinks reads a tokens there b f =
     let p : Program = program w in
     let is = accepted_as p core nxt journal (Read a) tokens b.kept f in
-    let replied : reply_to p.plan (state_of p journal) (Read a) ≡ Ok tokens = ap (λ (o : Option Refusal). reply_by o (answer p.plan (present (state_of p journal)) (Read a))) is.0 ∙ ap Ok (sym is.1) in
+    let replied : reply_to p.plan (state_of p journal) (Read a) ≡ Ok tokens =
+    ap (λ (o : Option Refusal). reply_by o (answer p.plan (present (state_of p journal)) (Read a))) is.0 ∙ ap Ok (sym is.1) in
     let lt : a < length p.plan.sources = subst (λ (u : Plan). a < length u.sources) b.kept.plan there in
     record {
       work = b.work;
@@ -241,7 +265,8 @@ book_read w core nxt journal sinks reads a tokens there b f =
             ∙ ap (λ (rs : List (List ℤ)). get_or rs a []) (reads_push p.plan (opening p.plan) (no_reads p.plan) journal (Read a))
             ∙ reads_own p.plan (state_of p journal) (reads_of p journal) a (let each = (faithful_end p journal b.kept.honest).each in omega arith))
         | inr e ↦
-            let now : stage (next core.plan core.now (Read a)) t ≡ Fetched = subst (λ (q : Present). stage q t ≡ Fetched) (now_next p core nxt journal (Read a) tokens b.kept f) has_read in
+            let now : stage (next core.plan core.now (Read a)) t ≡ Fetched =
+            subst (λ (q : Present). stage q t ≡ Fetched) (now_next p core nxt journal (Read a) tokens b.kept f) has_read in
             let was : stage core.now t ≡ Fetched = sym (get_or-set_other core.now.stages a t Fetched Idle e.1) ∙ now in
             get_or-set_other reads a t tokens [] e.1
             ∙ b.last_reads t (subst (λ (u : Plan). t < length u.sources) f.plan near) was
@@ -252,14 +277,18 @@ book_read w core nxt journal sinks reads a tokens there b f =
 
 -- ---- what makes a move just, by the core
 
-pub write_just : (w : Program) (core : View) (journal : List Move) (a : ℕ) (v : List ℤ) → IsKept w core journal → v ≡ value w a (count core.now a) (get_or (reads_of w journal) a []) → IsJust w (state_of w journal) (reads_of w journal) (Write a v)
+pub write_just : (w : Program) (core : View) (journal : List Move) (a : ℕ) (v : List ℤ) → IsKept w core journal
+    → v ≡ value w a (count core.now a) (get_or (reads_of w journal) a []) → IsJust w (state_of w journal) (reads_of w journal) (Write a v)
 write_just w core journal a v k is = is ∙ ap (λ (p : Present). value w a (count p a) (get_or (reads_of w journal) a [])) k.shows.same
 
-pub close_just : (w : Program) (core : View) (journal : List Move) (c : ℕ) → IsKept w core journal → stage core.now (producer core.plan c) ≡ Idle → is_over core.plan core.now (producer core.plan c) ≡ true
+pub close_just : (w : Program) (core : View) (journal : List Move) (c : ℕ) → IsKept w core journal → stage core.now (producer core.plan c) ≡ Idle
+    → is_over core.plan core.now (producer core.plan c) ≡ true
     → IsJust w (state_of w journal) (reads_of w journal) (Close c)
 close_just w core journal c k idle over = (
-  (ap (λ (u : Plan). stage (present (state_of w journal)) (producer u c)) (sym k.plan) ∙ ap (λ (p : Present). stage p (producer core.plan c)) (sym k.shows.same) ∙ idle),
-  (ap (λ (u : Plan). is_over u (present (state_of w journal)) (producer u c)) (sym k.plan) ∙ ap (λ (p : Present). is_over core.plan p (producer core.plan c)) (sym k.shows.same) ∙ over),
+  (ap (λ (u : Plan). stage (present (state_of w journal)) (producer u c)) (sym k.plan) ∙ ap (λ (p : Present). stage p (producer core.plan c)) (sym k.shows.same)
+      ∙ idle),
+  (ap (λ (u : Plan). is_over u (present (state_of w journal)) (producer u c)) (sym k.plan)
+      ∙ ap (λ (p : Present). is_over core.plan p (producer core.plan c)) (sym k.shows.same) ∙ over),
 )
 
 -- ---- the book's own fields
@@ -267,14 +296,19 @@ close_just w core journal c k idle over = (
 pushed : (moves moves2 : List MoveCode) (mc : MoveCode) → moves2 ≡ moves ++ mc ∷ [] → map move_of moves2 ≡ map move_of moves ++ move_of mc ∷ []
 pushed moves moves2 mc is = ap (map move_of) is ∙ map-append move_of moves (mc ∷ [])
 
-pub book_next : (w : Work) (core nxt : View) (moves moves2 : List MoveCode) (mc : MoveCode) (sinks reads : List (List ℤ)) (tokens : List ℤ) → IsNoRead (move_of mc) → IsBook (floor_of w core (map move_of moves) sinks) reads
-    → Follows core nxt (move_of mc) (Ok tokens) → IsJust (program w) (state_of (program w) (map move_of moves)) (reads_of (program w) (map move_of moves)) (move_of mc) → moves2 ≡ moves ++ mc ∷ []
+pub book_next : (w : Work) (core nxt : View) (moves moves2 : List MoveCode) (mc : MoveCode) (sinks reads : List (List ℤ)) (tokens : List ℤ)
+    → IsNoRead (move_of mc) → IsBook (floor_of w core (map move_of moves) sinks) reads
+    → Follows core nxt (move_of mc) (Ok tokens) → IsJust (program w) (state_of (program w) (map move_of moves)) (reads_of (program w) (map move_of moves))
+    (move_of mc) → moves2 ≡ moves ++ mc ∷ []
     → IsBook (floor_of w nxt (map move_of moves2) sinks) reads
 book_next w core nxt moves moves2 mc sinks reads tokens no_read b f just is =
-    subst (λ (js : List Move). IsBook (floor_of w nxt js sinks) reads) (sym (pushed moves moves2 mc is)) (book_moved w core nxt (map move_of moves) sinks reads (move_of mc) tokens no_read b f just)
+    subst (λ (js : List Move). IsBook (floor_of w nxt js sinks) reads) (sym (pushed moves moves2 mc is))
+    (book_moved w core nxt (map move_of moves) sinks reads (move_of mc) tokens no_read b f just)
 
-pub next_is : (w : Work) (core nxt : View) (moves moves2 : Vec MoveCode) (mc : MoveCode) (sinks sinks2 : ListsView) (reads reads2 : List (List ℤ)) (tokens : List ℤ) → IsBook (floor_of w core (map move_of moves.items) sinks.lists) reads
-    → Follows core nxt (move_of mc) (Ok tokens) → moves2.items ≡ moves.items ++ mc ∷ [] → vec_len moves2 ≡ vec_len moves + 1 → vec_capacity moves2 ≡ vec_capacity moves → 0 < vec_capacity moves - vec_len moves
+pub next_is : (w : Work) (core nxt : View) (moves moves2 : Vec MoveCode) (mc : MoveCode) (sinks sinks2 : ListsView) (reads reads2 : List (List ℤ))
+    (tokens : List ℤ) → IsBook (floor_of w core (map move_of moves.items) sinks.lists) reads
+    → Follows core nxt (move_of mc) (Ok tokens) → moves2.items ≡ moves.items ++ mc ∷ [] → vec_len moves2 ≡ vec_len moves + 1
+    → vec_capacity moves2 ≡ vec_capacity moves → 0 < vec_capacity moves - vec_len moves
     → IsNext (book_of w core moves sinks reads) (book_of w nxt moves2 sinks2 reads2) (move_of mc)
 next_is w core nxt moves moves2 mc sinks sinks2 reads reads2 tokens b f is len capacity room = record {
   gone = record { work = refl; journal = pushed moves.items moves2.items mc is };
@@ -284,7 +318,8 @@ next_is w core nxt moves moves2 mc sinks sinks2 reads reads2 tokens b f is len c
 }
 
 -- a list for each actor
-pub sinks_each : (w : Work) (core : View) (journal : List Move) (sinks reads : List (List ℤ)) → IsBook (floor_of w core journal sinks) reads → length sinks ≡ length core.plan.sources
+pub sinks_each : (w : Work) (core : View) (journal : List Move) (sinks reads : List (List ℤ)) → IsBook (floor_of w core journal sinks) reads
+    → length sinks ≡ length core.plan.sources
 sinks_each w core journal sinks reads b =
     ap length b.sinks
     ∙ length-map-range_with_len (sink_of (program w) journal) 0 (length (program w).plan.sources)
@@ -293,8 +328,10 @@ sinks_each w core journal sinks reads b =
 pub read_there : (plan : Plan) (p : Present) (a : ℕ) → refusal plan p (Read a) ≡ None → a < length plan.sources
 read_there plan p a none = (reads plan p a none).there
 
-pub book_fetch : (w : Work) (core nxt : View) (moves moves2 : List MoveCode) (sinks sinks2 : List (List ℤ)) (buffers : List (Vec ℤ)) (buffer : Vec ℤ) (a : ℕ) → refusal core.plan core.now (Read a) ≡ None
-    → IsBook (floor_of w core (map move_of moves) sinks) (feeds_in buffers) → Follows core nxt (Read a) (Ok buffer.items) → moves2 ≡ moves ++ code.Read a ∷ [] → sinks2 ≡ sinks_after w sinks a buffer.items
+pub book_fetch : (w : Work) (core nxt : View) (moves moves2 : List MoveCode) (sinks sinks2 : List (List ℤ)) (buffers : List (Vec ℤ)) (buffer : Vec ℤ) (a : ℕ)
+    → refusal core.plan core.now (Read a) ≡ None
+    → IsBook (floor_of w core (map move_of moves) sinks) (feeds_in buffers) → Follows core nxt (Read a) (Ok buffer.items) → moves2 ≡ moves ++ code.Read a ∷ []
+    → sinks2 ≡ sinks_after w sinks a buffer.items
     → IsBook (floor_of w nxt (map move_of moves2) sinks2) (feeds_in (set buffers a buffer))
 book_fetch w core nxt moves moves2 sinks sinks2 buffers buffer a none b f is took =
     let whole = book_read w core nxt (map move_of moves) sinks (feeds_in buffers) a buffer.items (read_there core.plan core.now a none) b f in
@@ -319,7 +356,8 @@ first_sinks w k (suc n) = let here : sink_of w [] k ≡ [] = none (is_sink_kerne
     none true = refl
     none false = refl
 
-pub book_opened : (w : Work) (core : View) (sinks reads : List (List ℤ)) → IsWork w → core.plan ≡ (program w).plan → Shows core (opening core.plan) → core.peaks ≡ first_peaks core.plan
+pub book_opened : (w : Work) (core : View) (sinks reads : List (List ℤ)) → IsWork w → core.plan ≡ (program w).plan → Shows core (opening core.plan)
+    → core.peaks ≡ first_peaks core.plan
     → sinks ≡ replicate (length core.plan.sources) [] → length reads ≡ length core.plan.sources → IsBook (floor_of w core [] sinks) reads
 book_opened w core sinks reads work plan shows peaks none each = record {
   work = work;
@@ -334,7 +372,8 @@ book_opened w core sinks reads work plan shows peaks none each = record {
 
 -- ---- the buffer of an idle actor
 
-pub book_resized : (f : FloorView) (buffers : List (Vec ℤ)) (a : ℕ) (x : Vec ℤ) → IsBook f (feeds_in buffers) → stage f.core.now a ≡ Idle → IsBook f (feeds_in (set buffers a x))
+pub book_resized : (f : FloorView) (buffers : List (Vec ℤ)) (a : ℕ) (x : Vec ℤ) → IsBook f (feeds_in buffers) → stage f.core.now a ≡ Idle
+    → IsBook f (feeds_in (set buffers a x))
 book_resized f buffers a x b idle =
     let same : feeds_in (set buffers a x) ≡ set (feeds_in buffers) a x.items = map-set (λ (v : Vec ℤ). v.items) buffers a x in
     subst (IsBook f) (sym same) (record {
@@ -358,14 +397,17 @@ staged f reads b =
     ∙ (faithful_end (program f.work) f.journal b.kept.honest).booked.staged
     ∙ ap (λ (u : Plan). length u.sources) (sym b.kept.plan)
 
-pub may_read : (plan plan2 : Plan) (p p2 : Present) (a : ℕ) → length p.stages ≡ length plan.sources → refusal plan p (Begin a) ≡ None → plan2 ≡ plan → p2 ≡ next plan p (Begin a) → refusal plan2 p2 (Read a) ≡ None
+pub may_read : (plan plan2 : Plan) (p p2 : Present) (a : ℕ) → length p.stages ≡ length plan.sources → refusal plan p (Begin a) ≡ None → plan2 ≡ plan
+    → p2 ≡ next plan p (Begin a) → refusal plan2 p2 (Read a) ≡ None
 may_read plan plan2 p p2 a len none same now =
     let there = (can_begin plan p a none).exists in
     let at : stage p2 a ≡ Begun = ap (λ (q : Present). stage q a) now ∙ get_or-set_same p.stages a Begun Idle (omega arith) in
     reads_free plan2 p2 a (let e = ap (λ (u : Plan). length u.sources) same in omega arith) at
 
-pub has_taken : (old mid new : BookView) (a : ℕ) → IsBook old.shown old.reads → refusal old.shown.core.plan old.shown.core.now (Begin a) ≡ None → IsNext old mid (Begin a) → mid.reads ≡ old.reads → IsNext mid new (Read a)
-    → length (get_or new.reads a []) ≡ length (get_or mid.reads a []) → get_or new.reads a [] ≡ get_or (reads_of (program new.shown.work) new.shown.journal) a [] → HasTaken old new a
+pub has_taken : (old mid new : BookView) (a : ℕ) → IsBook old.shown old.reads → refusal old.shown.core.plan old.shown.core.now (Begin a) ≡ None
+    → IsNext old mid (Begin a) → mid.reads ≡ old.reads → IsNext mid new (Read a)
+    → length (get_or new.reads a []) ≡ length (get_or mid.reads a [])
+    → get_or new.reads a [] ≡ get_or (reads_of (program new.shown.work) new.shown.journal) a [] → HasTaken old new a
 has_taken old mid new a b none one same two buffer tokens =
     let there = (can_begin old.shown.core.plan old.shown.core.now a none).exists in
     let len = staged old.shown old.reads b in
@@ -396,12 +438,14 @@ may_write f reads a v b there at is =
     writes_free f.core.plan f.core.now a v there at
     (ap length is ∙ length_value w a k (get_or (reads_of w f.journal) a []) ∙ ap (λ (u : Plan). gift a k u.channels) (sym b.kept.plan))
 
-pub may_finish : (plan plan2 : Plan) (p p2 : Present) (a : ℕ) (v : List ℤ) → length p.stages ≡ length plan.sources → a < length plan.sources → plan2 ≡ plan → p2 ≡ next plan p (Write a v) → refusal plan2 p2 (Finish a) ≡ None
+pub may_finish : (plan plan2 : Plan) (p p2 : Present) (a : ℕ) (v : List ℤ) → length p.stages ≡ length plan.sources → a < length plan.sources → plan2 ≡ plan
+    → p2 ≡ next plan p (Write a v) → refusal plan2 p2 (Finish a) ≡ None
 may_finish plan plan2 p p2 a v len there same now =
     let at : stage p2 a ≡ Written = ap (λ (q : Present). stage q a) now ∙ get_or-set_same p.stages a Written Idle (omega arith) in
     finishes_free plan2 p2 a (let e = ap (λ (u : Plan). length u.sources) same in omega arith) at
 
-pub has_given : (old mid new : BookView) (a : ℕ) (v : List ℤ) → length old.shown.core.now.stages ≡ length old.shown.core.plan.sources → a < length old.shown.core.plan.sources → IsNext old mid (Write a v) → IsNext mid new (Finish a)
+pub has_given : (old mid new : BookView) (a : ℕ) (v : List ℤ) → length old.shown.core.now.stages ≡ length old.shown.core.plan.sources
+    → a < length old.shown.core.plan.sources → IsNext old mid (Write a v) → IsNext mid new (Finish a)
     → HasGiven old new a v
 has_given old mid new a v len there one two =
     let stages : new.shown.core.now.stages ≡ set old.shown.core.now.stages a Idle =
@@ -409,7 +453,8 @@ has_given old mid new a v len there one two =
     record {
       gone = record {
         work = two.gone.work ∙ one.gone.work;
-        journal = two.gone.journal ∙ ap (λ (js : List Move). js ++ Finish a ∷ []) one.gone.journal ∙ append_assoc old.shown.journal (Write a v ∷ []) (Finish a ∷ []);
+        journal = two.gone.journal ∙ ap (λ (js : List Move). js ++ Finish a ∷ []) one.gone.journal
+            ∙ append_assoc old.shown.journal (Write a v ∷ []) (Finish a ∷ []);
       };
       room = (let r = one.room in let q = two.room in omega arith);
       plan = two.plan ∙ one.plan;
@@ -420,22 +465,26 @@ has_given old mid new a v len there one two =
     }
 
 -- what is in the buffer after a read
-pub fetch_tokens : (w : Work) (core nxt : View) (moves moves2 : List MoveCode) (sinks sinks2 : List (List ℤ)) (buffers : List (Vec ℤ)) (buffer : Vec ℤ) (a : ℕ) → refusal core.plan core.now (Read a) ≡ None
-    → IsBook (floor_of w core (map move_of moves) sinks) (feeds_in buffers) → Follows core nxt (Read a) (Ok buffer.items) → moves2 ≡ moves ++ code.Read a ∷ [] → sinks2 ≡ sinks_after w sinks a buffer.items
+pub fetch_tokens : (w : Work) (core nxt : View) (moves moves2 : List MoveCode) (sinks sinks2 : List (List ℤ)) (buffers : List (Vec ℤ)) (buffer : Vec ℤ) (a : ℕ)
+    → refusal core.plan core.now (Read a) ≡ None
+    → IsBook (floor_of w core (map move_of moves) sinks) (feeds_in buffers) → Follows core nxt (Read a) (Ok buffer.items) → moves2 ≡ moves ++ code.Read a ∷ []
+    → sinks2 ≡ sinks_after w sinks a buffer.items
     → get_or (feeds_in (set buffers a buffer)) a [] ≡ get_or (reads_of (program w) (map move_of moves2)) a []
 fetch_tokens w core nxt moves moves2 sinks sinks2 buffers buffer a none b f is took =
     let whole = book_fetch w core nxt moves moves2 sinks sinks2 buffers buffer a none b f is took in
     let there = read_there core.plan core.now a none in
     let len = staged (floor_of w core (map move_of moves) sinks) (feeds_in buffers) b in
     let at : stage nxt.now a ≡ Fetched =
-    ap (λ (p : Present). stage p a) (now_next (program w) core nxt (map move_of moves) (Read a) buffer.items b.kept f) ∙ get_or-set_same core.now.stages a Fetched Idle (omega arith) in
+    ap (λ (p : Present). stage p a) (now_next (program w) core nxt (map move_of moves) (Read a) buffer.items b.kept f)
+    ∙ get_or-set_same core.now.stages a Fetched Idle (omega arith) in
     whole.last_reads a (let e = ap (λ (u : Plan). length u.sources) f.plan in omega arith) at
 
 pub fetch_length : (buffers : List (Vec ℤ)) (old new : Vec ℤ) (a : ℕ) → a < length buffers → old ≡ get_or buffers a old → length new.items ≡ length old.items
     → length (get_or (feeds_in (set buffers a new)) a []) ≡ length (get_or (feeds_in buffers) a [])
 fetch_length buffers old new a lt is same =
     let long = length-set buffers a new in
-    ap length (sym (item_at (set buffers a new) a new (omega arith) (sym (get_or-set_same buffers a new new lt)))) ∙ same ∙ ap length (item_at buffers a old lt is)
+    ap length (sym (item_at (set buffers a new) a new (omega arith) (sym (get_or-set_same buffers a new new lt)))) ∙ same
+    ∙ ap length (item_at buffers a old lt is)
 
 pub counted : (f : FloorView) (reads : List (List ℤ)) → IsBook f reads → length f.core.now.counts ≡ length f.core.plan.sources
 counted f reads b =

@@ -1,5 +1,6 @@
 -- Closing channels one after another.
-use Rattle.std.proofs.Common.{◌≡◌, ◌≢◌, ℕ, zero, suc, ◌+◌, ◌-◌, ◌<◌, ◌≤◌, ◌==◌, ◌&&◌, ◌||◌, cond, inl, inr, List, [], ◌∷◌, ◌++◌, length, map, filter, get_or, set, take, refl, ap, sym, subst, ◌∙◌, arith, append-nil, append_assoc, Bool, true, false, not, eqb-true, eq-eqb, None, Option}
+use Rattle.std.proofs.Common.{◌≡◌, ◌≢◌, ℕ, zero, suc, ◌+◌, ◌-◌, ◌<◌, ◌≤◌, ◌==◌, ◌&&◌, ◌||◌, cond, inl, inr, List, [], ◌∷◌, ◌++◌, length, map, filter, get_or}
+use Rattle.std.proofs.Common.{set, take, refl, ap, sym, subst, ◌∙◌, arith, append-nil, append_assoc, Bool, true, false, not, eqb-true, eq-eqb, None, Option}
 use Rattle.std.specs.List.{range_with_len}
 use Rattle.std.specs.Prelude.{slice_index_or}
 use Rattle.std.proofs.lemmas.List.{take_more, get_or-set_other, map-append}
@@ -35,7 +36,11 @@ rising_numbers test i (x ∷ xs) = by (test x) (rising_numbers test (suc i) xs)
 
 pub rising_range : (a n : ℕ) → IsRising a (range_with_len a n)
 rising_range a zero = tt
-rising_range a (suc n) = ((let e : a ≤ a = omega arith in e), subst (λ m. IsRising m (range_with_len (a + 1) n)) (let e : a + 1 ≡ suc a = omega arith in e) (rising_range (a + 1) n))
+rising_range a (suc n) = (
+  (let e : a ≤ a = omega arith in e),
+  subst (λ m. IsRising m (range_with_len (a + 1) n)) (let e : a + 1 ≡ suc a = omega arith in
+      e) (rising_range (a + 1) n),
+)
 
 pub above : (m k : ℕ) (ns : List ℕ) → IsRising m ns → k < length ns → m ≤ get_or ns k 0
 above m k [] r lt = absurd (omega arith)
@@ -58,7 +63,8 @@ not_before m k [] r lt = absurd (omega arith)
 not_before m zero (n ∷ ns) r lt = refl
 not_before m (suc k) (n ∷ ns) r lt =
     let h = above (suc n) k ns r.1 (omega arith) in
-    or_false (n == get_or ns k 0) (is_in (get_or ns k 0) (take k ns)) (ne_eqb n (get_or ns k 0) (λ e. absurd (omega arith))) (not_before (suc n) k ns r.1 (omega arith))
+    or_false (n == get_or ns k 0) (is_in (get_or ns k 0) (take k ns)) (ne_eqb n (get_or ns k 0) (λ e. absurd (omega arith)))
+    (not_before (suc n) k ns r.1 (omega arith))
 
 in_more : (n m : ℕ) (ns : List ℕ) → is_in n (ns ++ m ∷ []) ≡ (is_in n ns || m == n)
 in_more n m [] = or_nil (m == n)
@@ -76,7 +82,8 @@ filter_more : (test : ℕ → Bool) (ns : List ℕ) (m : ℕ) → filter test (n
 filter_more test [] m = refl
 filter_more test (n ∷ ns) m = by (test n) (filter_more test ns m)
   where
-    by : (b : Bool) → filter test (ns ++ m ∷ []) ≡ filter test ns ++ cond (test m) (m ∷ []) [] → cond b (n ∷ filter test (ns ++ m ∷ [])) (filter test (ns ++ m ∷ [])) ≡ cond b (n ∷ filter test ns) (filter test ns) ++ cond (test m) (m ∷ []) []
+    by : (b : Bool) → filter test (ns ++ m ∷ []) ≡ filter test ns ++ cond (test m) (m ∷ []) []
+        → cond b (n ∷ filter test (ns ++ m ∷ [])) (filter test (ns ++ m ∷ [])) ≡ cond b (n ∷ filter test ns) (filter test ns) ++ cond (test m) (m ∷ []) []
     by true rest = cc
     by false rest = rest
 
@@ -85,14 +92,16 @@ filter_more test (n ∷ ns) m = by (test n) (filter_more test ns m)
 abbrev pub outputs_from : ℕ → ℕ → List Channel → List ℕ
 outputs_from a i cs = numbers_from i (λ (c : Channel). c.from == a) cs
 
-pub from_actor : (a i k : ℕ) (cs : List Channel) → k < length (outputs_from a i cs) → get_or (map (λ (c : Channel). c.from) cs) (get_or (outputs_from a i cs) k 0 - i) 0 ≡ a
+pub from_actor : (a i k : ℕ) (cs : List Channel) → k < length (outputs_from a i cs)
+    → get_or (map (λ (c : Channel). c.from) cs) (get_or (outputs_from a i cs) k 0 - i) 0 ≡ a
 from_actor a i k [] lt = absurd (omega arith)
 from_actor a i k (c ∷ cs) lt = by (c.from == a) refl (λ j near. from_actor a (suc i) j cs near) k lt
   where
     makers : List ℕ
     makers = map (λ (d : Channel). d.from) (c ∷ cs)
 
-    later : ((j : ℕ) → j < length (outputs_from a (suc i) cs) → get_or (map (λ (d : Channel). d.from) cs) (get_or (outputs_from a (suc i) cs) j 0 - suc i) 0 ≡ a)
+    later : ((j : ℕ) → j < length (outputs_from a (suc i) cs)
+        → get_or (map (λ (d : Channel). d.from) cs) (get_or (outputs_from a (suc i) cs) j 0 - suc i) 0 ≡ a)
         → (j : ℕ) → j < length (outputs_from a (suc i) cs) → get_or makers (get_or (outputs_from a (suc i) cs) j 0 - i) 0 ≡ a
     later rest j near =
         let n : ℕ = get_or (outputs_from a (suc i) cs) j 0 in
@@ -100,8 +109,10 @@ from_actor a i k (c ∷ cs) lt = by (c.from == a) refl (λ j near. from_actor a 
         let e : n - i ≡ suc (n - suc i) = omega arith in
         ap (λ m. get_or makers m 0) e ∙ rest j near
 
-    by : (b : Bool) → (c.from == a) ≡ b → ((j : ℕ) → j < length (outputs_from a (suc i) cs) → get_or (map (λ (d : Channel). d.from) cs) (get_or (outputs_from a (suc i) cs) j 0 - suc i) 0 ≡ a)
-        → (j : ℕ) → j < length (cond b (i ∷ outputs_from a (suc i) cs) (outputs_from a (suc i) cs)) → get_or makers (get_or (cond b (i ∷ outputs_from a (suc i) cs) (outputs_from a (suc i) cs)) j 0 - i) 0 ≡ a
+    by : (b : Bool) → (c.from == a) ≡ b → ((j : ℕ) → j < length (outputs_from a (suc i) cs)
+        → get_or (map (λ (d : Channel). d.from) cs) (get_or (outputs_from a (suc i) cs) j 0 - suc i) 0 ≡ a)
+        → (j : ℕ) → j < length (cond b (i ∷ outputs_from a (suc i) cs) (outputs_from a (suc i) cs))
+        → get_or makers (get_or (cond b (i ∷ outputs_from a (suc i) cs) (outputs_from a (suc i) cs)) j 0 - i) 0 ≡ a
     by true is rest zero near = (let e : i - i ≡ 0 = omega arith in ap (λ m. get_or makers m 0) e) ∙ eqb-true c.from a is
     by true is rest (suc j) near = later rest j (omega arith)
     by false is rest j near = later rest j near
@@ -113,7 +124,8 @@ below_all m c (n ∷ ns) r lt =
     or_false (n == c) (is_in c ns) (ne_eqb n c (λ e. absurd (let h = r.0 in omega arith))) (below_all (suc n) c ns r.1 (let h = r.0 in omega arith))
 
 -- a channel is among the outputs of an actor where the actor is its producer
-pub in_outputs : (a i c : ℕ) (cs : List Channel) → i ≤ c → c < i + length cs → is_in c (outputs_from a i cs) ≡ (get_or (map (λ (d : Channel). d.from) cs) (c - i) 0 == a)
+pub in_outputs : (a i c : ℕ) (cs : List Channel) → i ≤ c → c < i + length cs
+    → is_in c (outputs_from a i cs) ≡ (get_or (map (λ (d : Channel). d.from) cs) (c - i) 0 == a)
 in_outputs a i c [] le lt = absurd (omega arith)
 in_outputs a i c (d ∷ cs) le lt = elim (eqb_tells i c) [
   | inl e ↦
@@ -155,14 +167,16 @@ closed_none f cs = record {
 
 pub over_same : (plan plan2 : Plan) (p p2 : Present) (a : ℕ) → plan2 ≡ plan → p2.counts ≡ p.counts → is_over plan2 p2 a ≡ is_over plan p a
 over_same plan plan2 p p2 a same counts =
-    ap (λ (u : Plan). is_over u p2 a) same ∙ ap (λ (ks : List ℕ). is_over plan (record { counts = ks; stages = p.stages; opens = p.opens; tokens = p.tokens }) a) counts
+    ap (λ (u : Plan). is_over u p2 a) same ∙ ap (λ (ks : List ℕ). is_over plan (record { counts = ks; stages = p.stages; opens = p.opens; tokens = p.tokens })
+    a) counts
 
 -- which channels have been closed of those that are due
 abbrev pub shut : FloorView → List ℕ → ℕ → Bool
 shut f cs c = is_open f.core.now c && not (is_in c cs && is_over f.core.plan f.core.now (producer f.core.plan c))
 
 shut_none : (f : FloorView) (cs : List ℕ) (c : ℕ) → is_in c cs ≡ false → shut f cs c ≡ is_open f.core.now c
-shut_none f cs c out = ap (λ b. is_open f.core.now c && not (b && is_over f.core.plan f.core.now (producer f.core.plan c))) out ∙ and_true (is_open f.core.now c)
+shut_none f cs c out = ap (λ b. is_open f.core.now c && not (b && is_over f.core.plan f.core.now (producer f.core.plan c))) out
+    ∙ and_true (is_open f.core.now c)
   where
     and_true : (b : Bool) → (b && true) ≡ b
     and_true true = refl
@@ -170,21 +184,25 @@ shut_none f cs c out = ap (λ b. is_open f.core.now c && not (b && is_over f.cor
 
 shut_more : (f : FloorView) (cs : List ℕ) (c d : ℕ) → c ≢ d → shut f (cs ++ c ∷ []) d ≡ shut f cs d
 shut_more f cs c d ne =
-    ap (λ b. is_open f.core.now d && not (b && is_over f.core.plan f.core.now (producer f.core.plan d))) (in_more d c cs ∙ or_right (is_in d cs) (c == d) (ne_eqb c d ne))
+    ap (λ b. is_open f.core.now d && not (b && is_over f.core.plan f.core.now (producer f.core.plan d))) (in_more d c cs
+    ∙ or_right (is_in d cs) (c == d) (ne_eqb c d ne))
   where
     or_right : (b e : Bool) → e ≡ false → (b || e) ≡ b
     or_right true e is = refl
     or_right false e is = is
 
 -- the one that is looked at
-shut_own : (f : FloorView) (cs : List ℕ) (c : ℕ) → shut f (cs ++ c ∷ []) c ≡ (is_open f.core.now c && not (is_over f.core.plan f.core.now (producer f.core.plan c)))
-shut_own f cs c = ap (λ b. is_open f.core.now c && not (b && is_over f.core.plan f.core.now (producer f.core.plan c))) (in_more c c cs ∙ or_true (is_in c cs) (c == c) (eq-eqb c c refl))
+shut_own : (f : FloorView) (cs : List ℕ) (c : ℕ) → shut f (cs ++ c ∷ []) c ≡ (is_open f.core.now c
+    && not (is_over f.core.plan f.core.now (producer f.core.plan c)))
+shut_own f cs c = ap (λ b. is_open f.core.now c && not (b && is_over f.core.plan f.core.now (producer f.core.plan c))) (in_more c c cs
+    ∙ or_true (is_in c cs) (c == c) (eq-eqb c c refl))
   where
     or_true : (b e : Bool) → e ≡ true → (b || e) ≡ true
     or_true true e is = refl
     or_true false e is = is
 
-closes_more : (plan : Plan) (p : Present) (cs : List ℕ) (c : ℕ) → closes plan p (cs ++ c ∷ []) ≡ closes plan p cs ++ map Close (cond (is_due plan p c) (c ∷ []) [])
+closes_more : (plan : Plan) (p : Present) (cs : List ℕ) (c : ℕ) → closes plan p (cs ++ c ∷ []) ≡ closes plan p cs
+    ++ map Close (cond (is_due plan p c) (c ∷ []) [])
 closes_more plan p cs c = ap (map Close) (filter_more (is_due plan p) cs c) ∙ map-append Close (filter (is_due plan p) cs) (cond (is_due plan p c) (c ∷ []) [])
 
 closed_at : (os : List Bool) (c : ℕ) → slice_index_or (set os c false) c false ≡ false
@@ -202,7 +220,8 @@ module _ (old mid new : FloorView) (cs : List ℕ) (c : ℕ) (done : AreClosed o
       ∙ ap (λ b. is_open old.core.now c && b) (over_same old.core.plan mid.core.plan old.core.now mid.core.now (producer old.core.plan c) done.plan done.counts)
 
   -- it was due
-  pub closed_one : is_due old.core.plan old.core.now c ≡ true → HasGone mid new (Close c ∷ []) → new.core.plan ≡ mid.core.plan → new.core.now ≡ next mid.core.plan mid.core.now (Close c) → AreClosed old new (cs ++ c ∷ [])
+  pub closed_one : is_due old.core.plan old.core.now c ≡ true → HasGone mid new (Close c ∷ []) → new.core.plan ≡ mid.core.plan
+      → new.core.now ≡ next mid.core.plan mid.core.now (Close c) → AreClosed old new (cs ++ c ∷ [])
   closed_one due gone plan now = record {
     gone = record {
       work = gone.work ∙ done.gone.work;
@@ -226,7 +245,8 @@ module _ (old mid new : FloorView) (cs : List ℕ) (c : ℕ) (done : AreClosed o
     ];
   }
     where
-      shut_due : is_due old.core.plan old.core.now c ≡ true → (is_open old.core.now c && not (is_over old.core.plan old.core.now (producer old.core.plan c))) ≡ false
+      shut_due : is_due old.core.plan old.core.now c ≡ true
+          → (is_open old.core.now c && not (is_over old.core.plan old.core.now (producer old.core.plan c))) ≡ false
       shut_due = by (is_open old.core.now c) (is_over old.core.plan old.core.now (producer old.core.plan c))
         where
           by : (b o : Bool) → (b && o) ≡ true → (b && not o) ≡ false
@@ -241,18 +261,21 @@ module _ (old mid new : FloorView) (cs : List ℕ) (c : ℕ) (done : AreClosed o
       work = done.gone.work;
       journal = done.gone.journal
           ∙ ap (λ (js : List Move). old.journal ++ js)
-          (sym (append-nil (closes old.core.plan old.core.now cs)) ∙ ap (λ b. closes old.core.plan old.core.now cs ++ map Close (cond b (c ∷ []) [])) (sym due) ∙ sym (closes_more old.core.plan old.core.now cs c));
+          (sym (append-nil (closes old.core.plan old.core.now cs)) ∙ ap (λ b. closes old.core.plan old.core.now cs ++ map Close (cond b (c ∷ []) [])) (sym due)
+          ∙ sym (closes_more old.core.plan old.core.now cs c));
     };
     plan = done.plan;
     counts = done.counts;
     stages = done.stages;
     opens = λ d. elim (eqb_tells c d) [
-      | inl e ↦ ap (is_open mid.core.now) (sym e.1) ∙ done.opens c ∙ shut_none old cs c out ∙ sym (shut_not due) ∙ sym (shut_own old cs c) ∙ ap (shut old (cs ++ c ∷ [])) e.1
+      | inl e ↦ ap (is_open mid.core.now) (sym e.1) ∙ done.opens c ∙ shut_none old cs c out ∙ sym (shut_not due) ∙ sym (shut_own old cs c)
+          ∙ ap (shut old (cs ++ c ∷ [])) e.1
       | inr e ↦ done.opens d ∙ sym (shut_more old cs c d e.1)
     ];
   })
     where
-      shut_not : is_due old.core.plan old.core.now c ≡ false → (is_open old.core.now c && not (is_over old.core.plan old.core.now (producer old.core.plan c))) ≡ is_open old.core.now c
+      shut_not : is_due old.core.plan old.core.now c ≡ false
+          → (is_open old.core.now c && not (is_over old.core.plan old.core.now (producer old.core.plan c))) ≡ is_open old.core.now c
       shut_not = by (is_open old.core.now c) (is_over old.core.plan old.core.now (producer old.core.plan c))
         where
           by : (b o : Bool) → (b && o) ≡ false → (b && not o) ≡ b
@@ -262,7 +285,8 @@ module _ (old mid new : FloorView) (cs : List ℕ) (c : ℕ) (done : AreClosed o
 
 -- one channel more was looked at
 pub closed_more : (old : FloorView) (mid new : BookView) (cs : List ℕ) (k : ℕ) → IsRising 0 cs → k < length cs → AreClosed old mid.shown (take k cs)
-    → (is_due mid.shown.core.plan mid.shown.core.now (get_or cs k 0) ≡ true → IsNext mid new (Close (get_or cs k 0))) → (is_due mid.shown.core.plan mid.shown.core.now (get_or cs k 0) ≡ false → new ≡ mid)
+    → (is_due mid.shown.core.plan mid.shown.core.now (get_or cs k 0) ≡ true → IsNext mid new (Close (get_or cs k 0)))
+    → (is_due mid.shown.core.plan mid.shown.core.now (get_or cs k 0) ≡ false → new ≡ mid)
     → AreClosed old new.shown (take (k + 1) cs)
 closed_more old mid new cs k rising lt done due other =
     let c : ℕ = get_or cs k 0 in
@@ -271,20 +295,24 @@ closed_more old mid new cs k rising lt done due other =
     subst (AreClosed old new.shown) (sym (take_more cs k 0 lt)) (by (is_due old.core.plan old.core.now c) refl out same)
   where
     by : (b : Bool) → is_due old.core.plan old.core.now (get_or cs k 0) ≡ b → is_in (get_or cs k 0) (take k cs) ≡ false
-        → is_due mid.shown.core.plan mid.shown.core.now (get_or cs k 0) ≡ is_due old.core.plan old.core.now (get_or cs k 0) → AreClosed old new.shown (take k cs ++ get_or cs k 0 ∷ [])
+        → is_due mid.shown.core.plan mid.shown.core.now (get_or cs k 0) ≡ is_due old.core.plan old.core.now (get_or cs k 0)
+        → AreClosed old new.shown (take k cs ++ get_or cs k 0 ∷ [])
     by true is out same = (let n = due (same ∙ is) in closed_one old mid.shown new.shown (take k cs) (get_or cs k 0) done out is n.gone n.plan n.now)
     by false is out same = closed_other old mid.shown new.shown (take k cs) (get_or cs k 0) done out is (ap (λ (b : BookView). b.shown) (other (same ∙ is)))
 
 -- it took one place of the room at most
-pub room_more : (mid new : BookView) (c n k : ℕ) → n ≤ mid.room + k → (is_due mid.shown.core.plan mid.shown.core.now c ≡ true → IsNext mid new (Close c)) → (is_due mid.shown.core.plan mid.shown.core.now c ≡ false → new ≡ mid) → n ≤ new.room + (k + 1)
+pub room_more : (mid new : BookView) (c n k : ℕ) → n ≤ mid.room + k → (is_due mid.shown.core.plan mid.shown.core.now c ≡ true → IsNext mid new (Close c))
+    → (is_due mid.shown.core.plan mid.shown.core.now c ≡ false → new ≡ mid) → n ≤ new.room + (k + 1)
 room_more mid new c n k le due other = by (is_due mid.shown.core.plan mid.shown.core.now c) refl
   where
     by : (b : Bool) → is_due mid.shown.core.plan mid.shown.core.now c ≡ b → n ≤ new.room + (k + 1)
     by true is = (let one = (due is).room in omega arith)
     by false is = (let same = ap (λ (b : BookView). b.room) (other is) in omega arith)
 
-pub closed_at_place : (old : FloorView) (mid new : BookView) (cs : List ℕ) (k c : ℕ) → c ≡ get_or cs k 0 → IsRising 0 cs → k < length cs → AreClosed old mid.shown (take k cs)
-    → (is_due mid.shown.core.plan mid.shown.core.now c ≡ true → IsNext mid new (Close c)) → (is_due mid.shown.core.plan mid.shown.core.now c ≡ false → new ≡ mid)
+pub closed_at_place : (old : FloorView) (mid new : BookView) (cs : List ℕ) (k c : ℕ) → c ≡ get_or cs k 0 → IsRising 0 cs → k < length cs
+    → AreClosed old mid.shown (take k cs)
+    → (is_due mid.shown.core.plan mid.shown.core.now c ≡ true → IsNext mid new (Close c))
+    → (is_due mid.shown.core.plan mid.shown.core.now c ≡ false → new ≡ mid)
     → AreClosed old new.shown (take (k + 1) cs)
 closed_at_place old mid new cs k c is rising lt done due other =
     closed_more old mid new cs k rising lt done

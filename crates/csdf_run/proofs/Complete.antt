@@ -1,5 +1,6 @@
 -- With no limit on all firings and ample cells: the sequential run is an honest journal, and long enough files are used up.
-use Rattle.std.proofs.Common.{◌≡◌, ℕ, ◌*◌, ◌<◌, ◌≤◌, nat_le, List, [], ◌∷◌, length, get_or, set, map, replicate, refl, ap, sym, subst, ◌∙◌, arith, true, false, Option, None, mul-le-mul}
+use Rattle.std.proofs.Common.{◌≡◌, ℕ, ◌*◌, ◌<◌, ◌≤◌, nat_le, List, [], ◌∷◌, length, get_or, set, map, replicate, refl, ap, sym, subst, ◌∙◌, arith, true, false}
+use Rattle.std.proofs.Common.{Option, None, mul-le-mul}
 use Rattle.std.specs.Prelude.{ℤ, slice_index}
 use Rattle.std.proofs.lemmas.List.{length-map}
 use Rattle.std.proofs.lemmas.List.Elements.{All-get_or, All-from_get_or}
@@ -42,13 +43,16 @@ record IsOpen (w : Program) (s : State) (kept : List (List ℤ)) : Type 0 where
 unlimited_goes_on : (plan : Plan) (p : Present) → plan.firings ≡ None → is_stopped plan p ≡ false
 unlimited_goes_on plan p unlimited = ap (λ (f : Option ℕ). is_reached f (begun_count p)) unlimited
 
-honest_cons : (w : Program) (s : State) (kept : List (List ℤ)) (m : Move) (ms : List Move) → IsHonestMove w s kept m → IsHonestFrom w (accepted w.plan s m) (reads_after w.plan s kept m) ms → IsHonestFrom w s kept (m ∷ ms)
+honest_cons : (w : Program) (s : State) (kept : List (List ℤ)) (m : Move) (ms : List Move) → IsHonestMove w s kept m
+    → IsHonestFrom w (accepted w.plan s m) (reads_after w.plan s kept m) ms → IsHonestFrom w s kept (m ∷ ms)
 honest_cons w s kept m ms h rest = (h, subst (λ (t : State). IsHonestFrom w t (reads_after w.plan s kept m) ms) (sym (after_is w.plan s m h.accepted)) rest)
 
-state_cons : (plan : Plan) (s : State) (m : Move) (ms : List Move) → refusal plan (present s) m ≡ None → state_after plan s (m ∷ ms) ≡ state_after plan (accepted plan s m) ms
+state_cons : (plan : Plan) (s : State) (m : Move) (ms : List Move) → refusal plan (present s) m ≡ None
+    → state_after plan s (m ∷ ms) ≡ state_after plan (accepted plan s m) ms
 state_cons plan s m ms none = ap (λ (t : State). state_after plan t ms) (after_is plan s m none)
 
-sequential_from : (w : Program) (s : State) (kept : List (List ℤ)) (actors : List ℕ) → w.plan.firings ≡ None → HasAmpleCells w.plan → IsOpen w s kept → IsSequentialFrom w s actors
+sequential_from : (w : Program) (s : State) (kept : List (List ℤ)) (actors : List ℕ) → w.plan.firings ≡ None → HasAmpleCells w.plan → IsOpen w s kept
+    → IsSequentialFrom w s actors
     → IsHonestFrom w s kept (moves_from w s actors) × (state_after w.plan s (moves_from w s actors) ≡ state_from w s actors)
 sequential_from w s kept [] unlimited ample o p = (tt, refl)
 sequential_from w s kept (a ∷ actors) unlimited ample o p =
@@ -63,7 +67,8 @@ sequential_from w s kept (a ∷ actors) unlimited ample o p =
     let s3 : State = after_write w s a in
     let s4 : State = fired w s a in
     let g = goes w s kept a o.faithful can in
-    let n1 : refusal w.plan (present s) (Begin a) ≡ None = begins_free w.plan (present s) a (all_open w.plan s a o.opens) (unlimited_goes_on w.plan (present s) unlimited) ample o.reached.fit can in
+    let n1 : refusal w.plan (present s) (Begin a) ≡ None =
+    begins_free w.plan (present s) a (all_open w.plan s a o.opens) (unlimited_goes_on w.plan (present s) unlimited) ample o.reached.fit can in
     let n2 : refusal w.plan (present s1) (Read a) ≡ None = reads_free w.plan (present s1) a there g.begun in
     let n3 : refusal w.plan (present s2) (Write a v) ≡ None = writes_free w.plan (present s2) a v there g.read (length_value w a k read) in
     let n4 : refusal w.plan (present s3) (Finish a) ≡ None = finishes_free w.plan (present s3) a there g.written in
@@ -86,13 +91,16 @@ sequential_from w s kept (a ∷ actors) unlimited ample o p =
 
 pub sequential_is_honest : SequentialIsHonest
 sequential_is_honest w actors playable unlimited ample p =
-    sequential_from w (opening w.plan) (no_reads w.plan) actors unlimited ample (record { faithful = faithful_opening w; reached = reached_opening w.plan playable; opens = refl }) p
+    sequential_from w (opening w.plan) (no_reads w.plan) actors unlimited ample
+    (record { faithful = faithful_opening w; reached = reached_opening w.plan playable; opens = refl }) p
 
 -- ---- long enough files
 
 -- what the accepted graph's periods keep
-pub limits_match : (a : Accepted) (feeds : List (List ℤ)) (periods : ℕ) (firings : Option ℕ) → IsAccepted a → length (program_for a feeds periods firings).plan.limits ≡ length (program_for a feeds periods firings).plan.sources
-limits_match a feeds periods firings ok = length-map a.q (λ q. periods * q) ∙ ok.repetition.firings.each_actor ∙ sym (length-map a.graph.actors (λ (actor : graph.Actor). is_source_kernel actor.kernel))
+pub limits_match : (a : Accepted) (feeds : List (List ℤ)) (periods : ℕ) (firings : Option ℕ) → IsAccepted a
+    → length (program_for a feeds periods firings).plan.limits ≡ length (program_for a feeds periods firings).plan.sources
+limits_match a feeds periods firings ok = length-map a.q (λ q. periods * q) ∙ ok.repetition.firings.each_actor
+    ∙ sym (length-map a.graph.actors (λ (actor : graph.Actor). is_source_kernel actor.kernel))
 
 pub ends_complete : EndsComplete
 unfolding IsQuiet
@@ -102,7 +110,8 @@ ends_complete a feeds periods journal ok few ample cells h quiet x there =
     let reached = reached_all w.plan (opening w.plan) journal (reached_opening w.plan (playable_program a feeds periods None ok few)) in
     let exhausted : IsExhausted w.plan (present s) = record {
       idle = λ b lt. (quiet b lt).0;
-      stuck = λ b can. (quiet b can.exists).1 (begins_free w.plan (present s) b (no_output_closed w.plan s b (done_end w journal h) can) refl cells reached.fit can);
+      stuck = λ b can. (quiet b can.exists).1 (begins_free w.plan (present s) b (no_output_closed w.plan s b (done_end w journal h) can) refl cells reached.fit
+          can);
     } in
     let sequential = has_sequential_run w (limits_match a feeds periods None ok) in
     let same = ends_as_sequential w journal sequential.0 h sequential.1 exhausted in

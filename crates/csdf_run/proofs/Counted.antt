@@ -18,7 +18,8 @@ use Rattle.csdf_run.proofs.Bounds.{faithful_end}
 use Rattle.csdf_run.proofs.Sequential.{rest_opening, rest_all}
 use Rattle.csdf_run.proofs.Ends.{stays_within, ends_as_sequential}
 
-first_written : (cs : List Channel) (c : ℕ) → part c (map in_written (map (λ (d : Channel). record { written = d.initial; taken = 0 }) cs)) ≡ part c (map (λ (d : Channel). d.initial) cs)
+first_written : (cs : List Channel) (c : ℕ) → part c (map in_written (map (λ (d : Channel). record { written = d.initial; taken = 0 }) cs))
+    ≡ part c (map (λ (d : Channel). d.initial) cs)
 first_written [] c = refl
 first_written (d ∷ cs) zero = refl
 first_written (d ∷ cs) (suc c) = first_written cs c
@@ -28,22 +29,27 @@ first_gone [] c = refl
 first_gone (d ∷ cs) zero = refl
 first_gone (d ∷ cs) (suc c) = first_gone cs c
 
-gone_length : (c : ℕ) (sts : List Stream) → AllByRecursion (λ (stream : Stream). stream.taken ≤ length stream.written) sts → length (part c (map gone sts)) ≡ get_or (map (λ (stream : Stream). stream.taken) sts) c 0
+gone_length : (c : ℕ) (sts : List Stream) → AllByRecursion (λ (stream : Stream). stream.taken ≤ length stream.written) sts
+    → length (part c (map gone sts)) ≡ get_or (map (λ (stream : Stream). stream.taken) sts) c 0
 gone_length c [] l = refl
 gone_length zero (st ∷ sts) l = length-take-le st.taken st.written l.0
 gone_length (suc c) (st ∷ sts) l = gone_length c sts l.1
 
 -- so many tokens were written and taken
-pub written_is : (w : Program) (journal : List Move) (c : ℕ) → IsPlayable w.plan → length (initial w.plan c) + length (written_to w.plan c journal (replies_to w journal)) ≡ length (written_in (state_of w journal) c)
+pub written_is : (w : Program) (journal : List Move) (c : ℕ) → IsPlayable w.plan
+    → length (initial w.plan c) + length (written_to w.plan c journal (replies_to w journal)) ≡ length (written_in (state_of w journal) c)
 written_is w journal c h =
     let g = grown w.plan (opening w.plan) c journal (reached_opening w.plan h) in
-    sym (ap length (g.written ∙ ap (λ (z : List ℤ). z ++ written_to w.plan c journal (replies_to w journal)) (first_written w.plan.channels c)) ∙ length-append (initial w.plan c) (written_to w.plan c journal (replies_to w journal)))
+    sym (ap length (g.written ∙ ap (λ (z : List ℤ). z ++ written_to w.plan c journal (replies_to w journal)) (first_written w.plan.channels c))
+    ∙ length-append (initial w.plan c) (written_to w.plan c journal (replies_to w journal)))
 
-pub taken_is : (w : Program) (journal : List Move) (c : ℕ) → IsPlayable w.plan → length (tokens_taken w.plan c journal (replies_to w journal)) ≡ taken_in (state_of w journal) c
+pub taken_is : (w : Program) (journal : List Move) (c : ℕ) → IsPlayable w.plan
+    → length (tokens_taken w.plan c journal (replies_to w journal)) ≡ taken_in (state_of w journal) c
 taken_is w journal c h =
     let g = grown w.plan (opening w.plan) c journal (reached_opening w.plan h) in
     let r = reached_all w.plan (opening w.plan) journal (reached_opening w.plan h) in
-    sym (ap length (g.gone ∙ ap (λ (z : List ℤ). z ++ tokens_taken w.plan c journal (replies_to w journal)) (first_gone w.plan.channels c))) ∙ gone_length c (state_of w journal).streams r.lawful
+    sym (ap length (g.gone ∙ ap (λ (z : List ℤ). z ++ tokens_taken w.plan c journal (replies_to w journal)) (first_gone w.plan.channels c)))
+    ∙ gone_length c (state_of w journal).streams r.lawful
 
 pub ends_counted : EndsCounted
 ends_counted w journal actors playable h p exhausted =
@@ -55,13 +61,15 @@ ends_counted w journal actors playable h p exhausted =
       spent = λ a. ap (λ (ks : List ℕ). is_spent w.plan (record { counts = ks; stages = []; opens = []; tokens = [] }) a) same.counts;
     }
 
-front_written : (c : ℕ) (xs ys : List Stream) → length xs ≡ length ys → AllByRecursion IsFront (zip xs ys) → length (part c (map (λ (stream : Stream). stream.written) xs)) ≤ length (part c (map (λ (stream : Stream). stream.written) ys))
+front_written : (c : ℕ) (xs ys : List Stream) → length xs ≡ length ys → AllByRecursion IsFront (zip xs ys)
+    → length (part c (map (λ (stream : Stream). stream.written) xs)) ≤ length (part c (map (λ (stream : Stream). stream.written) ys))
 front_written c [] ys len fronts = omega arith
 front_written c (x ∷ xs) [] len fronts = absurd (omega arith)
 front_written zero (x ∷ xs) (y ∷ ys) len fronts = let e = ap length fronts.0.0.1 in let l = length-append x.written fronts.0.0.0 in omega arith
 front_written (suc c) (x ∷ xs) (y ∷ ys) len fronts = front_written c xs ys (omega arith) fronts.1
 
-front_taken : (c : ℕ) (xs ys : List Stream) → length xs ≡ length ys → AllByRecursion IsFront (zip xs ys) → get_or (map (λ (stream : Stream). stream.taken) xs) c 0 ≤ get_or (map (λ (stream : Stream). stream.taken) ys) c 0
+front_taken : (c : ℕ) (xs ys : List Stream) → length xs ≡ length ys → AllByRecursion IsFront (zip xs ys)
+    → get_or (map (λ (stream : Stream). stream.taken) xs) c 0 ≤ get_or (map (λ (stream : Stream). stream.taken) ys) c 0
 front_taken c [] ys len fronts = omega arith
 front_taken c (x ∷ xs) [] len fronts = absurd (omega arith)
 front_taken zero (x ∷ xs) (y ∷ ys) len fronts = fronts.0.1

@@ -46,12 +46,29 @@ pub record IsLate (r : Refusal) : Type 0 where
   pub full : (n : ℕ) → why.Full n ≢ r
 
 late_stopped : IsLate why.Stopped
-late_stopped = record { unknown = λ e. absurd (cc); busy = λ e. absurd (cc); spent = λ e. absurd (cc); closed = λ n e. absurd (cc); dry = λ e. absurd (cc); short = λ n e. absurd (cc); full = λ n e. absurd (cc) }
+late_stopped = record {
+  unknown = λ e. absurd (cc);
+  busy = λ e. absurd (cc);
+  spent = λ e. absurd (cc);
+  closed = λ n e. absurd (cc);
+  dry = λ e. absurd (cc);
+  short = λ n e. absurd (cc);
+  full = λ n e. absurd (cc);
+}
 
 late_cells : IsLate why.NoCells
-late_cells = record { unknown = λ e. absurd (cc); busy = λ e. absurd (cc); spent = λ e. absurd (cc); closed = λ n e. absurd (cc); dry = λ e. absurd (cc); short = λ n e. absurd (cc); full = λ n e. absurd (cc) }
+late_cells = record {
+  unknown = λ e. absurd (cc);
+  busy = λ e. absurd (cc);
+  spent = λ e. absurd (cc);
+  closed = λ n e. absurd (cc);
+  dry = λ e. absurd (cc);
+  short = λ n e. absurd (cc);
+  full = λ n e. absurd (cc);
+}
 
-last_two : (plan : Plan) (p : Present) (a : ℕ) (r : Refusal) → IsLate r → refusal plan p (Begin a) ≡ Some r → first_of (when (is_stopped plan p) why.Stopped ∷ when (lacks_cells plan p a) why.NoCells ∷ []) ≡ Some r
+last_two : (plan : Plan) (p : Present) (a : ℕ) (r : Refusal) → IsLate r → refusal plan p (Begin a) ≡ Some r
+    → first_of (when (is_stopped plan p) why.Stopped ∷ when (lacks_cells plan p a) why.NoCells ∷ []) ≡ Some r
 last_two plan p a r late e =
     let k : ℕ = count p a in
     let t8 : List (Option Refusal) = when (is_stopped plan p) why.Stopped ∷ when (lacks_cells plan p a) why.NoCells ∷ [] in

@@ -1,5 +1,6 @@
 -- A journal stays within the sequential run, and is as it where it ends exhausted.
-use Rattle.std.proofs.Common.{◌≡◌, ℕ, zero, suc, ◌+◌, ◌-◌, ◌≤◌, List, [], ◌∷◌, ◌++◌, length, take, drop, get_or, refl, ap, sym, subst, ◌∙◌, arith, append-nil, append_assoc}
+use Rattle.std.proofs.Common.{◌≡◌, ℕ, zero, suc, ◌+◌, ◌-◌, ◌≤◌, List, [], ◌∷◌, ◌++◌, length, take, drop, get_or, refl, ap, sym, subst, ◌∙◌, arith, append-nil}
+use Rattle.std.proofs.Common.{append_assoc}
 use Rattle.std.specs.Prelude.{ℤ}
 use Rattle.std.specs.List.{zip, AllByRecursion}
 use Rattle.std.proofs.lemmas.List.{take_all, take-append-drop, ext_get_or}
@@ -36,7 +37,8 @@ pub record AreEnds (w : Program) (s t : State) : Type 0 where
   pub within : Within s t
   pub agreed : AreAgreed s.streams t.streams
 
-ends : (w : Program) (journal : List Move) (actors : List ℕ) → IsHonest w journal → IsSequential w actors → AreEnds w (state_of w journal) (sequential_state w actors)
+ends : (w : Program) (journal : List Move) (actors : List ℕ) → IsHonest w journal → IsSequential w actors
+    → AreEnds w (state_of w journal) (sequential_state w actors)
 ends w journal actors h p =
     let s : State = state_after w.plan (opening w.plan) journal in
     let t : State = sequential_state w actors in
@@ -65,7 +67,8 @@ front_of x y same le =
     let front : take (length x) y ≡ x = sym (same (length x) self le) ∙ take_all (length x) x self in
     (drop (length x) y, sym (take-append-drop (length x) y) ∙ ap (λ (z : List ℤ). z ++ drop (length x) y) front)
 
-fronts : (p1 g1 b1 p2 g2 b2 : ℕ → ℕ) (cs : List Channel) (xs ys : List Stream) → length xs ≡ length cs → length ys ≡ length cs → ((b : ℕ) → p1 b ≤ p2 b) → ((b : ℕ) → g1 b ≤ g2 b)
+fronts : (p1 g1 b1 p2 g2 b2 : ℕ → ℕ) (cs : List Channel) (xs ys : List Stream) → length xs ≡ length cs → length ys ≡ length cs → ((b : ℕ) → p1 b ≤ p2 b)
+    → ((b : ℕ) → g1 b ≤ g2 b)
     → AreTallied p1 g1 b1 cs xs → AreTallied p2 g2 b2 cs ys → AreAgreed xs ys → AllByRecursion IsFront (zip xs ys)
 fronts p1 g1 b1 p2 g2 b2 cs [] ys l1 l2 p g t1 t2 same = tt
 fronts p1 g1 b1 p2 g2 b2 cs (x ∷ xs) [] l1 l2 p g t1 t2 same = tt
@@ -79,7 +82,8 @@ fronts p1 g1 b1 p2 g2 b2 (c ∷ cs) (x ∷ xs) (y ∷ ys) l1 l2 p g t1 t2 same =
     let lt : x.taken ≤ y.taken = omega arith in
     ((front_of x.written y.written same.0 le, lt), fronts p1 g1 b1 p2 g2 b2 cs xs ys (omega arith) (omega arith) p g t1.1 t2.1 same.1)
 
-inputs_to_agree : (p1 g1 b1 p2 g2 b2 : ℕ → ℕ) (t n : ℕ) (cs : List Channel) (xs ys : List Stream) → length xs ≡ length cs → length ys ≡ length cs → n ≤ b1 t → n ≤ b2 t
+inputs_to_agree : (p1 g1 b1 p2 g2 b2 : ℕ → ℕ) (t n : ℕ) (cs : List Channel) (xs ys : List Stream) → length xs ≡ length cs → length ys ≡ length cs → n ≤ b1 t
+    → n ≤ b2 t
     → AreTallied p1 g1 b1 cs xs → AreTallied p2 g2 b2 cs ys → AreAgreed xs ys → inputs_to t n cs xs ≡ inputs_to t n cs ys
 inputs_to_agree p1 g1 b1 p2 g2 b2 t zero cs xs ys l1 l2 le1 le2 t1 t2 same = refl
 inputs_to_agree p1 g1 b1 p2 g2 b2 t (suc n) cs xs ys l1 l2 le1 le2 t1 t2 same =
@@ -91,8 +95,11 @@ inputs_grow : (t n j : ℕ) (cs : List Channel) (xs : List Stream) → IsPrefix 
 inputs_grow t n zero cs xs = ([], (let e : 0 + n ≡ n = omega arith in ap (λ m. inputs_to t m cs xs) e) ∙ sym (append-nil (inputs_to t n cs xs)))
 inputs_grow t n (suc j) cs xs =
     let rest = inputs_grow t n j cs xs in
-    let e : suc j + n ≡ suc (j + n) = omega arith in
-    (rest.0 ++ inputs_at t (j + n) cs xs, ap (λ m. inputs_to t m cs xs) e ∙ ap (λ (z : List ℤ). z ++ inputs_at t (j + n) cs xs) rest.1 ∙ append_assoc (inputs_to t n cs xs) rest.0 (inputs_at t (j + n) cs xs))
+    let e : suc j + n ≡ suc (j + n) = omega arith in (
+      rest.0 ++ inputs_at t (j + n) cs xs,
+      ap (λ m. inputs_to t m cs xs) e ∙ ap (λ (z : List ℤ). z ++ inputs_at t (j + n) cs xs) rest.1
+          ∙ append_assoc (inputs_to t n cs xs) rest.0 (inputs_at t (j + n) cs xs),
+    )
 
 inputs_front : (t n m : ℕ) (cs : List Channel) (xs : List Stream) → n ≤ m → IsPrefix (inputs_to t n cs xs) (inputs_to t m cs xs)
 inputs_front t n m cs xs le =
@@ -107,12 +114,16 @@ stays_within w journal actors h p =
     let bs = e.from.booked in
     let bt = e.sequential.booked in
     let puts : (b : ℕ) → put s.counts s.stages b ≤ put t.counts t.stages b = λ b.
-    (let i = idle_count put_at t e.idle (λ n. refl) b in let k = put_begun (get_or s.stages b Idle) (get_or s.counts b 0) in let m = e.within b in omega arith) in
+    (let i = idle_count put_at t e.idle (λ n. refl) b in let k = put_begun (get_or s.stages b Idle) (get_or s.counts b 0) in let m = e.within b in
+    omega arith) in
     let gots : (b : ℕ) → got s.counts s.stages b ≤ got t.counts t.stages b = λ b.
-    (let i = idle_count got_at t e.idle (λ n. refl) b in let k = got_begun (get_or s.stages b Idle) (get_or s.counts b 0) in let m = e.within b in omega arith) in
+    (let i = idle_count got_at t e.idle (λ n. refl) b in let k = got_begun (get_or s.stages b Idle) (get_or s.counts b 0) in let m = e.within b in
+    omega arith) in
     record {
-      counts = λ b. (let k = count_put (get_or s.stages b Idle) (get_or s.counts b 0) in let j = put_begun (get_or s.stages b Idle) (get_or s.counts b 0) in let m = e.within b in omega arith);
-      streams = fronts (put s.counts s.stages) (got s.counts s.stages) (begun s.counts s.stages) (put t.counts t.stages) (got t.counts t.stages) (begun t.counts t.stages) w.plan.channels s.streams t.streams bs.streamed bt.streamed puts gots bs.tallied bt.tallied e.agreed;
+      counts = λ b. (let k = count_put (get_or s.stages b Idle) (get_or s.counts b 0) in let j = put_begun (get_or s.stages b Idle) (get_or s.counts b 0) in
+          let m = e.within b in omega arith);
+      streams = fronts (put s.counts s.stages) (got s.counts s.stages) (begun s.counts s.stages) (put t.counts t.stages) (got t.counts t.stages)
+          (begun t.counts t.stages) w.plan.channels s.streams t.streams bs.streamed bt.streamed puts gots bs.tallied bt.tallied e.agreed;
       sinks = λ a.
           (let n : ℕ = got s.counts s.stages a in
           let m : ℕ = got t.counts t.stages a in
@@ -120,21 +131,23 @@ stays_within w journal actors h p =
           let k2 : m ≤ begun t.counts t.stages a = got_begun (get_or t.stages a Idle) (get_or t.counts a 0) in
           let le : n ≤ m = gots a in
           let same : inputs_to a n w.plan.channels s.streams ≡ inputs_to a n w.plan.channels t.streams =
-          inputs_to_agree (put s.counts s.stages) (got s.counts s.stages) (begun s.counts s.stages) (put t.counts t.stages) (got t.counts t.stages) (begun t.counts t.stages) a n w.plan.channels s.streams t.streams bs.streamed bt.streamed k1 (omega arith) bs.tallied bt.tallied e.agreed in
+          inputs_to_agree (put s.counts s.stages) (got s.counts s.stages) (begun s.counts s.stages) (put t.counts t.stages) (got t.counts t.stages)
+          (begun t.counts t.stages) a n w.plan.channels s.streams t.streams bs.streamed bt.streamed k1 (omega arith) bs.tallied bt.tallied e.agreed in
           let front = inputs_front a n m w.plan.channels t.streams le in
           (front.0, sink_sequential w a actors p ∙ front.1 ∙ ap (λ (z : List ℤ). z ++ front.0) (sym (sink_journal w a journal h ∙ same))));
     }
 
 -- ---- the same
 
-told : List ℤ → ℕ → Stream
-told written taken = record { written = written; taken = taken }
+stream : List ℤ → ℕ → Stream
+stream written taken = record { written = written; taken = taken }
 
 same_stream : (x y : Stream) → x.written ≡ y.written → x.taken ≡ y.taken → x ≡ y
-unfolding told
-same_stream x y e f = ap (λ (l : List ℤ). told l x.taken) e ∙ ap (told y.written) f
+unfolding stream
+same_stream x y e f = ap (λ (l : List ℤ). stream l x.taken) e ∙ ap (stream y.written) f
 
-same_streams : (p1 g1 b1 p2 g2 b2 : ℕ → ℕ) (cs : List Channel) (xs ys : List Stream) → length xs ≡ length cs → length ys ≡ length cs → ((b : ℕ) → p1 b ≡ p2 b) → ((b : ℕ) → g1 b ≡ g2 b)
+same_streams : (p1 g1 b1 p2 g2 b2 : ℕ → ℕ) (cs : List Channel) (xs ys : List Stream) → length xs ≡ length cs → length ys ≡ length cs → ((b : ℕ) → p1 b ≡ p2 b)
+    → ((b : ℕ) → g1 b ≡ g2 b)
     → AreTallied p1 g1 b1 cs xs → AreTallied p2 g2 b2 cs ys → AreAgreed xs ys → xs ≡ ys
 same_streams p1 g1 b1 p2 g2 b2 [] [] [] l1 l2 p g t1 t2 same = refl
 same_streams p1 g1 b1 p2 g2 b2 [] [] (y ∷ ys) l1 l2 p g t1 t2 same = absurd (omega arith)
@@ -143,9 +156,11 @@ same_streams p1 g1 b1 p2 g2 b2 (c ∷ cs) [] ys l1 l2 p g t1 t2 same = absurd (o
 same_streams p1 g1 b1 p2 g2 b2 (c ∷ cs) (x ∷ xs) [] l1 l2 p g t1 t2 same = absurd (omega arith)
 same_streams p1 g1 b1 p2 g2 b2 (c ∷ cs) (x ∷ xs) (y ∷ ys) l1 l2 p g t1 t2 same =
     let len : length x.written ≡ length y.written = t1.0.written ∙ ap (λ n. length c.initial + total c.produce n) (p c.from) ∙ sym t2.0.written in
-    let written : x.written ≡ y.written = sym (take_all (length x.written) x.written (omega arith)) ∙ same.0 (length x.written) (omega arith) (omega arith) ∙ take_all (length x.written) y.written (omega arith) in
+    let written : x.written ≡ y.written = sym (take_all (length x.written) x.written (omega arith)) ∙ same.0 (length x.written) (omega arith) (omega arith)
+    ∙ take_all (length x.written) y.written (omega arith) in
     let taken : x.taken ≡ y.taken = t1.0.taken ∙ ap (total c.consume) (g c.to) ∙ sym t2.0.taken in
-    ap (λ (z : Stream). z ∷ xs) (same_stream x y written taken) ∙ ap (λ (zs : List Stream). y ∷ zs) (same_streams p1 g1 b1 p2 g2 b2 cs xs ys (omega arith) (omega arith) p g t1.1 t2.1 same.1)
+    ap (λ (z : Stream). z ∷ xs) (same_stream x y written taken)
+    ∙ ap (λ (zs : List Stream). y ∷ zs) (same_streams p1 g1 b1 p2 g2 b2 cs xs ys (omega arith) (omega arith) p g t1.1 t2.1 same.1)
 
 pub ends_as_sequential : EndsAsSequential
 ends_as_sequential w journal actors h p exhausted =
@@ -157,10 +172,13 @@ ends_as_sequential w journal actors h p exhausted =
     let idle : AllIdle s = idle_all w.plan s bs exhausted.idle in
     let equal : (b : ℕ) → count (present s) b ≡ count (present t) b = λ b.
     (let i = idle_count begun_at s idle (λ n. refl) b in let m = e.within b in let l = finishes_all w journal actors b h p exhausted in omega arith) in
-    let puts : (b : ℕ) → put s.counts s.stages b ≡ put t.counts t.stages b = λ b. idle_count put_at s idle (λ n. refl) b ∙ equal b ∙ sym (idle_count put_at t e.idle (λ n. refl) b) in
-    let gots : (b : ℕ) → got s.counts s.stages b ≡ got t.counts t.stages b = λ b. idle_count got_at s idle (λ n. refl) b ∙ equal b ∙ sym (idle_count got_at t e.idle (λ n. refl) b) in
+    let puts : (b : ℕ) → put s.counts s.stages b ≡ put t.counts t.stages b = λ b. idle_count put_at s idle (λ n. refl) b ∙ equal b
+    ∙ sym (idle_count put_at t e.idle (λ n. refl) b) in
+    let gots : (b : ℕ) → got s.counts s.stages b ≡ got t.counts t.stages b = λ b. idle_count got_at s idle (λ n. refl) b ∙ equal b
+    ∙ sym (idle_count got_at t e.idle (λ n. refl) b) in
     let streams : s.streams ≡ t.streams =
-    same_streams (put s.counts s.stages) (got s.counts s.stages) (begun s.counts s.stages) (put t.counts t.stages) (got t.counts t.stages) (begun t.counts t.stages) w.plan.channels s.streams t.streams bs.streamed bt.streamed puts gots bs.tallied bt.tallied e.agreed in
+    same_streams (put s.counts s.stages) (got s.counts s.stages) (begun s.counts s.stages) (put t.counts t.stages) (got t.counts t.stages)
+    (begun t.counts t.stages) w.plan.channels s.streams t.streams bs.streamed bt.streamed puts gots bs.tallied bt.tallied e.agreed in
     record {
       counts = ext_get_or 0 s.counts t.counts (bs.counted ∙ sym bt.counted) (λ i lt. equal i);
       streams = streams;

@@ -17,7 +17,14 @@ sums : Program
 sums = record {
   plan = record {
     sources = true ∷ false ∷ false ∷ [];
-    channels = record { from = 0; to = 1; produce = 2 ∷ 1 ∷ []; consume = 3 ∷ []; initial = []; capacity = 3 } ∷ record { from = 1; to = 2; produce = 1 ∷ []; consume = 1 ∷ []; initial = []; capacity = 1 } ∷ [];
+    channels = record { from = 0; to = 1; produce = 2 ∷ 1 ∷ []; consume = 3 ∷ []; initial = []; capacity = 3 } ∷ record {
+      from = 1;
+      to = 2;
+      produce = 1 ∷ [];
+      consume = 1 ∷ [];
+      initial = [];
+      capacity = 1;
+    } ∷ [];
     limits = 4 ∷ 2 ∷ 2 ∷ [];
     supplies = 5 ∷ 0 ∷ 0 ∷ [];
     firings = None;
@@ -41,7 +48,64 @@ journal =
 
 honest : IsHonest sums journal
 unfolding sums journal value value_of given places clamp
-honest = (record { accepted = refl; just = tt }, (record { accepted = refl; just = tt }, (record { accepted = refl; just = refl }, (record { accepted = refl; just = tt }, (record { accepted = refl; just = tt }, (record { accepted = refl; just = tt }, (record { accepted = refl; just = refl }, (record { accepted = refl; just = tt }, (record { accepted = refl; just = tt }, (record { accepted = refl; just = tt }, (record { accepted = refl; just = tt }, (record { accepted = refl; just = tt }, (record { accepted = refl; just = refl }, (record { accepted = refl; just = tt }, (record { accepted = refl; just = (refl, refl) }, (record { accepted = refl; just = refl }, (record { accepted = refl; just = tt }, (record { accepted = refl; just = tt }, (record { accepted = refl; just = tt }, (record { accepted = refl; just = refl }, (record { accepted = refl; just = tt }, tt)))))))))))))))))))))
+honest = (
+  record { accepted = refl; just = tt },
+  (
+    record { accepted = refl; just = tt },
+    (
+      record { accepted = refl; just = refl },
+      (
+        record { accepted = refl; just = tt },
+        (
+          record { accepted = refl; just = tt },
+          (
+            record { accepted = refl; just = tt },
+            (
+              record { accepted = refl; just = refl },
+              (
+                record { accepted = refl; just = tt },
+                (
+                  record { accepted = refl; just = tt },
+                  (
+                    record { accepted = refl; just = tt },
+                    (
+                      record { accepted = refl; just = tt },
+                      (
+                        record { accepted = refl; just = tt },
+                        (
+                          record { accepted = refl; just = refl },
+                          (
+                            record { accepted = refl; just = tt },
+                            (
+                              record { accepted = refl; just = (refl, refl) },
+                              (
+                                record { accepted = refl; just = refl },
+                                (
+                                  record { accepted = refl; just = tt },
+                                  (
+                                    record { accepted = refl; just = tt },
+                                    (
+                                      record { accepted = refl; just = tt },
+                                      (record { accepted = refl; just = refl }, (record { accepted = refl; just = tt }, tt)),
+                                    ),
+                                  ),
+                                ),
+                              ),
+                            ),
+                          ),
+                        ),
+                      ),
+                    ),
+                  ),
+                ),
+              ),
+            ),
+          ),
+        ),
+      ),
+    ),
+  ),
+)
 
 journal_out : sink_tokens 2 journal (replies_of sums.plan (opening sums.plan) journal) ≡ pos 6 ∷ []
 unfolding sums journal given
@@ -51,7 +115,8 @@ journal_out = refl
 none_below : (p : Present) (b : ℕ) → b < 0 → CanGo sums.plan p b → ⊥
 none_below p b lt can = absurd (omega arith)
 
-is_short_of : (p : Present) (a : ℕ) → first (is_short a (count p a)) sums.plan.channels p.tokens ≡ Some 0 ⊎ first (is_short a (count p a)) sums.plan.channels p.tokens ≡ Some 1 → CanGo sums.plan p a → ⊥
+is_short_of : (p : Present) (a : ℕ) → first (is_short a (count p a)) sums.plan.channels p.tokens ≡ Some 0
+    ⊎ first (is_short a (count p a)) sums.plan.channels p.tokens ≡ Some 1 → CanGo sums.plan p a → ⊥
 is_short_of p a (inl e) can = let h = can.not_short in absurd (cc)
 is_short_of p a (inr e) can = let h = can.not_short in absurd (cc)
 
@@ -97,15 +162,27 @@ stuck (suc (suc (suc b))) = λ can. let h = can.exists in absurd (omega arith)
 sequential : IsSequential sums (0 ∷ 0 ∷ 1 ∷ 0 ∷ 2 ∷ [])
 unfolding sums value value_of given places clamp one two three four five
 sequential = (
-  record { can_go = record { exists = omega arith; idle = refl; not_spent = refl; not_dry = refl; not_short = refl; not_full = refl }; lowest = none_below (present (opening sums.plan)) },
+  record {
+    can_go = record { exists = omega arith; idle = refl; not_spent = refl; not_dry = refl; not_short = refl; not_full = refl };
+    lowest = none_below (present (opening sums.plan));
+  },
   (
-    record { can_go = record { exists = omega arith; idle = refl; not_spent = refl; not_dry = refl; not_short = refl; not_full = refl }; lowest = none_below (present (fired sums (opening sums.plan) 0)) },
+    record {
+      can_go = record { exists = omega arith; idle = refl; not_spent = refl; not_dry = refl; not_short = refl; not_full = refl };
+      lowest = none_below (present (fired sums (opening sums.plan) 0));
+    },
     (
       record { can_go = record { exists = omega arith; idle = refl; not_spent = refl; not_dry = refl; not_short = refl; not_full = refl }; lowest = below_one },
       (
-        record { can_go = record { exists = omega arith; idle = refl; not_spent = refl; not_dry = refl; not_short = refl; not_full = refl }; lowest = none_below (present (fired sums (fired sums (fired sums (opening sums.plan) 0) 0) 1)) },
+        record {
+          can_go = record { exists = omega arith; idle = refl; not_spent = refl; not_dry = refl; not_short = refl; not_full = refl };
+          lowest = none_below (present (fired sums (fired sums (fired sums (opening sums.plan) 0) 0) 1));
+        },
         (
-          record { can_go = record { exists = omega arith; idle = refl; not_spent = refl; not_dry = refl; not_short = refl; not_full = refl }; lowest = below_two },
+          record {
+            can_go = record { exists = omega arith; idle = refl; not_spent = refl; not_dry = refl; not_short = refl; not_full = refl };
+            lowest = below_two;
+          },
           stuck,
         ),
       ),

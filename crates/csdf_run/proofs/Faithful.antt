@@ -1,5 +1,6 @@
 -- What honest moves keep: each firing's tokens in its outputs are the kernel's value of those at its places in its inputs.
-use Rattle.std.proofs.Common.{◌≡◌, ℕ, suc, ◌<◌, ◌≤◌, inl, inr, List, [], length, get_or, set, replicate, refl, ap, sym, subst, ◌∙◌, arith, length-set, eq-or-lt_of_le}
+use Rattle.std.proofs.Common.{◌≡◌, ℕ, suc, ◌<◌, ◌≤◌, inl, inr, List, [], length, get_or, set, replicate, refl, ap, sym, subst, ◌∙◌, arith, length-set}
+use Rattle.std.proofs.Common.{eq-or-lt_of_le}
 use Rattle.std.specs.Prelude.{ℤ}
 use Rattle.std.proofs.lemmas.List.{get_or-set_other, get_or-set_same, length-replicate}
 use Rattle.std.proofs.lemmas.Bool.Decides.{eqb_tells}
@@ -38,7 +39,8 @@ pub record IsFaithful (w : Program) (s : State) (kept : List (List ℤ)) : Type 
   pub values : AreValues w s
   pub keeps : AreKept w s kept
 
-pub faithful_begun : (w : Program) (s : State) (kept : List (List ℤ)) (a : ℕ) → IsFaithful w s kept → CanGo w.plan (present s) a → IsFaithful w (accepted w.plan s (Begin a)) kept
+pub faithful_begun : (w : Program) (s : State) (kept : List (List ℤ)) (a : ℕ) → IsFaithful w s kept → CanGo w.plan (present s) a
+    → IsFaithful w (accepted w.plan s (Begin a)) kept
 faithful_begun w s kept a f can =
     let lt : a < length s.stages = (let there = can.exists in let staged = f.booked.staged in omega arith) in
     record {
@@ -59,7 +61,8 @@ faithful_read w s kept a f there at =
     let k : ℕ = count (present s) a in
     let cs : List Channel = w.plan.channels in
     let read : answer w.plan (present s) (Read a) ≡ inputs_at a k cs s.streams =
-    taken_is (put s.counts s.stages) (got s.counts s.stages) (begun s.counts s.stages) a k cs s.streams (ap (λ x. got_at x (get_or s.counts a 0)) at) f.booked.tallied in
+    taken_is (put s.counts s.stages) (got s.counts s.stages) (begun s.counts s.stages) a k cs s.streams (ap (λ x. got_at x (get_or s.counts a 0)) at)
+    f.booked.tallied in
     record {
       booked = booked_read w.plan s a f.booked there at;
       each = length-set kept a (answer w.plan (present s) (Read a)) ∙ f.each;
@@ -67,7 +70,8 @@ faithful_read w s kept a f there at =
           let old = f.values b j (let same = staged_as put_at s.counts s.stages a Fetched Begun lt at refl b in omega arith) in
           outputs-drained a k b j cs s.streams ∙ old ∙ ap (λ (xs : List ℤ). shares b j cs (value w b j xs)) (sym (inputs-drained a k b j cs s.streams));
       keeps = λ b at2. elim (eqb_tells b a) [
-        | inl e ↦ subst (λ (d : ℕ). get_or (set kept a (answer w.plan (present s) (Read a))) d [] ≡ inputs_at d (get_or s.counts d 0) cs (drained a k cs s.streams)) (sym e.1)
+        | inl e ↦ subst (λ (d : ℕ). get_or (set kept a (answer w.plan (present s) (Read a))) d []
+            ≡ inputs_at d (get_or s.counts d 0) cs (drained a k cs s.streams)) (sym e.1)
             (get_or-set_same kept a (answer w.plan (present s) (Read a)) [] ltk ∙ read ∙ sym (inputs-drained a k a k cs s.streams))
         | inr e ↦ get_or-set_other kept a b (answer w.plan (present s) (Read a)) [] e.1
             ∙ f.keeps b (sym (get_or-set_other s.stages a b Fetched Idle e.1) ∙ at2)
@@ -75,8 +79,10 @@ faithful_read w s kept a f there at =
       ];
     }
 
-pub faithful_written : (w : Program) (s : State) (kept : List (List ℤ)) (a : ℕ) (v : List ℤ) → IsFaithful w s kept → a < length w.plan.sources → stage (present s) a ≡ Fetched
-    → length v ≡ gift a (count (present s) a) w.plan.channels → v ≡ value w a (count (present s) a) (get_or kept a []) → IsFaithful w (accepted w.plan s (Write a v)) kept
+pub faithful_written : (w : Program) (s : State) (kept : List (List ℤ)) (a : ℕ) (v : List ℤ) → IsFaithful w s kept → a < length w.plan.sources
+    → stage (present s) a ≡ Fetched
+    → length v ≡ gift a (count (present s) a) w.plan.channels → v ≡ value w a (count (present s) a) (get_or kept a [])
+    → IsFaithful w (accepted w.plan s (Write a v)) kept
 faithful_written w s kept a v f there at whole is =
     let lt : a < length s.stages = (let staged = f.booked.staged in omega arith) in
     let k : ℕ = count (present s) a in
@@ -86,7 +92,8 @@ faithful_written w s kept a v f there at whole is =
     let r : ℕ → ℕ = begun s.counts s.stages in
     let sts2 : List Stream = filled s.streams (shares a k cs v) in
     let under : (b : ℕ) → p b ≤ r b = λ b. put_begun (get_or s.stages b Idle) (get_or s.counts b 0) in
-    let inputs : (b j : ℕ) → suc j ≤ r b → inputs_at b j cs sts2 ≡ inputs_at b j cs s.streams = λ b j le. inputs-filled p g r (gives_of a k) v b j cs s.streams f.booked.streamed le f.booked.tallied in
+    let inputs : (b j : ℕ) → suc j ≤ r b → inputs_at b j cs sts2 ≡ inputs_at b j cs s.streams =
+    λ b j le. inputs-filled p g r (gives_of a k) v b j cs s.streams f.booked.streamed le f.booked.tallied in
     let begins : r a ≡ suc k = ap (λ x. begun_at x (get_or s.counts a 0)) at in
     let puts : p a ≡ k = ap (λ x. put_at x (get_or s.counts a 0)) at in
     let old : (b j : ℕ) → j < p b → IsValueAt w sts2 b j = λ b j less.
@@ -112,11 +119,13 @@ faithful_written w s kept a v f there at whole is =
       ];
       keeps = λ b at2. elim (stage_set s.stages a b Written Fetched lt at2) [
         | inl e ↦ let bad = e.1 in absurd (cc)
-        | inr e ↦ f.keeps b e.1 ∙ sym (inputs b (get_or s.counts b 0) (let more : r b ≡ suc (get_or s.counts b 0) = ap (λ x. begun_at x (get_or s.counts b 0)) e.1 in omega arith))
+        | inr e ↦ f.keeps b e.1 ∙ sym (inputs b (get_or s.counts b 0) (let more : r b ≡ suc (get_or s.counts b 0) =
+            ap (λ x. begun_at x (get_or s.counts b 0)) e.1 in omega arith))
       ];
     }
 
-pub faithful_finished : (w : Program) (s : State) (kept : List (List ℤ)) (a : ℕ) → IsFaithful w s kept → a < length w.plan.sources → stage (present s) a ≡ Written → IsFaithful w (accepted w.plan s (Finish a)) kept
+pub faithful_finished : (w : Program) (s : State) (kept : List (List ℤ)) (a : ℕ) → IsFaithful w s kept → a < length w.plan.sources
+    → stage (present s) a ≡ Written → IsFaithful w (accepted w.plan s (Finish a)) kept
 faithful_finished w s kept a f there at =
     let lt : a < length s.stages = (let staged = f.booked.staged in omega arith) in
     let ltc : a < length s.counts = (let counted = f.booked.counted in omega arith) in
@@ -132,7 +141,8 @@ faithful_finished w s kept a f there at =
       ];
     }
 
-pub faithful_honest : (w : Program) (s : State) (kept : List (List ℤ)) (m : Move) → IsFaithful w s kept → IsHonestMove w s kept m → IsFaithful w (accepted w.plan s m) (reads_after w.plan s kept m)
+pub faithful_honest : (w : Program) (s : State) (kept : List (List ℤ)) (m : Move) → IsFaithful w s kept → IsHonestMove w s kept m
+    → IsFaithful w (accepted w.plan s m) (reads_after w.plan s kept m)
 faithful_honest w s kept (Begin a) f h = faithful_begun w s kept a f (can_begin w.plan (present s) a h.accepted)
 faithful_honest w s kept (Read a) f h = let r = reads w.plan (present s) a h.accepted in faithful_read w s kept a f r.there r.at
 faithful_honest w s kept (Write a v) f h = let r = writes w.plan (present s) a v h.accepted in faithful_written w s kept a v f r.0.there r.0.at r.1 h.just
@@ -149,7 +159,8 @@ faithful_opening w = record {
   booked = booked_opening w.plan;
   each = length-replicate (length w.plan.sources) [];
   values = λ a k less.
-      let none : put (replicate (length w.plan.sources) 0) (replicate (length w.plan.sources) Idle) a ≡ 0 = ap (λ x. put_at x (get_or (replicate (length w.plan.sources) 0) a 0)) (alike (length w.plan.sources) a Idle) ∙ alike (length w.plan.sources) a 0 in
+      let none : put (replicate (length w.plan.sources) 0) (replicate (length w.plan.sources) Idle) a ≡ 0 =
+      ap (λ x. put_at x (get_or (replicate (length w.plan.sources) 0) a 0)) (alike (length w.plan.sources) a Idle) ∙ alike (length w.plan.sources) a 0 in
       absurd (omega arith);
   keeps = λ a at. let idle = alike (length w.plan.sources) a Idle in absurd (cc);
 }

@@ -139,7 +139,8 @@ source_fed a actor actors texts feeds (Err why) after is fails e = absurd (cc)
 
 actor_fed : (a : ℕ) (actor : Actor) (actors : List Actor) (texts : List (List ℕ)) (feeds : List (List ℤ)) (b : Bool)
     → IsFedAfter (suc a) actors (drop 1 texts) → IsFedAfter (suc a) actors texts → is_source_kernel actor.kernel ≡ b
-    → cond b (feed_in a (get_or texts 0 []) >>= λ feed. feeds_from (suc a) actors (drop 1 texts) >>= λ rest. Ok (feed ∷ rest)) (feeds_from (suc a) actors texts >>= λ rest. Ok ([] ∷ rest)) ≡ Ok feeds
+    → cond b (feed_in a (get_or texts 0 []) >>= λ feed. feeds_from (suc a) actors (drop 1 texts) >>= λ rest. Ok (feed ∷ rest))
+    (feeds_from (suc a) actors texts >>= λ rest. Ok ([] ∷ rest)) ≡ Ok feeds
     → AreFed (actor ∷ actors) feeds
 actor_fed a actor actors texts feeds true after same is e = source_fed a actor actors texts feeds (feed_in a (get_or texts 0 [])) after is refl e
 actor_fed a actor actors texts feeds false after same is e =
@@ -229,6 +230,7 @@ as_sequential bytes texts periods firings t r = record {
       let lists = lists_beside w r.outcome run r.outcome.ending (r.told.outcome.sequential run is) in
       let beside = texts_beside r.outcome.ending (sequential_list w run) (feeds_in r.outcome.sinks.items) 0 actors (λ a lt. lists a (omega arith)) in
       let told : AreTextsBeside t.ending (sequential_list w run) (sinks_among actors) (sink_texts actors (feeds_in r.outcome.sinks.items)) =
-      subst (λ ending. AreTextsBeside ending (sequential_list w run) (sinks_among actors) (sink_texts actors (feeds_in r.outcome.sinks.items))) (sym r.told.ending) beside in
+      subst (λ ending. AreTextsBeside ending (sequential_list w run) (sinks_among actors) (sink_texts actors (feeds_in r.outcome.sinks.items)))
+      (sym r.told.ending) beside in
       subst (AreTextsBeside t.ending (sequential_list w run) (sinks_among actors)) (sym r.told.sinks) told;
 }

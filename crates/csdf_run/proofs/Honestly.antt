@@ -1,5 +1,6 @@
 -- The schedule's journal with the kernels' own values.
-use Rattle.std.proofs.Common.{◌≡◌, ℕ, zero, suc, ◌*◌, ◌≤◌, List, [], ◌∷◌, length, get_or, set, map, refl, ap, sym, subst, ◌∙◌, arith, Option, Some, None, length-set}
+use Rattle.std.proofs.Common.{◌≡◌, ℕ, zero, suc, ◌*◌, ◌≤◌, List, [], ◌∷◌, length, get_or, set, map, refl, ap, sym, subst, ◌∙◌, arith, Option, Some, None}
+use Rattle.std.proofs.Common.{length-set}
 use Rattle.std.specs.Prelude.{ℤ, IfSome, sum}
 use Rattle.std.specs.List.{AllByRecursion}
 use Rattle.std.proofs.lemmas.List.{length-replicate, get_or-set_same}
@@ -28,12 +29,14 @@ not_refused : (o : Option Refusal) (xs : List ℤ) → refused (reply_by o xs) �
 not_refused None xs e = refl
 not_refused (Some r) xs e = absurd (cc)
 
-first_ok : (plan : Plan) (s : State) (m : Move) (ms : List Move) → AreOk (replies_of plan s (m ∷ ms)) → (refusal plan (present s) m ≡ None) × AreOk (replies_of plan (accepted plan s m) ms)
+first_ok : (plan : Plan) (s : State) (m : Move) (ms : List Move) → AreOk (replies_of plan s (m ∷ ms)) → (refusal plan (present s) m ≡ None)
+    × AreOk (replies_of plan (accepted plan s m) ms)
 first_ok plan s m ms all =
     let none : refusal plan (present s) m ≡ None = not_refused (refusal plan (present s) m) (answer plan (present s) m) all.0 in
     (none, subst (λ (t : State). AreOk (replies_of plan t ms)) (after_is plan s m none) all.1)
 
-honest_cons : (w : Program) (s : State) (kept : List (List ℤ)) (m : Move) (ms : List Move) → IsHonestMove w s kept m → IsHonestFrom w (accepted w.plan s m) (reads_after w.plan s kept m) ms → IsHonestFrom w s kept (m ∷ ms)
+honest_cons : (w : Program) (s : State) (kept : List (List ℤ)) (m : Move) (ms : List Move) → IsHonestMove w s kept m
+    → IsHonestFrom w (accepted w.plan s m) (reads_after w.plan s kept m) ms → IsHonestFrom w s kept (m ∷ ms)
 honest_cons w s kept m ms h rest = (h, subst (λ (t : State). IsHonestFrom w t (reads_after w.plan s kept m) ms) (sym (after_is w.plan s m h.accepted)) rest)
 
 -- the sequential run's moves, by any actors, are whole firings
@@ -45,7 +48,8 @@ whole w s (a ∷ actors) = (
   whole w (fired w s a) actors,
 )
 
-honest_from : (w : Program) (s : State) (kept : List (List ℤ)) (actors : List ℕ) → length kept ≡ length w.plan.sources → AreOk (replies_of w.plan s (moves_from w s actors)) → IsHonestFrom w s kept (moves_from w s actors)
+honest_from : (w : Program) (s : State) (kept : List (List ℤ)) (actors : List ℕ) → length kept ≡ length w.plan.sources
+    → AreOk (replies_of w.plan s (moves_from w s actors)) → IsHonestFrom w s kept (moves_from w s actors)
 honest_from w s kept [] len ok = tt
 honest_from w s kept (a ∷ actors) len ok =
     let read : List ℤ = answer w.plan (present s) (Read a) in
@@ -65,7 +69,8 @@ honest_from w s kept (a ∷ actors) len ok =
     honest_cons w s kept (Begin a) (Read a ∷ Write a v ∷ Finish a ∷ ms) (record { accepted = o1.0; just = tt })
     (honest_cons w s1 kept (Read a) (Write a v ∷ Finish a ∷ ms) (record { accepted = o2.0; just = tt })
     (honest_cons w s2 kept2 (Write a v) (Finish a ∷ ms) (record { accepted = o3.0; just = ap (value w a k) (sym holds) })
-    (honest_cons w s3 kept2 (Finish a) ms (record { accepted = o4.0; just = tt }) (honest_from w (fired w s a) kept2 actors (length-set kept a read ∙ len) o4.1))))
+    (honest_cons w s3 kept2 (Finish a) ms (record { accepted = o4.0; just = tt })
+    (honest_from w (fired w s a) kept2 actors (length-set kept a read ∙ len) o4.1))))
 
 get_length : (feeds : List (List ℤ)) (i : ℕ) → get_or (map length feeds) i 0 ≡ length (get_or feeds i [])
 get_length [] i = refl
@@ -73,11 +78,13 @@ get_length (x ∷ feeds) zero = refl
 get_length (x ∷ feeds) (suc i) = get_length feeds i
 
 -- the limit on all firings doesn't matter
-same_given : (a : Accepted) (feeds : List (List ℤ)) (periods : ℕ) (firings : Option ℕ) (x n : ℕ) → given (program_for a feeds periods firings).plan x n ≡ given (program_for a feeds periods None).plan x n
+same_given : (a : Accepted) (feeds : List (List ℤ)) (periods : ℕ) (firings : Option ℕ) (x n : ℕ)
+    → given (program_for a feeds periods firings).plan x n ≡ given (program_for a feeds periods None).plan x n
 unfolding given
 same_given a feeds periods firings x n = refl
 
-allows_program : (a : Accepted) (feeds : List (List ℤ)) (periods : ℕ) (firings : Option ℕ) → AreAmple a feeds periods → IfSome firings (λ most. periods * sum a.q ≤ most) → Allows (program_for a feeds periods firings).plan a.q periods
+allows_program : (a : Accepted) (feeds : List (List ℤ)) (periods : ℕ) (firings : Option ℕ) → AreAmple a feeds periods
+    → IfSome firings (λ most. periods * sum a.q ≤ most) → Allows (program_for a feeds periods firings).plan a.q periods
 allows_program a feeds periods firings ample few = record {
   limits = λ b. (let e = get_mul periods a.q b in omega arith);
   supplies = λ b source.
@@ -92,5 +99,9 @@ pub runs_honestly : RunsHonestly
 runs_honestly a feeds periods firings schedule ok is cells ample few =
     let w : Program = program_for a feeds periods firings in
     let moves : List Move = sequential_moves w (repeated periods schedule) in
-    let runs = runs_for_ever a schedule ok is w.plan.limits w.plan.supplies firings periods moves cells (allows_program a feeds periods firings ample few) (whole w (opening w.plan) (repeated periods schedule)) in
-    record { honest = honest_from w (opening w.plan) (no_reads w.plan) (repeated periods schedule) (length-replicate (length w.plan.sources) []) runs.accepted; runs = runs }
+    let runs = runs_for_ever a schedule ok is w.plan.limits w.plan.supplies firings periods moves cells (allows_program a feeds periods firings ample few)
+    (whole w (opening w.plan) (repeated periods schedule)) in
+    record {
+      honest = honest_from w (opening w.plan) (no_reads w.plan) (repeated periods schedule) (length-replicate (length w.plan.sources) []) runs.accepted;
+      runs = runs;
+    }

@@ -1,5 +1,6 @@
 -- Lists that a loop makes element by element.
-use Rattle.std.proofs.Common.{◌≡◌, ℕ, zero, suc, ◌+◌, ◌<◌, ◌≤◌, List, [], ◌∷◌, ◌++◌, length, map, get_or, drop, refl, ap, sym, ◌∙◌, arith, take, append_assoc, append-nil}
+use Rattle.std.proofs.Common.{◌≡◌, ℕ, zero, suc, ◌+◌, ◌<◌, ◌≤◌, List, [], ◌∷◌, ◌++◌, length, map, get_or, drop, refl, ap, sym, ◌∙◌, arith, take, append_assoc}
+use Rattle.std.proofs.Common.{append-nil}
 use Rattle.std.proofs.lemmas.List.{take_more, take_all}
 
 drop_at : {A : Type 0} (xs : List A) (i : ℕ) (d : A) → i < length xs → drop i xs ≡ get_or xs i d ∷ drop (i + 1) xs
@@ -16,7 +17,8 @@ drop_past (x ∷ xs) zero le = absurd (omega arith)
 drop_past (x ∷ xs) (suc i) le = drop_past xs i (omega arith)
 
 -- one more element is done
-pub one_more : {A K : Type 0} (f : A → K) (xs : List A) (i : ℕ) (done : List K) (d : A) → i < length xs → done ++ map f (drop i xs) ≡ map f xs → (done ++ f (get_or xs i d) ∷ []) ++ map f (drop (i + 1) xs) ≡ map f xs
+pub one_more : {A K : Type 0} (f : A → K) (xs : List A) (i : ℕ) (done : List K) (d : A) → i < length xs → done ++ map f (drop i xs) ≡ map f xs
+    → (done ++ f (get_or xs i d) ∷ []) ++ map f (drop (i + 1) xs) ≡ map f xs
 one_more {A = A} f xs i done d lt h =
     append_assoc done (f (get_or xs i d) ∷ []) (map f (drop (i + 1) xs)) ∙ ap (λ (zs : List A). done ++ map f zs) (sym (drop_at xs i d lt)) ∙ h
 
@@ -25,7 +27,8 @@ pub all_done : {A K : Type 0} (f : A → K) (xs : List A) (i : ℕ) (done : List
 all_done {A = A} f xs i done le h = sym (append-nil done) ∙ ap (λ (zs : List A). done ++ map f zs) (sym (drop_past xs i le)) ∙ h
 
 -- two lists that are the same so far, and at one place more
-pub same_more : {A : Type 0} (xs ys : List A) (i : ℕ) (d : A) → i < length xs → i < length ys → take i xs ≡ take i ys → get_or xs i d ≡ get_or ys i d → take (i + 1) xs ≡ take (i + 1) ys
+pub same_more : {A : Type 0} (xs ys : List A) (i : ℕ) (d : A) → i < length xs → i < length ys → take i xs ≡ take i ys → get_or xs i d ≡ get_or ys i d
+    → take (i + 1) xs ≡ take (i + 1) ys
 same_more {A = A} xs ys i d lx ly front here =
     take_more xs i d lx ∙ ap (λ (zs : List A). zs ++ get_or xs i d ∷ []) front ∙ ap (λ (z : A). take i ys ++ z ∷ []) here ∙ sym (take_more ys i d ly)
 

@@ -18,10 +18,12 @@ use Rattle.csdf_core.proofs.Able.{IsAble, able_later}
 use Rattle.csdf_core.proofs.Booked.{IsBooked, booked_opening, booked_accepted, able_of, can_of, can_begin}
 
 -- a new stage at which no count is lower
-staged_more : (f : Stage → ℕ → ℕ) (counts : List ℕ) (stages : List Stage) (a : ℕ) (x y : Stage) → a < length stages → get_or stages a Idle ≡ y → ((n : ℕ) → f y n ≤ f x n) → (b : ℕ) → tell f counts stages b ≤ tell f counts (set stages a x) b
+staged_more : (f : Stage → ℕ → ℕ) (counts : List ℕ) (stages : List Stage) (a : ℕ) (x y : Stage) → a < length stages → get_or stages a Idle ≡ y
+    → ((n : ℕ) → f y n ≤ f x n) → (b : ℕ) → tell f counts stages b ≤ tell f counts (set stages a x) b
 staged_more f counts stages a x y lt at le b = elim (eqb_tells b a) [
   | inl e ↦ subst (λ (d : ℕ). tell f counts stages d ≤ tell f counts (set stages a x) d) (sym e.1)
-      (let now = staged_same f counts stages a x lt in let was : tell f counts stages a ≡ f y (get_or counts a 0) = ap (λ s. f s (get_or counts a 0)) at in let more = le (get_or counts a 0) in omega arith)
+      (let now = staged_same f counts stages a x lt in let was : tell f counts stages a ≡ f y (get_or counts a 0) = ap (λ s. f s (get_or counts a 0)) at in
+      let more = le (get_or counts a 0) in omega arith)
   | inr e ↦ let same = staged_other f counts stages a b x e.1 in omega arith
 ]
 
@@ -38,7 +40,8 @@ put_rises = record { begin = λ n. omega arith; read = λ n. omega arith; write 
 pub got_rises : IsRising got_at
 got_rises = record { begin = λ n. omega arith; read = λ n. omega arith; write = λ n. omega arith; finish = λ n. refl }
 
-pub rises : (f : Stage → ℕ → ℕ) (plan : Plan) (s : State) (m : Move) → IsRising f → IsBooked plan s → refusal plan (present s) m ≡ None → (b : ℕ) → tell f s.counts s.stages b ≤ tell f (accepted plan s m).counts (accepted plan s m).stages b
+pub rises : (f : Stage → ℕ → ℕ) (plan : Plan) (s : State) (m : Move) → IsRising f → IsBooked plan s → refusal plan (present s) m ≡ None → (b : ℕ)
+    → tell f s.counts s.stages b ≤ tell f (accepted plan s m).counts (accepted plan s m).stages b
 rises f plan s (Begin a) r booked none b =
     let can = can_begin plan (present s) a none in
     let lt : a < length s.stages = (let there = can.exists in let staged = booked.staged in omega arith) in
@@ -60,14 +63,19 @@ rises f plan s (Finish a) r booked none b =
 rises f plan s (Close c) r booked none b = omega arith
 
 -- the others stay where they are
-others_stay : (plan : Plan) (s : State) (m : Move) (a : ℕ) → (IsMoveOf a m → ⊥) → (stage (present (accepted plan s m)) a ≡ stage (present s) a) × (count (present (accepted plan s m)) a ≡ count (present s) a)
+others_stay : (plan : Plan) (s : State) (m : Move) (a : ℕ) → (IsMoveOf a m → ⊥) → (stage (present (accepted plan s m)) a ≡ stage (present s) a)
+    × (count (present (accepted plan s m)) a ≡ count (present s) a)
 others_stay plan s (Begin b) a other = (get_or-set_other s.stages b a Begun Idle (λ e. other (sym e)), refl)
 others_stay plan s (Read b) a other = (get_or-set_other s.stages b a Fetched Idle (λ e. other (sym e)), refl)
 others_stay plan s (Write b v) a other = (get_or-set_other s.stages b a Written Idle (λ e. other (sym e)), refl)
-others_stay plan s (Finish b) a other = (get_or-set_other s.stages b a Idle Idle (λ e. other (sym e)), get_or-set_other s.counts b a (suc (get_or s.counts b 0)) 0 (λ e. other (sym e)))
+others_stay plan s (Finish b) a other = (
+  get_or-set_other s.stages b a Idle Idle (λ e. other (sym e)),
+  get_or-set_other s.counts b a (suc (get_or s.counts b 0)) 0 (λ e. other (sym e)),
+)
 others_stay plan s (Close c) a other = (refl, refl)
 
-pub persists_accepted : (plan : Plan) (s : State) (m : Move) (a : ℕ) → IsBooked plan s → refusal plan (present s) m ≡ None → (IsMoveOf a m → ⊥) → CanGo plan (present s) a → CanGo plan (present (accepted plan s m)) a
+pub persists_accepted : (plan : Plan) (s : State) (m : Move) (a : ℕ) → IsBooked plan s → refusal plan (present s) m ≡ None → (IsMoveOf a m → ⊥)
+    → CanGo plan (present s) a → CanGo plan (present (accepted plan s m)) a
 persists_accepted plan s m a booked none other can =
     let t : State = accepted plan s m in
     let stays = others_stay plan s m a other in
@@ -78,7 +86,8 @@ persists_accepted plan s m a booked none other can =
     (subst (λ k. IsAble plan (put t.counts t.stages) (got t.counts t.stages) a k) (sym stays.1) still)
 
 -- refused moves too
-booked_by : (plan : Plan) (s : State) (m : Move) (o : Option Refusal) → o ≡ refusal plan (present s) m → IsBooked plan s → IsBooked plan (state_by o (accepted plan s m) s)
+booked_by : (plan : Plan) (s : State) (m : Move) (o : Option Refusal) → o ≡ refusal plan (present s) m → IsBooked plan s
+    → IsBooked plan (state_by o (accepted plan s m) s)
 booked_by plan s m None e booked = booked_accepted plan s m booked (sym e)
 booked_by plan s m (Some why) e booked = booked
 
@@ -86,7 +95,8 @@ pub booked_all : (plan : Plan) (s : State) (ms : List Move) → IsBooked plan s 
 booked_all plan s [] booked = booked
 booked_all plan s (m ∷ ms) booked = booked_all plan (after plan s m) ms (booked_by plan s m (refusal plan (present s) m) refl booked)
 
-persists_by : (plan : Plan) (s : State) (m : Move) (a : ℕ) (o : Option Refusal) → o ≡ refusal plan (present s) m → IsBooked plan s → (IsMoveOf a m → ⊥) → CanGo plan (present s) a → CanGo plan (present (state_by o (accepted plan s m) s)) a
+persists_by : (plan : Plan) (s : State) (m : Move) (a : ℕ) (o : Option Refusal) → o ≡ refusal plan (present s) m → IsBooked plan s → (IsMoveOf a m → ⊥)
+    → CanGo plan (present s) a → CanGo plan (present (state_by o (accepted plan s m) s)) a
 persists_by plan s m a None e booked other can = persists_accepted plan s m a booked (sym e) other can
 persists_by plan s m a (Some why) e booked other can = can
 

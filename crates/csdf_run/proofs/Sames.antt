@@ -11,7 +11,8 @@ module _ {A B : Type 0} (f : A → B) where
       → take i (map f xs) ≡ take i (map f ys) → f x ≡ f y → take (i + 1) (map f xs) ≡ take (i + 1) (map f ys)
   same_more xs ys i x y lt each left right before same =
       let there : i < length ys = omega arith in
-      take_more_same (map f xs) (map f ys) i (f x) (omega (arith, length-map xs f)) (omega (arith, length-map ys f)) before (at_place xs i x (f x) lt left ∙ same ∙ sym (at_place ys i y (f x) there right))
+      take_more_same (map f xs) (map f ys) i (f x) (omega (arith, length-map xs f)) (omega (arith, length-map ys f)) before (at_place xs i x (f x) lt left
+      ∙ same ∙ sym (at_place ys i y (f x) there right))
 
   -- the same lists have the same at each place
   pub same_item : (xs ys : List A) (i : ℕ) (x y : A) → i < length xs → i < length ys → x ≡ get_or xs i x → y ≡ get_or ys i y → map f xs ≡ map f ys → f x ≡ f y

@@ -1,5 +1,6 @@
 -- A whole firing at one go, from a state in which every actor is idle to one like it.
-use Rattle.std.proofs.Common.{◌≡◌, ℕ, zero, suc, ◌+◌, ◌<◌, ◌==◌, cond, inl, inr, List, [], ◌∷◌, length, get_or, set, map, filter, refl, ap, sym, subst, ◌∙◌, arith, Bool, true, false, length-set}
+use Rattle.std.proofs.Common.{◌≡◌, ℕ, zero, suc, ◌+◌, ◌<◌, ◌==◌, cond, inl, inr, List, [], ◌∷◌, length, get_or, set, map, filter, refl, ap, sym, subst, ◌∙◌}
+use Rattle.std.proofs.Common.{arith, Bool, true, false, length-set}
 use Rattle.std.specs.Prelude.{ℤ, sum}
 use Rattle.std.proofs.lemmas.List.Sums.{sum_by-cons}
 use Rattle.std.proofs.lemmas.List.{get_or-set_other, get_or-set_same}
@@ -22,9 +23,14 @@ use Rattle.csdf_run.proofs.Faithful.{IsFaithful, faithful_begun, faithful_read, 
 
 -- ---- a value has as many tokens as the firing gives
 
-kept_if : (b : Bool) (x : ℕ) (a k : ℕ) (c : Channel) (cs : List Channel) → (c.from == a) ≡ b → sum (map (gives_of a k) (filter (λ (d : Channel). d.from == a) cs)) ≡ gift a k cs
+kept_if : (b : Bool) (x : ℕ) (a k : ℕ) (c : Channel) (cs : List Channel) → (c.from == a) ≡ b
+    → sum (map (gives_of a k) (filter (λ (d : Channel). d.from == a) cs)) ≡ gift a k cs
     → sum (map (gives_of a k) (cond b (c ∷ filter (λ (d : Channel). d.from == a) cs) (filter (λ (d : Channel). d.from == a) cs))) ≡ gives_of a k c + gift a k cs
-kept_if true x a k c cs is rest = omega (arith, sum_by-cons (λ (n : ℕ). n) (gives_of a k c) (map (gives_of a k) (filter (λ (d : Channel). d.from == a) cs)), rest)
+kept_if true x a k c cs is rest = omega (
+  arith,
+  sum_by-cons (λ (n : ℕ). n) (gives_of a k c) (map (gives_of a k) (filter (λ (d : Channel). d.from == a) cs)),
+  rest,
+)
 kept_if false x a k c cs is rest = let none : gives_of a k c ≡ 0 = ap (λ b. cond b (rate c.produce k) 0) is in omega arith
 
 sum_of_counts : (a k : ℕ) (cs : List Channel) → sum (map (gives_of a k) (filter (λ (d : Channel). d.from == a) cs)) ≡ gift a k cs
@@ -81,7 +87,8 @@ goes w s kept a f can =
     let at2 : stage (present (after_read w s a)) a ≡ Fetched = get_or-set_same (set s.stages a Begun) a Fetched Idle lt1 in
     let read : List ℤ = answer w.plan (present s) (Read a) in
     let keeps : get_or (set kept a read) a [] ≡ read = get_or-set_same kept a read [] ltk in
-    let f3 = faithful_written w (after_read w s a) (set kept a read) a (written_value w s a) f2 there at2 (length_value w a k read) (ap (value w a k) (sym keeps)) in
+    let f3 = faithful_written w (after_read w s a) (set kept a read) a (written_value w s a) f2 there at2 (length_value w a k read)
+    (ap (value w a k) (sym keeps)) in
     let lt2 : a < length (set (set s.stages a Begun) a Fetched) = (let e = length-set (set s.stages a Begun) a Fetched in omega arith) in
     let at3 : stage (present (after_write w s a)) a ≡ Written = get_or-set_same (set (set s.stages a Begun) a Fetched) a Written Idle lt2 in
     record {
@@ -98,7 +105,8 @@ goes w s kept a f can =
 
 pub idle_again : (w : Program) (s : State) (a : ℕ) → AllIdle s → AllIdle (fired w s a)
 idle_again w s a idle b = elim (eqb_tells b a) [
-  | inl e ↦ subst (λ (d : ℕ). get_or (set (set (set (set s.stages a Begun) a Fetched) a Written) a Idle) d Idle ≡ Idle) (sym e.1) (set_idle (set (set (set s.stages a Begun) a Fetched) a Written) a)
+  | inl e ↦ subst (λ (d : ℕ). get_or (set (set (set (set s.stages a Begun) a Fetched) a Written) a Idle) d Idle ≡ Idle) (sym e.1)
+      (set_idle (set (set (set s.stages a Begun) a Fetched) a Written) a)
   | inr e ↦
       get_or-set_other (set (set (set s.stages a Begun) a Fetched) a Written) a b Idle Idle e.1
       ∙ get_or-set_other (set (set s.stages a Begun) a Fetched) a b Written Idle e.1

@@ -1,5 +1,6 @@
 -- The end of a run.
-use Rattle.std.proofs.Common.{◌≡◌, ℕ, zero, suc, ◌+◌, ◌<◌, ◌≤◌, Bool, true, false, not, ◌&&◌, cond, inl, inr, List, [], ◌∷◌, length, map, get_or, refl, ap, sym, subst, ◌∙◌, arith, Option, None}
+use Rattle.std.proofs.Common.{◌≡◌, ℕ, zero, suc, ◌+◌, ◌<◌, ◌≤◌, Bool, true, false, not, ◌&&◌, cond, inl, inr, List, [], ◌∷◌, length, map, get_or, refl, ap, sym}
+use Rattle.std.proofs.Common.{subst, ◌∙◌, arith, Option, None}
 use Rattle.std.specs.Prelude.{ℤ, ◌⊎◌}
 use Rattle.std.specs.List.{range_with_len}
 use Rattle.std.proofs.lemmas.List.FromFn.{get_or-map-range_with_len}
@@ -22,7 +23,8 @@ use Rattle.csdf_run.specs.Floor.{FloorView, IsBetween, sink_of, sinks_of}
 use Rattle.csdf_run.specs.Inside.{IsBook}
 use Rattle.csdf_run.specs.Journal.{Program, IsHonest, program_for, replies_to, sink_tokens, state_of}
 use Rattle.csdf_run.specs.Laws.{taken_in, written_in, AllSpent, IsFree, IsAsSequential, CountsAsSequential}
-use Rattle.csdf_run.specs.Outcome.{HasTotals, IsOutcome, IsEndBeside, IsSequentialEnd, IsBeforeSequentialEnd, CompletesWhereAmple, journal_in, report_of, report_on, sequential_list, sequential_lists, told}
+use Rattle.csdf_run.specs.Outcome.{HasTotals, IsOutcome, IsEndBeside, IsSequentialEnd, IsBeforeSequentialEnd, CompletesWhereAmple, journal_in, report_of}
+use Rattle.csdf_run.specs.Outcome.{report_on, sequential_list, sequential_lists, report_at}
 use Rattle.csdf_run.specs.Sequential.{IsSequential, sequential_sink, sequential_state}
 use Rattle.csdf_run.specs.Work.{feeds_in, is_sink_kernel, program}
 use Rattle.csdf_run.proofs.Complete.{ends_complete}
@@ -34,7 +36,8 @@ use Rattle.csdf_run.proofs.Works.{playable_program, producer_there}
 
 same_map : {A : Type 0} (f g : ℕ → A) (k n : ℕ) → ((i : ℕ) → f i ≡ g i) → map f (range_with_len k n) ≡ map g (range_with_len k n)
 same_map f g k zero each = refl
-same_map {A = A} f g k (suc n) each = ap (λ (x : A). x ∷ map f (range_with_len (k + 1) n)) (each k) ∙ ap (λ (xs : List A). g k ∷ xs) (same_map f g (k + 1) n each)
+same_map {A = A} f g k (suc n) each = ap (λ (x : A). x ∷ map f (range_with_len (k + 1) n)) (each k)
+    ∙ ap (λ (xs : List A). g k ∷ xs) (same_map f g (k + 1) n each)
 
 no_more : (xs : List ℤ) → IsPrefix [] xs
 no_more xs = (xs, refl)
@@ -44,8 +47,10 @@ pub at_rest : (plan : Plan) (p : Present) → IsQuiet plan p → (a : ℕ) → a
 unfolding IsQuiet
 at_rest plan p quiet a lt = (quiet a lt).0
 
-module _ (f : FloorView) (reads : List (List ℤ)) (b : IsBook f reads) (between : IsBetween f.core.plan f.core.now) (quiet : IsQuiet f.core.plan f.core.now) (o : Outcome)
-    (journal : journal_in o ≡ f.journal) (sinks : feeds_in o.sinks.items ≡ f.sinks) (report : o.report.items ≡ report_on (program f.work) f.journal) (ending : IsEnding f.core.plan f.core.now o.ending) where
+module _ (f : FloorView) (reads : List (List ℤ)) (b : IsBook f reads) (between : IsBetween f.core.plan f.core.now) (quiet : IsQuiet f.core.plan f.core.now)
+    (o : Outcome)
+    (journal : journal_in o ≡ f.journal) (sinks : feeds_in o.sinks.items ≡ f.sinks) (report : o.report.items ≡ report_on (program f.work) f.journal)
+    (ending : IsEnding f.core.plan f.core.now o.ending) where
   abbrev w : Program
   w = program f.work
 
@@ -90,7 +95,7 @@ module _ (f : FloorView) (reads : List (List ℤ)) (b : IsBook f reads) (between
   report_is : o.report.items ≡ report_on w j
   report_is = report ∙ ap (report_on w) (sym journal)
 
-  told_is : (c : ℕ) → c < length w.plan.channels → told o c ≡ report_of w j c
+  told_is : (c : ℕ) → c < length w.plan.channels → report_at o c ≡ report_of w j c
   told_is c lt =
       let d : ChannelReport = record { written = 0; taken = 0; held = 0; peak = 0; capacity = 0; is_open = false } in
       ap (λ (rs : List ChannelReport). get_or rs c d) report_is ∙ get_or-map-range_with_len (report_of w j) 0 (length w.plan.channels) c c d lt (omega arith)
@@ -104,14 +109,16 @@ module _ (f : FloorView) (reads : List (List ℤ)) (b : IsBook f reads) (between
       let same : IsAsSequential w j actors = ends_as_sequential w j actors honest run exhausted in
       let counts : CountsAsSequential w j actors = ends_counted w j actors playable honest run exhausted in
       record {
-        sinks = sinks_are ∙ same_map (sink_of w j) (sequential_list w actors) 0 (length w.plan.sources) (λ a. by (is_sink_kernel (get_or w.kernels a Sink)) a (same.sinks a));
+        sinks = sinks_are ∙ same_map (sink_of w j) (sequential_list w actors) 0 (length w.plan.sources)
+            (λ a. by (is_sink_kernel (get_or w.kernels a Sink)) a (same.sinks a));
         written = λ c lt. ap (λ (r : ChannelReport). length (initial w.plan c) + r.written) (told_is c lt) ∙ counts.written c;
         taken = λ c lt. ap (λ (r : ChannelReport). r.taken) (told_is c lt) ∙ counts.taken c;
         held = λ c lt. ap (λ (r : ChannelReport). r.held) (told_is c lt) ∙ counts.held c;
         spent = counts.spent;
       }
     where
-      by : (is_sink : Bool) (a : ℕ) → sink_tokens a j (replies_to w j) ≡ sequential_sink w a actors → cond is_sink (sink_tokens a j (replies_to w j)) [] ≡ cond is_sink (sequential_sink w a actors) []
+      by : (is_sink : Bool) (a : ℕ) → sink_tokens a j (replies_to w j) ≡ sequential_sink w a actors
+          → cond is_sink (sink_tokens a j (replies_to w j)) [] ≡ cond is_sink (sequential_sink w a actors) []
       by true a e = e
       by false a e = refl
 
@@ -123,13 +130,16 @@ module _ (f : FloorView) (reads : List (List ℤ)) (b : IsBook f reads) (between
       record {
         sinks = λ a lt.
             subst (λ (xs : List ℤ). IsPrefix xs (sequential_list w actors a))
-            (sym (ap (λ (ls : List (List ℤ)). get_or ls a []) sinks_are ∙ get_or-map-range_with_len (sink_of w j) 0 (length w.plan.sources) a a [] lt (omega arith)))
+            (sym (ap (λ (ls : List (List ℤ)). get_or ls a []) sinks_are
+            ∙ get_or-map-range_with_len (sink_of w j) 0 (length w.plan.sources) a a [] lt (omega arith)))
             (by (is_sink_kernel (get_or w.kernels a Sink)) a (within.sinks a));
-        written = λ c lt. subst (λ (r : ChannelReport). length (initial w.plan c) + r.written ≤ length (written_in (sequential_state w actors) c)) (sym (told_is c lt)) (counts.written c);
+        written = λ c lt. subst (λ (r : ChannelReport). length (initial w.plan c) + r.written ≤ length (written_in (sequential_state w actors) c))
+            (sym (told_is c lt)) (counts.written c);
         taken = λ c lt. subst (λ (r : ChannelReport). r.taken ≤ taken_in (sequential_state w actors) c) (sym (told_is c lt)) (counts.taken c);
       }
     where
-      by : (is_sink : Bool) (a : ℕ) → IsPrefix (sink_tokens a j (replies_to w j)) (sequential_sink w a actors) → IsPrefix (cond is_sink (sink_tokens a j (replies_to w j)) []) (cond is_sink (sequential_sink w a actors) [])
+      by : (is_sink : Bool) (a : ℕ) → IsPrefix (sink_tokens a j (replies_to w j)) (sequential_sink w a actors)
+          → IsPrefix (cond is_sink (sink_tokens a j (replies_to w j)) []) (cond is_sink (sequential_sink w a actors) [])
       by true a e = e
       by false a e = no_more []
 
@@ -146,9 +156,11 @@ module _ (f : FloorView) (reads : List (List ℤ)) (b : IsBook f reads) (between
       ends_complete f.work.accepted f.work.feeds f.work.periods j b.work.accepted b.work.few_periods ample
       (subst (λ (limit : Option ℕ). HasAmpleCells (program_for f.work.accepted f.work.feeds f.work.periods limit).plan) none cells)
       (subst (λ (limit : Option ℕ). IsHonest (program_for f.work.accepted f.work.feeds f.work.periods limit) j) none honest)
-      (subst (λ (limit : Option ℕ). IsQuiet (program_for f.work.accepted f.work.feeds f.work.periods limit).plan (present (state_of (program_for f.work.accepted f.work.feeds f.work.periods limit) j))) none quiet_end) in
+      (subst (λ (limit : Option ℕ). IsQuiet (program_for f.work.accepted f.work.feeds f.work.periods limit).plan
+      (present (state_of (program_for f.work.accepted f.work.feeds f.work.periods limit) j))) none quiet_end) in
       one_ending v.plan (present (state_of v j)) o.ending Complete
-      (subst (λ (limit : Option ℕ). IsEnding (program_for f.work.accepted f.work.feeds f.work.periods limit).plan (present (state_of (program_for f.work.accepted f.work.feeds f.work.periods limit) j)) o.ending) none ending_is) all
+      (subst (λ (limit : Option ℕ). IsEnding (program_for f.work.accepted f.work.feeds f.work.periods limit).plan
+      (present (state_of (program_for f.work.accepted f.work.feeds f.work.periods limit) j)) o.ending) none ending_is) all
 
   pub outcome_is : IsOutcome f.work o
   outcome_is = record {

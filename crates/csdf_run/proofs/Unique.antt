@@ -1,5 +1,6 @@
 -- A sequential run exists, and there is one only.
-use Rattle.std.proofs.Common.{◌≡◌, ℕ, zero, suc, ◌+◌, ◌<◌, ◌≤◌, ◌⊎◌, inl, inr, List, [], ◌∷◌, length, get_or, sum, refl, ap, sym, subst, ◌∙◌, arith, Bool, true, false, Option, Some, None, leb-false, eq-or-lt_of_le}
+use Rattle.std.proofs.Common.{◌≡◌, ℕ, zero, suc, ◌+◌, ◌<◌, ◌≤◌, ◌⊎◌, inl, inr, List, [], ◌∷◌, length, get_or, sum, refl, ap, sym, subst, ◌∙◌, arith, Bool, true}
+use Rattle.std.proofs.Common.{false, Option, Some, None, leb-false, eq-or-lt_of_le}
 use Rattle.std.proofs.lemmas.Bool.{cases_Bool}
 use Rattle.std.proofs.lemmas.List.{length-replicate}
 use Rattle.csdf_analysis.specs.Laws.{IsWithinAll}
@@ -96,18 +97,21 @@ next_or_stuck plan p = elim (lowest_of plan p (length plan.sources)) [
 ]
 
 -- each firing leaves one fewer
-left_over : (w : Program) (s : State) (a : ℕ) → length s.counts ≡ length w.plan.sources → IsWithinAll s.counts w.plan.limits → CanGo w.plan (present s) a → (a < length s.counts) × IsWithinAll (fired w s a).counts w.plan.limits × (sum (fired w s a).counts ≡ suc (sum s.counts))
+left_over : (w : Program) (s : State) (a : ℕ) → length s.counts ≡ length w.plan.sources → IsWithinAll s.counts w.plan.limits → CanGo w.plan (present s) a
+    → (a < length s.counts) × IsWithinAll (fired w s a).counts w.plan.limits × (sum (fired w s a).counts ≡ suc (sum s.counts))
 left_over w s a len within can =
     let lt : a < length s.counts = (let there = can.exists in omega arith) in
     let less : get_or s.counts a 0 < get_or w.plan.limits a 0 = leb-false _ _ can.not_spent in
     (lt, fired_within s.counts w.plan.limits a lt within less, fired_sum s.counts a lt)
 
-exists_from : (fuel : ℕ) (w : Program) (s : State) → length s.counts ≡ length w.plan.sources → length w.plan.limits ≡ length w.plan.sources → IsWithinAll s.counts w.plan.limits → sum w.plan.limits ≤ sum s.counts + fuel → (actors : List ℕ) × IsSequentialFrom w s actors
+exists_from : (fuel : ℕ) (w : Program) (s : State) → length s.counts ≡ length w.plan.sources → length w.plan.limits ≡ length w.plan.sources
+    → IsWithinAll s.counts w.plan.limits → sum w.plan.limits ≤ sum s.counts + fuel → (actors : List ℕ) × IsSequentialFrom w s actors
 exists_from zero w s len limited within enough = elim (next_or_stuck w.plan (present s)) [
   | inr stuck ↦ ([], stuck)
   | inl next ↦
       let more = left_over w s next.0 len within next.1.can_go in
-      let below : sum (fired w s next.0).counts ≤ sum w.plan.limits = sum_within (fired w s next.0).counts w.plan.limits (fired_length s.counts next.0 ∙ len ∙ sym limited) more.1 in
+      let below : sum (fired w s next.0).counts ≤ sum w.plan.limits =
+      sum_within (fired w s next.0).counts w.plan.limits (fired_length s.counts next.0 ∙ len ∙ sym limited) more.1 in
       let one = more.2 in
       absurd (omega arith)
 ]

@@ -1,5 +1,6 @@
 -- What a floor keeps: what is run, the core, the journal of its moves and what the sinks took.
-use Rattle.std.specs.Prelude.{ℕ, ◌≡◌, ◌≢◌, ◌==◌, ◌<◌, ◌≤◌, ◌&&◌, ◌⊎◌, not, nat_lt, Bool, false, if◌then◌else◌, List, [], ◌∷◌, ◌++◌, ℤ, Option, Some, None, Result, Ok, Err, All, length, map, filter, slice_index, slice_index_or, option_map}
+use Rattle.std.specs.Prelude.{ℕ, ◌≡◌, ◌≢◌, ◌==◌, ◌<◌, ◌≤◌, ◌&&◌, ◌⊎◌, not, nat_lt, Bool, false, if◌then◌else◌, List, [], ◌∷◌, ◌++◌, ℤ, Option, Some, None}
+use Rattle.std.specs.Prelude.{Result, Ok, Err, All, length, map, filter, slice_index, slice_index_or, option_map}
 use Rattle.std.specs.List.{range_with_len}
 use Rattle.csdf_graph.specs.declared.parts.Kernel.{Kernel}
 use Rattle.csdf_graph.specs.declared.parts.Kernel.TheVariants.{Sink}

@@ -1,5 +1,6 @@
 -- What the parts of a floor show, with the room that they have, and what they keep.
-use Rattle.std.specs.Prelude.{ℕ, suc, ◌≡◌, ◌+◌, ◌<◌, ◌≤◌, ◌==◌, ◌&&◌, ◌||◌, Bool, true, false, not, List, ℤ, [], ◌∷◌, length, map, slice_index, slice_index_or, slice_set}
+use Rattle.std.specs.Prelude.{ℕ, suc, ◌≡◌, ◌+◌, ◌<◌, ◌≤◌, ◌==◌, ◌&&◌, ◌||◌, Bool, true, false, not, List, ℤ, [], ◌∷◌, length, map, slice_index, slice_index_or}
+use Rattle.std.specs.Prelude.{slice_set}
 use Rattle.csdf_graph.specs.declared.parts.Kernel.TheVariants.{Sink}
 use Rattle.csdf_graph.specs.Graph.{Channel as GraphChannel}
 use Rattle.csdf_graph.specs.Rates.{consumed, produced, production, total}
@@ -61,7 +62,8 @@ pub record IsBook (f : FloorView) (reads : List (List ℤ)) : Type 0 where
   pub peaks : f.core.peaks ≡ raised_over (program f.work).plan (opening (program f.work).plan) (first_peaks (program f.work).plan) f.journal
   pub sinks : f.sinks ≡ sinks_of (program f.work) f.journal
   pub each_actor : length reads ≡ length f.core.plan.sources
-  pub last_reads : (a : ℕ) → a < length f.core.plan.sources → stage f.core.now a ≡ Fetched → slice_index_or reads a [] ≡ slice_index_or (reads_of (program f.work) f.journal) a []
+  pub last_reads : (a : ℕ) → a < length f.core.plan.sources → stage f.core.now a ≡ Fetched
+      → slice_index_or reads a [] ≡ slice_index_or (reads_of (program f.work) f.journal) a []
 
 -- one move more was made, which took one place of the room
 pub record IsNext (old new : BookView) (m : Move) : Type 0 where
@@ -74,7 +76,8 @@ pub record IsNext (old new : BookView) (m : Move) : Type 0 where
 pub record HasRoom (b : BookView) (a : ℕ) : Type 0 where
   pub moves : 2 ≤ b.room
   pub buffer : length (slice_index_or b.reads a []) ≡ need a (count b.shown.core.now a) b.shown.core.plan.channels
-  pub sink : is_sink_kernel (slice_index_or (program b.shown.work).kernels a Sink) ≡ true → need a (count b.shown.core.now a) b.shown.core.plan.channels ≤ slice_index b.rooms a
+  pub sink : is_sink_kernel (slice_index_or (program b.shown.work).kernels a Sink) ≡ true
+      → need a (count b.shown.core.now a) b.shown.core.plan.channels ≤ slice_index b.rooms a
 
 -- the actor has begun its next firing and taken its tokens, and nothing else has changed
 pub record HasTaken (old new : BookView) (a : ℕ) : Type 0 where
@@ -113,4 +116,5 @@ pub record AreClosed (old new : FloorView) (channels : List ℕ) : Type 0 where
   pub plan : new.core.plan ≡ old.core.plan
   pub counts : new.core.now.counts ≡ old.core.now.counts
   pub stages : new.core.now.stages ≡ old.core.now.stages
-  pub opens : (c : ℕ) → is_open new.core.now c ≡ (is_open old.core.now c && not (is_in c channels && is_over old.core.plan old.core.now (producer old.core.plan c)))
+  pub opens : (c : ℕ) → is_open new.core.now c ≡ (is_open old.core.now c
+      && not (is_in c channels && is_over old.core.plan old.core.now (producer old.core.plan c)))

@@ -1,5 +1,6 @@
 -- An honest journal: what a run, of however many threads, may have written down.
-use Rattle.std.specs.Prelude.{ℕ, suc, ◌≡◌, ◌==◌, true, List, [], ◌∷◌, ◌++◌, ℤ, None, Ok, Err, if◌then◌else◌, length, map, filter, replicate, slice_index_or, slice_set, ◌*◌, Option, slice_range}
+use Rattle.std.specs.Prelude.{ℕ, suc, ◌≡◌, ◌==◌, true, List, [], ◌∷◌, ◌++◌, ℤ, None, Ok, Err, if◌then◌else◌, length, map, filter, replicate, slice_index_or}
+use Rattle.std.specs.Prelude.{slice_set, ◌*◌, Option, slice_range}
 use Rattle.csdf_graph.specs.declared.parts.Kernel.{Kernel}
 use Rattle.csdf_graph.specs.declared.parts.Kernel.TheVariants.{Sink}
 use Rattle.csdf_graph.specs.Graph.{Actor}

@@ -1,5 +1,6 @@
 -- Laws of journals: what the order in which actors fire can't change.
-use Rattle.std.specs.Prelude.{ℕ, ◌≡◌, ◌≢◌, ◌<◌, ◌≤◌, ◌⊎◌, true, List, ℤ, pos, Some, length, map, slice_index_or, ◌++◌, ◌+◌, slice_index, ◌∷◌, [], ◌*◌, None, Option}
+use Rattle.std.specs.Prelude.{ℕ, ◌≡◌, ◌≢◌, ◌<◌, ◌≤◌, ◌⊎◌, true, List, ℤ, pos, Some, length, map, slice_index_or, ◌++◌, ◌+◌, slice_index, ◌∷◌, [], ◌*◌, None}
+use Rattle.std.specs.Prelude.{Option}
 use Rattle.std.specs.List.{zip, AllByRecursion}
 use Rattle.csdf_core.specs.declared.stage.Stage.TheVariants.{Idle}
 use Rattle.csdf_core.specs.declared.refusal.Refusal.TheVariants.{Stopped, NoCells}
@@ -124,15 +125,18 @@ QuietIsExhausted =
 
 -- a journal stays honest by one more honest move
 abbrev pub GoesOn : Type 0
-GoesOn = (w : Program) (journal : List Move) (m : Move) → IsHonest w journal → IsHonestMove w (state_of w journal) (reads_of w journal) m → IsHonest w (journal ++ m ∷ [])
+GoesOn = (w : Program) (journal : List Move) (m : Move) → IsHonest w journal → IsHonestMove w (state_of w journal) (reads_of w journal) m
+    → IsHonest w (journal ++ m ∷ [])
 
 -- each front of an honest journal is one, and the move after it is honest there
 abbrev pub IsHonestAtEach : Type 0
-IsHonestAtEach = (w : Program) (front rest : List Move) (m : Move) → IsHonest w (front ++ m ∷ rest) → IsHonest w front × IsHonestMove w (state_of w front) (reads_of w front) m
+IsHonestAtEach = (w : Program) (front rest : List Move) (m : Move) → IsHonest w (front ++ m ∷ rest) → IsHonest w front
+    × IsHonestMove w (state_of w front) (reads_of w front) m
 
 -- the channels, in the words of the moves and their replies, and which actors are spent
 pub record CountsAsSequential (w : Program) (journal : List Move) (actors : List ℕ) : Type 0 where
-  pub written : (c : ℕ) → length (initial w.plan c) + length (written_to w.plan c journal (replies_to w journal)) ≡ length (written_in (sequential_state w actors) c)
+  pub written : (c : ℕ) → length (initial w.plan c) + length (written_to w.plan c journal (replies_to w journal))
+      ≡ length (written_in (sequential_state w actors) c)
   pub taken : (c : ℕ) → length (tokens_taken w.plan c journal (replies_to w journal)) ≡ taken_in (sequential_state w actors) c
   pub held : (c : ℕ) → length_of (state_of w journal) c ≡ length_of (sequential_state w actors) c
   pub spent : (a : ℕ) → is_spent w.plan (present (state_of w journal)) a ≡ is_spent w.plan (present (sequential_state w actors)) a
@@ -144,11 +148,13 @@ EndsCounted =
 
 -- none of these numbers is above that of the sequential run
 pub record CountsWithinSequential (w : Program) (journal : List Move) (actors : List ℕ) : Type 0 where
-  pub written : (c : ℕ) → length (initial w.plan c) + length (written_to w.plan c journal (replies_to w journal)) ≤ length (written_in (sequential_state w actors) c)
+  pub written : (c : ℕ) → length (initial w.plan c) + length (written_to w.plan c journal (replies_to w journal))
+      ≤ length (written_in (sequential_state w actors) c)
   pub taken : (c : ℕ) → length (tokens_taken w.plan c journal (replies_to w journal)) ≤ taken_in (sequential_state w actors) c
 
 abbrev pub StaysCounted : Type 0
-StaysCounted = (w : Program) (journal : List Move) (actors : List ℕ) → IsPlayable w.plan → IsHonest w journal → IsSequential w actors → CountsWithinSequential w journal actors
+StaysCounted = (w : Program) (journal : List Move) (actors : List ℕ) → IsPlayable w.plan → IsHonest w journal → IsSequential w actors
+    → CountsWithinSequential w journal actors
 
 -- every source's file has the tokens of all firings of the periods
 abbrev pub AreAmple : Accepted → List (List ℤ) → ℕ → Type 0
@@ -160,9 +166,11 @@ AreAmple a feeds periods =
 abbrev pub CompletesAll : Type 0
 CompletesAll =
     (a : Accepted) (feeds : List (List ℤ)) (periods : ℕ) (firings : Option ℕ) (actors : List ℕ) → IsAccepted a → AreAmple a feeds periods
-    → IsSequential (program_for a feeds periods firings) actors → AllSpent (program_for a feeds periods firings).plan (present (sequential_state (program_for a feeds periods firings) actors))
+    → IsSequential (program_for a feeds periods firings) actors
+    → AllSpent (program_for a feeds periods firings).plan (present (sequential_state (program_for a feeds periods firings) actors))
 
--- where, beside, no limit on all firings is given and there are as many cells as the capacities add up to, an honest journal that ends quiet ends with every actor spent
+-- where, beside, no limit on all firings is given and there are as many cells as the capacities add up to, an honest journal that ends quiet ends with every
+-- actor spent
 abbrev pub EndsComplete : Type 0
 EndsComplete =
     (a : Accepted) (feeds : List (List ℤ)) (periods : ℕ) (journal : List Move) → IsAccepted a → periods ≤ 1000 → AreAmple a feeds periods
@@ -176,11 +184,13 @@ SequentialIsHonest =
     (w : Program) (actors : List ℕ) → IsPlayable w.plan → w.plan.firings ≡ None → HasAmpleCells w.plan → IsSequential w actors
     → IsHonest w (sequential_moves w actors) × (state_of w (sequential_moves w actors) ≡ sequential_state w actors)
 
--- the order of firings doesn't show: an honest journal that ends quiet is as the sequential run, where every actor is spent or none is held back by the limit on all firings or for want of cells; and it is within the sequential run in any case
+-- the order of firings doesn't show: an honest journal that ends quiet is as the sequential run, where every actor is spent or none is held back by the limit
+-- on all firings or for want of cells; and it is within the sequential run in any case
 pub record IsSequentialOutcome (w : Program) (journal : List Move) : Type 0 where
   pub actors : List ℕ
   pub sequential : IsSequential w actors
-  pub same : AllSpent w.plan (present (state_of w journal)) ⊎ IsFree w.plan (present (state_of w journal)) → IsAsSequential w journal actors × CountsAsSequential w journal actors
+  pub same : AllSpent w.plan (present (state_of w journal)) ⊎ IsFree w.plan (present (state_of w journal)) → IsAsSequential w journal actors
+      × CountsAsSequential w journal actors
   pub within : IsWithinSequential w journal actors × CountsWithinSequential w journal actors
 
 abbrev pub OrderDoesNotShow : Type 0

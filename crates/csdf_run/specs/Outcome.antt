@@ -22,7 +22,8 @@ use Rattle.csdf_run.specs.Laws.{AllSpent, AreAmple, taken_in, written_in}
 use Rattle.csdf_run.specs.Sequential.{IsSequential, sequential_sink, sequential_state}
 use Rattle.csdf_run.specs.Work.{Work, feeds_in, is_sink_kernel, program}
 
--- what is told of channel c at the end of a journal: how many tokens were written to it, beside its initial ones, taken from it and left in it; its greatest length on the way; its capacity; and whether it is open
+-- what is told of channel c at the end of a journal: how many tokens were written to it, beside its initial ones, taken from it and left in it; its greatest
+-- length on the way; its capacity; and whether it is open
 abbrev pub report_of : Program → List Move → ℕ → ChannelReport
 report_of w journal c = record {
   written = length (written_to w.plan c journal (replies_to w journal));
@@ -97,22 +98,22 @@ abbrev pub sequential_lists : Program → List ℕ → List (List ℤ)
 sequential_lists w actors = map (sequential_list w actors) (range_with_len 0 (length w.plan.sources))
 
 -- what is told of channel c
-abbrev pub told : Outcome → ℕ → ChannelReport
-told o c = slice_index_or o.report.items c (record { written = 0; taken = 0; held = 0; peak = 0; capacity = 0; is_open = false })
+abbrev pub report_at : Outcome → ℕ → ChannelReport
+report_at o c = slice_index_or o.report.items c (record { written = 0; taken = 0; held = 0; peak = 0; capacity = 0; is_open = false })
 
 -- sinks, channels and spent actors are those of the sequential run
 pub record IsSequentialEnd (w : Program) (o : Outcome) (actors : List ℕ) : Type 0 where
   pub sinks : feeds_in o.sinks.items ≡ sequential_lists w actors
-  pub written : (c : ℕ) → c < length w.plan.channels → length (initial w.plan c) + (told o c).written ≡ length (written_in (sequential_state w actors) c)
-  pub taken : (c : ℕ) → c < length w.plan.channels → (told o c).taken ≡ taken_in (sequential_state w actors) c
-  pub held : (c : ℕ) → c < length w.plan.channels → (told o c).held ≡ length_of (sequential_state w actors) c
+  pub written : (c : ℕ) → c < length w.plan.channels → length (initial w.plan c) + (report_at o c).written ≡ length (written_in (sequential_state w actors) c)
+  pub taken : (c : ℕ) → c < length w.plan.channels → (report_at o c).taken ≡ taken_in (sequential_state w actors) c
+  pub held : (c : ℕ) → c < length w.plan.channels → (report_at o c).held ≡ length_of (sequential_state w actors) c
   pub spent : (a : ℕ) → is_spent w.plan (present (state_of w (journal_in o))) a ≡ is_spent w.plan (present (sequential_state w actors)) a
 
 -- sinks and channels are not beyond the sequential run
 pub record IsBeforeSequentialEnd (w : Program) (o : Outcome) (actors : List ℕ) : Type 0 where
   pub sinks : (a : ℕ) → a < length w.plan.sources → IsPrefix (slice_index_or (feeds_in o.sinks.items) a []) (sequential_list w actors a)
-  pub written : (c : ℕ) → c < length w.plan.channels → length (initial w.plan c) + (told o c).written ≤ length (written_in (sequential_state w actors) c)
-  pub taken : (c : ℕ) → c < length w.plan.channels → (told o c).taken ≤ taken_in (sequential_state w actors) c
+  pub written : (c : ℕ) → c < length w.plan.channels → length (initial w.plan c) + (report_at o c).written ≤ length (written_in (sequential_state w actors) c)
+  pub taken : (c : ℕ) → c < length w.plan.channels → (report_at o c).taken ≤ taken_in (sequential_state w actors) c
 
 abbrev pub IsEndBeside : Program → Outcome → List ℕ → Ending → Type 0
 IsEndBeside w o actors Complete = IsSequentialEnd w o actors

@@ -1,4 +1,5 @@
--- The sequential run: one actor after the other makes a whole firing, the lowest-numbered that can, until none can. It closes nothing, and knows neither the limit on all firings nor the number of cells.
+-- The sequential run: one actor after the other makes a whole firing, the lowest-numbered that can, until none can. It closes nothing, and knows neither the
+-- limit on all firings nor the number of cells.
 use Rattle.std.specs.Prelude.{ℕ, ◌<◌, List, [], ◌∷◌, ◌++◌, ℤ, Ok}
 use Rattle.csdf_core.specs.Moves.{Move}
 use Rattle.csdf_core.specs.Moves.{Begin, Read, Write, Finish}

@@ -17,7 +17,8 @@ pub returns-then-counts-i : goal.returns-then-counts-i
 returns-then-counts-i c = (
   (λ t. absurd (cc)),
   (λ same. absurd (c.if-counts-i.true
-      (ap (λ (ns : List ℕ). get_or ns c.loop-i.i 0) (same ∙ sym (productions_of c.args.actor c.args.firing c.args.graph.now.channels c.outputs-outputs.result.now c.outputs-outputs.ensures.value))
+      (ap (λ (ns : List ℕ). get_or ns c.loop-i.i 0) (same
+      ∙ sym (productions_of c.args.actor c.args.firing c.args.graph.now.channels c.outputs-outputs.result.now c.outputs-outputs.ensures.value))
       ∙ get_or-map (production_at c.args.graph.now.channels c.args.firing) c.outputs-outputs.result.now c.loop-i.i 0 0 c.loop-i-test.true
       ∙ sym c.production_of.ensures.value))),
 )
@@ -29,14 +30,16 @@ loop-i-preserved c =
     let lt = c.loop-i-test.true in
     let same = c.if-counts-outputs.false in
     same_more c.args.counts.now ps c.loop-i.i 0 (omega arith) (omega arith) c.loop-i.invariant
-    (c.if-counts-i.false ∙ c.production_of.ensures.value ∙ sym (get_or-map (production_at c.args.graph.now.channels c.args.firing) c.outputs-outputs.result.now c.loop-i.i 0 0 lt))
+    (c.if-counts-i.false ∙ c.production_of.ensures.value
+    ∙ sym (get_or-map (production_at c.args.graph.now.channels c.args.firing) c.outputs-outputs.result.now c.loop-i.i 0 0 lt))
 
 pub returns : goal.returns
 returns c =
     let len = length-map c.outputs-outputs.result.now (production_at c.args.graph.now.channels c.args.firing) in
     let past = c.loop-i-test.false in
     let same = c.if-counts-outputs.false in (
-      (λ t. same_whole c.args.counts.now (map (production_at c.args.graph.now.channels c.args.firing) c.outputs-outputs.result.now) c.loop-i.i (omega arith) (omega arith) c.loop-i.invariant
+      (λ t. same_whole c.args.counts.now (map (production_at c.args.graph.now.channels c.args.firing) c.outputs-outputs.result.now) c.loop-i.i (omega arith)
+          (omega arith) c.loop-i.invariant
           ∙ productions_of c.args.actor c.args.firing c.args.graph.now.channels c.outputs-outputs.result.now c.outputs-outputs.ensures.value),
       (λ equal. refl),
     )

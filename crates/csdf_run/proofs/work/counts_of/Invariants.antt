@@ -5,6 +5,7 @@ use Rattle.csdf_run.proofs.work.counts_of.Given as goal
 
 abbrev pub invariant-loop-channel : goal.invariant-loop-channel
 invariant-loop-channel l = record {
-  counts : l.counts.items ++ map (production_at l.graph.channels l.firing) (drop l.channel-index l.channel-items) ≡ map (production_at l.graph.channels l.firing) l.channel-items;
+  counts : l.counts.items ++ map (production_at l.graph.channels l.firing) (drop l.channel-index l.channel-items)
+      ≡ map (production_at l.graph.channels l.firing) l.channel-items;
   small : All (λ n. n ≤ 64) l.counts.items;
 }

@@ -16,4 +16,5 @@ pub returns-clause-in_range : goal.returns-clause-in_range
 returns-clause-in_range c =
     let is : c.index-actors-actor.result.kernel ≡ get_or (map (λ (row : Actor). row.kernel) c.args.graph.now.actors) c.args.actor Sink =
     kernel_at c.actors.result.now c.args.graph.now.actors c.args.actor c.index-actors-actor.result c.actors.ensures.value c.requires c.index-actors-actor.is in
-    subst (λ (x : ActorCode). HasFilterInRange x.kernel) c.index-actors-actor.is (in_range c.args.graph.now c.args.actor c.index-actors-actor.result.kernel c.actors.ensures.well_formed c.requires is)
+    subst (λ (x : ActorCode). HasFilterInRange x.kernel) c.index-actors-actor.is
+    (in_range c.args.graph.now c.args.actor c.index-actors-actor.result.kernel c.actors.ensures.well_formed c.requires is)

@@ -7,6 +7,8 @@ use Rattle.csdf_run.proofs.work.producer_of.Goals as goal
 
 pub returns : goal.returns
 returns c =
-    let lt : c.args.channel < length c.channels.result.now = (let there = c.requires in let len = ap length c.channels.ensures.value in omega (arith, there, len, length-map c.channels.result.now channel_view)) in
+    let lt : c.args.channel < length c.channels.result.now =
+    (let there = c.requires in let len = ap length c.channels.ensures.value in omega (arith, there, len, length-map c.channels.result.now channel_view)) in
     ap (λ (x : ChannelCode). x.from) (sym c.index-channels-channel.is)
-    ∙ seen_at channel_view (λ (g : Channel). g.from) c.channels.result.now c.args.graph.now.channels c.channels.ensures.value c.args.channel c.index-channels-channel.result 0 lt c.index-channels-channel.is
+    ∙ seen_at channel_view (λ (g : Channel). g.from) c.channels.result.now c.args.graph.now.channels c.channels.ensures.value c.args.channel
+    c.index-channels-channel.result 0 lt c.index-channels-channel.is

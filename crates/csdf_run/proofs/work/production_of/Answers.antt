@@ -10,11 +10,17 @@ use Rattle.csdf_run.proofs.work.production_of.Goals as goal
 
 pub returns-clause-value : goal.returns-clause-value
 returns-clause-value c =
-    let lt : c.args.channel < length c.channels.result.now = (let there = c.requires in let len = ap length c.channels.ensures.value in omega (arith, there, len, length-map c.channels.result.now channel_view)) in
-    c.production.ensures ∙ seen_at channel_view (λ (g : graph.Channel). production g c.args.firing) c.channels.result.now c.args.graph.now.channels c.channels.ensures.value c.args.channel c.index-channels-channel.result 0 lt c.index-channels-channel.is
+    let lt : c.args.channel < length c.channels.result.now =
+    (let there = c.requires in let len = ap length c.channels.ensures.value in omega (arith, there, len, length-map c.channels.result.now channel_view)) in
+    c.production.ensures ∙ seen_at channel_view (λ (g : graph.Channel). production g c.args.firing) c.channels.result.now c.args.graph.now.channels
+    c.channels.ensures.value c.args.channel c.index-channels-channel.result 0 lt c.index-channels-channel.is
 
 pub returns-clause-small : goal.returns-clause-small
 returns-clause-small c =
-    let lt : c.args.channel < length c.channels.result.now = (let there = c.requires in let len = ap length c.channels.ensures.value in omega (arith, there, len, length-map c.channels.result.now channel_view)) in
-    let is : c.production.result ≡ production_at c.args.graph.now.channels c.args.firing c.args.channel = c.production.ensures ∙ seen_at channel_view (λ (g : graph.Channel). production g c.args.firing) c.channels.result.now c.args.graph.now.channels c.channels.ensures.value c.args.channel c.index-channels-channel.result 0 lt c.index-channels-channel.is in
-    subst (λ n. n ≤ 64) (sym is) (production_small c.args.graph.now.channels c.args.graph.now.actors c.args.firing c.args.channel c.channels.ensures.well_formed.fitting.channels c.requires)
+    let lt : c.args.channel < length c.channels.result.now =
+    (let there = c.requires in let len = ap length c.channels.ensures.value in omega (arith, there, len, length-map c.channels.result.now channel_view)) in
+    let is : c.production.result ≡ production_at c.args.graph.now.channels c.args.firing c.args.channel = c.production.ensures
+    ∙ seen_at channel_view (λ (g : graph.Channel). production g c.args.firing) c.channels.result.now c.args.graph.now.channels c.channels.ensures.value
+    c.args.channel c.index-channels-channel.result 0 lt c.index-channels-channel.is in
+    subst (λ n. n ≤ 64) (sym is) (production_small c.args.graph.now.channels c.args.graph.now.actors c.args.firing c.args.channel
+    c.channels.ensures.well_formed.fitting.channels c.requires)

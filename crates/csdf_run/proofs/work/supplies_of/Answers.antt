@@ -3,4 +3,9 @@ use Rattle.csdf_run.proofs.Works.{feed_short}
 use Rattle.csdf_run.proofs.work.supplies_of.Goals as goal
 
 pub overflow_cast-len : goal.overflow_cast-len
-overflow_cast-len c = omega (arith, c.len.ensures, feed_short c.args.feeds.now 1000000 c.loop-feed.feed-index c.feed-item.result c.requires c.loop-feed-test.true c.feed-item.is, c.feed-item.result.ok.0)
+overflow_cast-len c = omega (
+  arith,
+  c.len.ensures,
+  feed_short c.args.feeds.now 1000000 c.loop-feed.feed-index c.feed-item.result c.requires c.loop-feed-test.true c.feed-item.is,
+  c.feed-item.result.ok.0,
+)

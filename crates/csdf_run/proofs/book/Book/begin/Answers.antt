@@ -7,4 +7,6 @@ invariant_of-self c = book_next _ _ _ _ _ (code.Begin c.args.actor) _ _ _ tt c.s
 
 pub returns-clause-next : goal.returns-clause-next
 returns-clause-next c =
-    rw (← c.self.view_is) (next_is _ _ _ c.self.inside.moves c.push_reserved.new.self (code.Begin c.args.actor) _ _ _ _ _ c.self.invariant c.begin_tested.ensures.step c.push_reserved.ensures.items c.push_reserved.ensures.len c.push_reserved.ensures.capacity (rw (← c.self.view_is) at c.requires.room))
+    rw (← c.self.view_is) (next_is _ _ _ c.self.inside.moves c.push_reserved.new.self (code.Begin c.args.actor) _ _ _ _ _ c.self.invariant
+    c.begin_tested.ensures.step c.push_reserved.ensures.items c.push_reserved.ensures.len c.push_reserved.ensures.capacity
+    (rw (← c.self.view_is) at c.requires.room))

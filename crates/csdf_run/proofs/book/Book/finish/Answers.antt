@@ -7,5 +7,6 @@ invariant_of-self c = book_next _ _ _ _ _ (code.Finish c.args.actor) _ _ _ tt c.
 
 pub returns : goal.returns
 returns c = record {
-  next = rw (← c.self.view_is) (next_is _ _ _ c.self.inside.moves c.push_reserved.new.self (code.Finish c.args.actor) _ _ _ _ _ c.self.invariant c.finish.ensures c.push_reserved.ensures.items c.push_reserved.ensures.len c.push_reserved.ensures.capacity (rw (← c.self.view_is) at c.requires.room));
+  next = rw (← c.self.view_is) (next_is _ _ _ c.self.inside.moves c.push_reserved.new.self (code.Finish c.args.actor) _ _ _ _ _ c.self.invariant
+      c.finish.ensures c.push_reserved.ensures.items c.push_reserved.ensures.len c.push_reserved.ensures.capacity (rw (← c.self.view_is) at c.requires.room));
 }

@@ -9,5 +9,8 @@ invariant_of-self c = book_resized _ c.self.inside.reads.items c.args.actor c.re
 
 pub returns-clause-buffer : goal.returns-clause-buffer
 returns-clause-buffer c =
-    let lt : c.args.actor < length c.self.inside.reads.items = (let there = rw (← c.self.view_is) at c.requires.exists in omega (arith, there, c.self.invariant.each_actor, length-map c.self.inside.reads.items (λ v. v.items))) in
-    rw (← c.self.view_is) (rw c.need-need.ensures.value at (buffer_fits c.resize.result c.self.inside.reads.items c.args.actor c.need-need.result _ c.resize.new.self lt c.resize.ensures.len (sym c.resize.new.self.ok.0)))
+    let lt : c.args.actor < length c.self.inside.reads.items =
+    (let there = rw (← c.self.view_is) at c.requires.exists in
+    omega (arith, there, c.self.invariant.each_actor, length-map c.self.inside.reads.items (λ v. v.items))) in
+    rw (← c.self.view_is) (rw c.need-need.ensures.value at (buffer_fits c.resize.result c.self.inside.reads.items c.args.actor c.need-need.result _
+    c.resize.new.self lt c.resize.ensures.len (sym c.resize.new.self.ok.0)))

@@ -11,9 +11,11 @@ write-requires-clause-accepted c =
 pub finish-requires-clause-accepted : goal.finish-requires-clause-accepted
 finish-requires-clause-accepted c =
     let book : IsBook c.args.self.now.shown c.args.self.now.reads = subst (λ (b : BookView). IsBook b.shown b.reads) c.self.view_is c.self.invariant in
-    may_finish c.args.self.now.shown.core.plan c.write.new.self.shown.core.plan c.args.self.now.shown.core.now c.write.new.self.shown.core.now c.args.actor c.args.tokens.items (staged c.args.self.now.shown c.args.self.now.reads book) c.requires.exists c.write.ensures.next.plan c.write.ensures.next.now
+    may_finish c.args.self.now.shown.core.plan c.write.new.self.shown.core.plan c.args.self.now.shown.core.now c.write.new.self.shown.core.now c.args.actor
+    c.args.tokens.items (staged c.args.self.now.shown c.args.self.now.reads book) c.requires.exists c.write.ensures.next.plan c.write.ensures.next.now
 
 pub returns : goal.returns
 returns c =
     let book : IsBook c.args.self.now.shown c.args.self.now.reads = subst (λ (b : BookView). IsBook b.shown b.reads) c.self.view_is c.self.invariant in
-    has_given c.args.self.now c.write.new.self c.finish.new.self c.args.actor c.args.tokens.items (staged c.args.self.now.shown c.args.self.now.reads book) c.requires.exists c.write.ensures.next c.finish.ensures.next
+    has_given c.args.self.now c.write.new.self c.finish.new.self c.args.actor c.args.tokens.items (staged c.args.self.now.shown c.args.self.now.reads book)
+    c.requires.exists c.write.ensures.next c.finish.ensures.next

@@ -12,7 +12,11 @@ pub invariant_of-result : goal.invariant_of-result
 invariant_of-result c =
     let w : Work = c.args.work in
     let plan : c.in_ok-core.core.plan ≡ (program w).plan = c.in_ok-core.ensures.plan ∙ c.in_ok-setup.ensures.plan in
-    let each : length (feeds_in c.in_ok-reads.reads.items) ≡ length c.in_ok-core.core.plan.sources = length-map c.in_ok-reads.reads.items (λ v. v.items) ∙ c.in_ok-reads.ensures ∙ c.actors-2.ensures.value in
-    let none : c.in_ok-sinks.sinks.lists ≡ replicate (length c.in_ok-core.core.plan.sources) [] = c.in_ok-sinks.ensures ∙ ap (λ (n : ℕ). replicate n []) c.actors.ensures.value in
-    subst (λ (ms : List MoveCode). IsBook (floor_of w c.in_ok-core.core (map move_of ms) c.in_ok-sinks.sinks.lists) (feeds_in c.in_ok-reads.reads.items)) (sym c.new-3.ensures.items)
-    (book_opened w c.in_ok-core.core c.in_ok-sinks.sinks.lists (feeds_in c.in_ok-reads.reads.items) (subst IsWork c.work.view_is c.work.invariant) plan c.in_ok-core.ensures.opening c.in_ok-core.ensures.peaks none each)
+    let each : length (feeds_in c.in_ok-reads.reads.items) ≡ length c.in_ok-core.core.plan.sources = length-map c.in_ok-reads.reads.items (λ v. v.items)
+    ∙ c.in_ok-reads.ensures ∙ c.actors-2.ensures.value in
+    let none : c.in_ok-sinks.sinks.lists ≡ replicate (length c.in_ok-core.core.plan.sources) [] = c.in_ok-sinks.ensures
+    ∙ ap (λ (n : ℕ). replicate n []) c.actors.ensures.value in
+    subst (λ (ms : List MoveCode). IsBook (floor_of w c.in_ok-core.core (map move_of ms) c.in_ok-sinks.sinks.lists) (feeds_in c.in_ok-reads.reads.items))
+    (sym c.new-3.ensures.items)
+    (book_opened w c.in_ok-core.core c.in_ok-sinks.sinks.lists (feeds_in c.in_ok-reads.reads.items) (subst IsWork c.work.view_is c.work.invariant) plan
+    c.in_ok-core.ensures.opening c.in_ok-core.ensures.peaks none each)

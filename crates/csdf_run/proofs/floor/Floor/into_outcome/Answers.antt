@@ -11,11 +11,17 @@ use Rattle.csdf_run.proofs.floor.Floor.into_outcome.Goals as goal
 
 pub report-requires : goal.report-requires
 report-requires c =
-    at_rest c.self.inside.book.shown.core.plan c.self.inside.book.shown.core.now (subst (λ (f : FloorView). IsQuiet f.core.plan f.core.now) (sym c.self.view_is) c.requires)
+    at_rest c.self.inside.book.shown.core.plan c.self.inside.book.shown.core.now
+    (subst (λ (f : FloorView). IsQuiet f.core.plan f.core.now) (sym c.self.view_is) c.requires)
 
 pub returns-clause-outcome : goal.returns-clause-outcome
 returns-clause-outcome c =
-    let o : Outcome = record { ending = c.ending_of-ending.result; sinks = c.into_parts-journal.result.1; journal = c.into_parts-journal.result.0; report = c.in_ok-report.report } in
+    let o : Outcome = record {
+      ending = c.ending_of-ending.result;
+      sinks = c.into_parts-journal.result.1;
+      journal = c.into_parts-journal.result.0;
+      report = c.in_ok-report.report;
+    } in
     subst (λ (f : FloorView). IsOutcome f.work o) c.self.view_is
     (outcome_is c.self.inside.book.shown c.self.inside.book.reads c.core.ensures.book c.self.invariant
     (subst (λ (f : FloorView). IsQuiet f.core.plan f.core.now) (sym c.self.view_is) c.requires) o
@@ -24,7 +30,12 @@ returns-clause-outcome c =
 
 pub returns-clause-totals : goal.returns-clause-totals
 returns-clause-totals c =
-    let o : Outcome = record { ending = c.ending_of-ending.result; sinks = c.into_parts-journal.result.1; journal = c.into_parts-journal.result.0; report = c.in_ok-report.report } in
+    let o : Outcome = record {
+      ending = c.ending_of-ending.result;
+      sinks = c.into_parts-journal.result.1;
+      journal = c.into_parts-journal.result.0;
+      report = c.in_ok-report.report;
+    } in
     subst (λ (f : FloorView). HasTotals (program f.work) o f.core.now.counts) c.self.view_is
     (counts_are c.self.inside.book.shown c.self.inside.book.reads c.core.ensures.book c.self.invariant
     (subst (λ (f : FloorView). IsQuiet f.core.plan f.core.now) (sym c.self.view_is) c.requires) o

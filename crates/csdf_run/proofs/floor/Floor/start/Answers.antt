@@ -8,7 +8,8 @@ module _ (c : In_ok-make_room) where
   may : MayStart c.make_room.new.self.shown c.args.actor c.args.firing
   may =
       let none : start_refusal c.args.self.now c.args.actor c.args.firing ≡ None = sym c.start_refusal.ensures ∙ c.in_default.is in
-      subst (λ (f : FloorView). MayStart f c.args.actor c.args.firing) (sym (c.in_ok-make_room.ensures.shown ∙ c.self.view_is)) (may_start c.args.self.now c.args.actor c.args.firing none)
+      subst (λ (f : FloorView). MayStart f c.args.actor c.args.firing) (sym (c.in_ok-make_room.ensures.shown ∙ c.self.view_is))
+      (may_start c.args.self.now c.args.actor c.args.firing none)
 
 pub take-requires-clause-accepted : goal.take-requires-clause-accepted
 take-requires-clause-accepted c = (may (goal.at.take-requires-clause-accepted c).In_ok-make_room).accepted
@@ -16,7 +17,8 @@ take-requires-clause-accepted c = (may (goal.at.take-requires-clause-accepted c)
 pub invariant_of-self-2 : goal.invariant_of-self-2
 invariant_of-self-2 c =
     let at : goal.In_ok-make_room = (goal.at.invariant_of-self-2 c).In_ok-make_room in
-    between_taken c.make_room.new.self c.take.new.self c.args.actor c.args.firing (subst (λ (f : FloorView). IsBetween f.core.plan f.core.now) (sym c.in_ok-make_room.ensures.shown) c.self.invariant) (may at) c.take.ensures
+    between_taken c.make_room.new.self c.take.new.self c.args.actor c.args.firing
+    (subst (λ (f : FloorView). IsBetween f.core.plan f.core.now) (sym c.in_ok-make_room.ensures.shown) c.self.invariant) (may at) c.take.ensures
 
 pub returns-clause-ready : goal.returns-clause-ready
 returns-clause-ready c = record {

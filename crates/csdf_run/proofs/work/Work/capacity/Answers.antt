@@ -6,4 +6,5 @@ pub returns : goal.returns
 returns c =
     rw (← c.self.view_is)
     (ap (λ (ns : List ℕ). get_or ns c.args.channel 0)
-    (c.capacities.ensures.value ∙ sym (capacities_are c.self.inside.accepted.graph.channels c.self.inside.accepted.capacities c.self.invariant.accepted.least.completes.each_channel)))
+    (c.capacities.ensures.value ∙ sym (capacities_are c.self.inside.accepted.graph.channels c.self.inside.accepted.capacities
+    c.self.invariant.accepted.least.completes.each_channel)))

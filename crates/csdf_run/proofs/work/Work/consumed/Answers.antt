@@ -11,4 +11,5 @@ returns c =
     rw (← c.self.view_is) (c.consumed_of.ensures
     ∙ ap (λ (g : Graph). consumed_at g.channels c.args.firings c.args.channel) c.graph.ensures.graph
     ∙ ap (λ (ns : List ℕ). get_or ns c.args.channel 0)
-    (sym (map-capacities (λ (d : PlanChannel). total d.consume c.args.firings) (λ (g : Channel). consumed g c.args.firings) (λ g b. refl) c.self.inside.accepted.graph.channels c.self.inside.accepted.capacities c.self.invariant.accepted.least.completes.each_channel)))
+    (sym (map-capacities (λ (d : PlanChannel). total d.consume c.args.firings) (λ (g : Channel). consumed g c.args.firings) (λ g b. refl)
+    c.self.inside.accepted.graph.channels c.self.inside.accepted.capacities c.self.invariant.accepted.least.completes.each_channel)))

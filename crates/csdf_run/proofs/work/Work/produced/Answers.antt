@@ -11,4 +11,5 @@ returns c =
     rw (← c.self.view_is) (c.produced_of.ensures
     ∙ ap (λ (g : Graph). produced_at g.channels c.args.firings c.args.channel) c.graph.ensures.graph
     ∙ ap (λ (ns : List ℕ). get_or ns c.args.channel 0)
-    (sym (map-capacities (λ (d : PlanChannel). total d.produce c.args.firings) (λ (g : Channel). produced g c.args.firings) (λ g b. refl) c.self.inside.accepted.graph.channels c.self.inside.accepted.capacities c.self.invariant.accepted.least.completes.each_channel)))
+    (sym (map-capacities (λ (d : PlanChannel). total d.produce c.args.firings) (λ (g : Channel). produced g c.args.firings) (λ g b. refl)
+    c.self.inside.accepted.graph.channels c.self.inside.accepted.capacities c.self.invariant.accepted.least.completes.each_channel)))

@@ -8,4 +8,6 @@ pub returns : goal.returns
 returns c =
     rw (← c.self.view_is) (c.producer_of.ensures
     ∙ ap (λ (g : Graph). get_or (map (λ (d : Channel). d.from) g.channels) c.args.channel 0) c.graph.ensures.graph
-    ∙ ap (λ (ns : List ℕ). get_or ns c.args.channel 0) (sym (map-capacities (λ (d : PlanChannel). d.from) (λ (g : Channel). g.from) (λ g b. refl) c.self.inside.accepted.graph.channels c.self.inside.accepted.capacities c.self.invariant.accepted.least.completes.each_channel)))
+    ∙ ap (λ (ns : List ℕ). get_or ns c.args.channel 0)
+    (sym (map-capacities (λ (d : PlanChannel). d.from) (λ (g : Channel). g.from) (λ g b. refl) c.self.inside.accepted.graph.channels
+    c.self.inside.accepted.capacities c.self.invariant.accepted.least.completes.each_channel)))
