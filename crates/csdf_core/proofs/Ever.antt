@@ -2,7 +2,7 @@
 use Rattle.std.proofs.Common.{◌≡◌, ℕ, zero, suc, ◌+◌, ◌-◌, ◌*◌, ◌<◌, ◌≤◌, not, cond, inl, inr, List, [], ◌∷◌, ◌++◌, length, take, get_or, map, replicate, sum}
 use Rattle.std.proofs.Common.{refl, ap, sym, subst, ◌∙◌, arith, true, false, Option, Some, None, mul-le-mul, suc-mul, append_assoc, length-append, ◌%◌}
 use Rattle.std.proofs.Common.{mul_comm, mul_assoc}
-use Rattle.std.specs.Prelude.{ℤ, IfSome, slice_index, slice_get, count_by, sum_by, unwrap_or, All}
+use Rattle.std.specs.Prelude.{ℤ, IfSome, slice_index, count_by, sum_by, unwrap_or, All}
 use Rattle.std.specs.List.{zip, AllByRecursion}
 use Rattle.std.proofs.lemmas.List.Sums.{sum_by-cons}
 use Rattle.std.proofs.lemmas.List.Folds.{sum_by-replicate}
@@ -13,13 +13,10 @@ use Rattle.csdf_graph.specs.Graph as graph
 use Rattle.csdf_graph.specs.Graph.{phases_of}
 use Rattle.std.proofs.Math.Nat.{mul-mod_right}
 use Rattle.csdf_graph.specs.Rates.{total, produced, consumed}
-use Rattle.csdf_graph.specs.WellFormed.{IsChannel}
 use Rattle.csdf_analysis.specs.Acceptance.{Accepted, IsAccepted, cells_of}
 use Rattle.csdf_analysis.specs.Period.{CanFire, IsSchedule, counts_after, fired as fired_counts, no_firings, IsScheduleFrom}
-use Rattle.csdf_analysis.specs.Repetition.{IsBalanced}
 use Rattle.csdf_analysis.proofs.CountLemmas.{fired_length, fired_same, fired_other, fired_sum, none_at, sum_within}
 use Rattle.csdf_analysis.proofs.PeriodLemmas.{IsFed, able_of, fed_first, fed_fired, after_more}
-use Rattle.csdf_analysis.proofs.FitLemmas.{at}
 use Rattle.csdf_core.specs.declared.stage.Stage.{Stage}
 use Rattle.csdf_core.specs.declared.stage.Stage.TheVariants.{Idle, Begun, Fetched, Written}
 use Rattle.csdf_core.specs.Moves.{Move}
@@ -41,7 +38,7 @@ use Rattle.csdf_core.proofs.FiringCounts.{put_at, got_at, put, got, begun}
 use Rattle.csdf_core.proofs.Tallies.{AreTallied}
 use Rattle.csdf_core.specs.Going.{CanGo}
 use Rattle.csdf_core.proofs.Accepting.{AllIdle, idle_count, after_is, fired_with, idle_again, all_open, begins_free, reads_free, writes_free, finishes_free}
-use Rattle.csdf_core.proofs.Periodic.{IsPeriodic, periodic, at_period, able_row, able_rows, given_mono, wet_at}
+use Rattle.csdf_core.proofs.Periodic.{each_periodic, at_period, able_row, able_rows, given_mono, wet_at}
 use Rattle.csdf_core.proofs.Able.{IsAble, IsAbleAt, able_later}
 use Rattle.csdf_core.proofs.Booked.{IsBooked, can_of, booked_opening, booked_begun, booked_read, booked_written, booked_finished}
 
@@ -206,14 +203,6 @@ module _ (a : Accepted) (limits supplies : List ℕ) (firings : Option ℕ) (per
   abbrev plan : Plan
   plan = plan_for a limits supplies firings
 
-  each_periodic : (i : ℕ) (c : graph.Channel) → slice_get a.graph.channels i ≡ Some c → IsPeriodic a.q c
-  each_periodic i c is =
-      let channel = at (IsChannel a.graph.actors) a.graph.channels i c ok.well_formed.fitting.channels is in
-      let rep = ok.repetition in
-      let len = rep.firings.each_actor in
-      periodic a.graph.actors a.r a.q c channel (at (IsBalanced a.graph.actors a.r) a.graph.channels i c rep.least.balances is)
-      (rep.firings.firings c.from (let h = channel.from in omega arith)) (rep.firings.firings c.to (let h = channel.to in omega arith))
-
   -- an actor that is able to fire by the counts of the schedule can go in the core
   can_go : (s : State) (j x : ℕ) (n : List ℕ) → IsBetween plan a.q s j n → j < periods → length n ≡ length a.graph.actors → IsFed a.graph.channels n
       → CanFire a.graph.channels a.capacities n x → suc (get_or n x 0) ≤ get_or a.q x 0
@@ -232,7 +221,7 @@ module _ (a : Accepted) (limits supplies : List ℕ) (firings : Option ℕ) (per
             let grows : given plan x (suc k) ≤ given plan x (periods * get_or a.q x 0) = given_mono plan x (suc k) (periods * get_or a.q x 0) less in
             omega arith));
         rows = able_rows (IsAbleAt (at_period a.q j n) (at_period a.q j n) x k) a.graph.channels a.capacities ok.least.completes.each_channel
-            (λ i c is. able_row a.graph.channels a.q a.capacities n j x i c (get_or a.capacities i 0) can.exists (each_periodic i c is) refl is fed can);
+            (λ i c is. able_row a.graph.channels a.q a.capacities n j x i c (get_or a.capacities i 0) can.exists (each_periodic a ok i c is) refl is fed can);
       } in
       let puts : (d : ℕ) → at_period a.q j n d ≤ put s.counts s.stages d =
       λ d. (let i = idle_count put_at s b.idle (λ m. refl) d in let h = b.counts d in omega arith) in
@@ -372,7 +361,7 @@ module _ (a : Accepted) (limits supplies : List ℕ) (firings : Option ℕ) (per
             (able_rows (λ (d : Channel). total d.produce (put t.counts t.stages d.from) ≡ total d.consume (got t.counts t.stages d.to)) a.graph.channels
             a.capacities ok.least.completes.each_channel
             (λ i d is.
-            (let p = each_periodic i d is in
+            (let p = each_periodic a ok i d is in
             let z1 : m * get_or a.q d.from 0 + 0 ≡ m * get_or a.q d.from 0 = omega arith in
             let z2 : m * get_or a.q d.to 0 + 0 ≡ m * get_or a.q d.to 0 = omega arith in
             let made : produced d (put t.counts t.stages d.from) ≡ p.moved m + produced d 0 =

@@ -10,9 +10,11 @@ use Rattle.csdf_graph.specs.Graph.{phases_of}
 use Rattle.csdf_graph.specs.Rates.{total, produced, consumed}
 use Rattle.csdf_graph.specs.WellFormed.{IsChannel}
 use Rattle.csdf_graph.proofs.RateLemmas.{total_front, total_after, total_cycles}
+use Rattle.csdf_analysis.specs.Acceptance.{Accepted, IsAccepted}
 use Rattle.csdf_analysis.specs.Period.{CanFire, fired as fired_counts}
 use Rattle.csdf_analysis.specs.Repetition.{IsBalanced}
 use Rattle.csdf_analysis.proofs.CountLemmas.{total_mono, fired_same, fired_other}
+use Rattle.csdf_analysis.proofs.FitLemmas.{at}
 use Rattle.csdf_analysis.proofs.PeriodLemmas.{IsFed, able_of}
 use Rattle.csdf_core.specs.Plan.{Channel, Plan}
 use Rattle.csdf_core.specs.Layout.{with_capacity}
@@ -41,7 +43,7 @@ same_moved : (rf sp rt sc j : ℕ) → rf * sp ≡ rt * sc → sp * (rf * j) ≡
 same_moved rf sp rt sc j e =
     sym (mul_assoc sp rf j) ∙ ap (λ x. x * j) (mul_comm sp rf ∙ e ∙ mul_comm rt sc) ∙ mul_assoc sc rt j
 
-pub periodic : (actors : List graph.Actor) (r q : List ℕ) (c : graph.Channel) → IsChannel actors c → IsBalanced actors r c
+periodic : (actors : List graph.Actor) (r q : List ℕ) (c : graph.Channel) → IsChannel actors c → IsBalanced actors r c
     → get_or q c.from 0 ≡ phases_of actors c.from * get_or r c.from 0 → get_or q c.to 0 ≡ phases_of actors c.to * get_or r c.to 0 → IsPeriodic q c
 periodic actors r q c is balanced from to =
     let rf : ℕ = get_or r c.from 0 in
@@ -56,6 +58,15 @@ periodic actors r q c is balanced from to =
       taken = λ j n. shifted c.consume (phases_of actors c.to) rt (get_or q c.to 0) j n lc to
           ∙ ap (λ x. x + total c.consume n) (sym (same_moved rf (sum c.produce) rt (sum c.consume) j cycles));
     }
+
+-- each channel of an accepted graph, by the firings of its vector
+pub each_periodic : (a : Accepted) → IsAccepted a → (i : ℕ) (c : graph.Channel) → slice_get a.graph.channels i ≡ Some c → IsPeriodic a.q c
+each_periodic a ok i c is =
+    let channel = at (IsChannel a.graph.actors) a.graph.channels i c ok.well_formed.fitting.channels is in
+    let rep = ok.repetition in
+    let len = rep.firings.each_actor in
+    periodic a.graph.actors a.r a.q c channel (at (IsBalanced a.graph.actors a.r) a.graph.channels i c rep.least.balances is)
+    (rep.firings.firings c.from (let h = channel.from in omega arith)) (rep.firings.firings c.to (let h = channel.to in omega arith))
 
 -- ---- the firings of a later period
 

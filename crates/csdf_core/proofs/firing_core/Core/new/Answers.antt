@@ -9,6 +9,7 @@ use Rattle.csdf_core.specs.Shows.{Shows}
 use Rattle.csdf_core.specs.Sound.{IsSound}
 use Rattle.csdf_core.proofs.Beginnings.{sound_opening, shows_opening}
 use Rattle.csdf_core.proofs.firing_core.Core.new.Goals as goal
+use Rattle.csdf_core.proofs.firing_core.Core.new.Goals.{In_ok-vec-4}
 
 pub lengths_of-requires : goal.lengths_of-requires
 lengths_of-requires c =
@@ -16,45 +17,52 @@ lengths_of-requires c =
     c.channels-channels.ensures.count
     ∙ sym (sym (length-map c.in_ok-pool.pool.chains held_tokens) ∙ ap length c.in_ok-pool.ensures.tokens ∙ length-map cs (λ (d : Channel). d.initial))
 
+-- the lists that a new core begins with
+module _ (c : In_ok-vec-4) where
+  abbrev plan : Plan
+  plan = c.in_ok-layout.layout
+
+  counts : c.in_ok-vec.field-0.items ≡ replicate (length plan.sources) 0
+  counts =
+      let made : c.in_ok-vec.field-0.items ≡ replicate c.actors-actors.result 0 = search rules in
+      made ∙ ap (λ n. replicate n 0) c.actors-actors.ensures.count
+
+  stages : c.in_ok-vec-2.field-0.items ≡ replicate (length plan.sources) Idle
+  stages =
+      let made : c.in_ok-vec-2.field-0.items ≡ replicate c.actors-actors.result Idle = search rules in
+      made ∙ ap (λ n. replicate n Idle) c.actors-actors.ensures.count
+
+  opens : c.in_ok-vec-3.field-0.items ≡ replicate (length plan.channels) true
+  opens =
+      let made : c.in_ok-vec-3.field-0.items ≡ replicate c.channels-channels.result true = search rules in
+      made ∙ ap (λ n. replicate n true) c.channels-channels.ensures.count
+
+  sums : c.in_ok-vec-4.field-0.items ≡ replicate (length plan.sources) 0
+  sums =
+      let made : c.in_ok-vec-4.field-0.items ≡ replicate c.actors-actors.result 0 = search rules in
+      made ∙ ap (λ n. replicate n 0) c.actors-actors.ensures.count
+
+  abbrev now : Present
+  now = record {
+    counts = c.in_ok-vec.field-0.items;
+    stages = c.in_ok-vec-2.field-0.items;
+    opens = c.in_ok-vec-3.field-0.items;
+    tokens = tokens_in c.in_ok-pool.pool;
+  }
+
 pub invariant_of-result-2 : goal.invariant_of-result-2
 invariant_of-result-2 c =
-    let plan : Plan = c.in_ok-layout.layout in
-    let actors = c.actors-actors.ensures.count in
-    let channels = c.channels-channels.ensures.count in
-    let vec : c.in_ok-vec.field-0.items ≡ replicate c.actors-actors.result 0 = search rules in
-    let vec-2 : c.in_ok-vec-2.field-0.items ≡ replicate c.actors-actors.result Idle = search rules in
-    let vec-3 : c.in_ok-vec-3.field-0.items ≡ replicate c.channels-channels.result true = search rules in
-    let now : Present = record {
-      counts = c.in_ok-vec.field-0.items;
-      stages = c.in_ok-vec-2.field-0.items;
-      opens = c.in_ok-vec-3.field-0.items;
-      tokens = tokens_in c.in_ok-pool.pool;
-    } in
-    let vec-4 : c.in_ok-vec-4.field-0.items ≡ replicate c.actors-actors.result 0 = search rules in
-    subst (λ (l : Plan). IsSound l now c.in_ok-peaks.peaks.items c.in_ok-vec-4.field-0.items 0 0 c.in_ok-pool.pool) (sym c.layout.view_is)
-    (sound_opening plan c.in_ok-pool.pool c.in_ok-vec.field-0.items c.in_ok-vec-4.field-0.items c.in_ok-peaks.peaks.items c.in_ok-vec-2.field-0.items
-    c.in_ok-vec-3.field-0.items
-    c.in_ok-layout.ensures.playable (vec ∙ ap (λ n. replicate n 0) actors) (vec-2 ∙ ap (λ n. replicate n Idle) actors)
-    (vec-3 ∙ ap (λ n. replicate n true) channels)
-    c.in_ok-pool.ensures.tokens c.in_ok-pool.ensures.shared_out (vec-4 ∙ ap (λ n. replicate n 0) actors) c.in_ok-peaks.ensures)
+    let at : In_ok-vec-4 = (goal.at.invariant_of-result-2 c).In_ok-vec-4 in
+    subst (λ (l : Plan). IsSound l (now at) c.in_ok-peaks.peaks.items c.in_ok-vec-4.field-0.items 0 0 c.in_ok-pool.pool) (sym c.layout.view_is)
+    (sound_opening c.in_ok-layout.layout c.in_ok-pool.pool c.in_ok-vec.field-0.items c.in_ok-vec-4.field-0.items c.in_ok-peaks.peaks.items
+    c.in_ok-vec-2.field-0.items c.in_ok-vec-3.field-0.items c.in_ok-layout.ensures.playable (counts at) (stages at) (opens at)
+    c.in_ok-pool.ensures.tokens c.in_ok-pool.ensures.shared_out (sums at) c.in_ok-peaks.ensures)
 
 pub returns-clause-opening : goal.returns-clause-opening
 returns-clause-opening c =
-    let plan : Plan = c.in_ok-layout.layout in
-    let actors = c.actors-actors.ensures.count in
-    let channels = c.channels-channels.ensures.count in
-    let vec : c.in_ok-vec.field-0.items ≡ replicate c.actors-actors.result 0 = search rules in
-    let vec-2 : c.in_ok-vec-2.field-0.items ≡ replicate c.actors-actors.result Idle = search rules in
-    let vec-3 : c.in_ok-vec-3.field-0.items ≡ replicate c.channels-channels.result true = search rules in
-    let now : Present = record {
-      counts = c.in_ok-vec.field-0.items;
-      stages = c.in_ok-vec-2.field-0.items;
-      opens = c.in_ok-vec-3.field-0.items;
-      tokens = tokens_in c.in_ok-pool.pool;
-    } in
-    subst (λ (l : Plan). Shows (record { plan = l; now = now; peaks = c.in_ok-peaks.peaks.items; pool = c.in_ok-pool.pool }) (opening l)) (sym c.layout.view_is)
-    (shows_opening plan c.in_ok-pool.pool c.in_ok-vec.field-0.items c.in_ok-vec-4.field-0.items c.in_ok-peaks.peaks.items c.in_ok-vec-2.field-0.items
-    c.in_ok-vec-3.field-0.items
-    c.in_ok-layout.ensures.playable (vec ∙ ap (λ n. replicate n 0) actors) (vec-2 ∙ ap (λ n. replicate n Idle) actors)
-    (vec-3 ∙ ap (λ n. replicate n true) channels)
+    let at : In_ok-vec-4 = (goal.at.returns-clause-opening c).In_ok-vec-4 in
+    subst (λ (l : Plan). Shows (record { plan = l; now = now at; peaks = c.in_ok-peaks.peaks.items; pool = c.in_ok-pool.pool }) (opening l))
+    (sym c.layout.view_is)
+    (shows_opening c.in_ok-layout.layout c.in_ok-pool.pool c.in_ok-vec.field-0.items c.in_ok-vec-4.field-0.items c.in_ok-peaks.peaks.items
+    c.in_ok-vec-2.field-0.items c.in_ok-vec-3.field-0.items c.in_ok-layout.ensures.playable (counts at) (stages at) (opens at)
     c.in_ok-pool.ensures.tokens c.in_ok-pool.ensures.shared_out)
