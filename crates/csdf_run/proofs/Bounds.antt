@@ -23,7 +23,8 @@ use Rattle.csdf_core.proofs.FiringCounts.{put_at, got_at, put, got, begun, stage
 use Rattle.csdf_core.proofs.Able.{IsAble, able_later}
 use Rattle.csdf_core.proofs.Booked.{IsBooked, able_of, can_of, can_begin}
 use Rattle.csdf_run.proofs.Faithful.{IsFaithful, faithful_honest, faithful_opening}
-use Rattle.csdf_run.proofs.Sequential.{AllIdle, IsAtRest, rest_opening, rest_fired, rest_all, stuck_all}
+use Rattle.csdf_core.proofs.Accepting.{AllIdle}
+use Rattle.csdf_run.proofs.Sequential.{IsAtRest, rest_opening, rest_fired, rest_all, stuck_all}
 
 -- ---- along a journal
 

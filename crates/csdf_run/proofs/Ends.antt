@@ -6,7 +6,6 @@ use Rattle.std.specs.List.{zip, AllByRecursion}
 use Rattle.std.proofs.lemmas.List.{take_all, take-append-drop, ext_get_or}
 use Rattle.csdf_graph.specs.Rates.{total}
 use Rattle.csdf_analysis.proofs.CountLemmas.{total_mono}
-use Rattle.csdf_core.specs.declared.stage.Stage.{Stage}
 use Rattle.csdf_core.specs.declared.stage.Stage.TheVariants.{Idle}
 use Rattle.csdf_core.specs.Moves.{Move}
 use Rattle.csdf_core.specs.Plan.{Channel}
@@ -17,11 +16,12 @@ use Rattle.csdf_run.specs.Journal.{Program, IsHonest, reads_of, state_of}
 use Rattle.csdf_run.specs.Sequential.{IsSequential, sequential_state}
 use Rattle.csdf_core.specs.Going.{begun_at}
 use Rattle.csdf_run.specs.Laws.{IsFront, StaysWithin, EndsAsSequential}
-use Rattle.csdf_core.proofs.FiringCounts.{put_at, got_at, tell, put, got, begun, put_begun, got_begun, count_put}
+use Rattle.csdf_core.proofs.FiringCounts.{put_at, got_at, put, got, begun, put_begun, got_begun, count_put}
 use Rattle.csdf_core.proofs.Tallies.{AreTallied}
 use Rattle.csdf_run.proofs.Places.{inputs_at}
 use Rattle.csdf_run.proofs.Faithful.{IsFaithful}
-use Rattle.csdf_run.proofs.Sequential.{AllIdle, rest_opening, rest_all}
+use Rattle.csdf_core.proofs.Accepting.{AllIdle, idle_count}
+use Rattle.csdf_run.proofs.Sequential.{rest_opening, rest_all}
 use Rattle.csdf_run.proofs.Bounds.{faithful_end, Within, within_sequential, finishes_all, idle_all}
 use Rattle.csdf_run.proofs.Agreement.{IsAgreed, AreAgreed, agreed_sym, agreed_opening, agreed_sequential, inputs_agree}
 use Rattle.csdf_run.proofs.Takings.{inputs_to, sink_journal, sink_sequential}
@@ -55,9 +55,6 @@ ends w journal actors h p =
       within = within_sequential w journal actors h p;
       agreed = agreed_sym t.streams s.streams sequential;
     }
-
-pub idle_count : (f : Stage → ℕ → ℕ) (t : State) → AllIdle t → ((n : ℕ) → f Idle n ≡ n) → (b : ℕ) → tell f t.counts t.stages b ≡ count (present t) b
-idle_count f t idle same b = ap (λ x. f x (get_or t.counts b 0)) (idle b) ∙ same _
 
 -- ---- within
 

@@ -1,18 +1,15 @@
 -- An accepted graph makes all firings of its periods, where the sources' files are long enough.
 use Rattle.std.proofs.Common.{◌≡◌, ℕ, zero, suc, ◌+◌, ◌*◌, ◌<◌, ◌≤◌, inl, inr, List, [], ◌∷◌, length, get_or, map, refl, ap, sym, subst, ◌∙◌, arith, Option}
-use Rattle.std.proofs.Common.{Some, None, eq-or-lt_of_le, le-leb, mul-le-mul, suc-mul}
-use Rattle.std.specs.Prelude.{ℤ, slice_index, slice_get}
+use Rattle.std.proofs.Common.{None, eq-or-lt_of_le, le-leb, mul-le-mul, suc-mul}
+use Rattle.std.specs.Prelude.{ℤ, slice_index}
 use Rattle.std.proofs.lemmas.Bool.{lt-leb}
 use Rattle.std.proofs.lemmas.List.{length-map, length-replicate}
 use Rattle.std.proofs.lemmas.Bool.Decides.{eqb_tells}
 use Rattle.csdf_graph.specs.Graph as graph
-use Rattle.csdf_graph.specs.WellFormed.{IsChannel}
 use Rattle.csdf_analysis.specs.Acceptance.{Accepted, IsAccepted}
 use Rattle.csdf_analysis.specs.Period.{CanFire, IsSchedule, counts_after, fired as fired_counts, no_firings}
-use Rattle.csdf_analysis.specs.Repetition.{IsBalanced}
 use Rattle.csdf_analysis.proofs.CountLemmas.{fired_length, fired_same, fired_other, none_at}
 use Rattle.csdf_analysis.proofs.PeriodLemmas.{IsFed, able_of, fed_first, fed_fired, after_more}
-use Rattle.csdf_analysis.proofs.FitLemmas.{at}
 use Rattle.csdf_core.specs.Plan.{Plan}
 use Rattle.csdf_core.specs.Layout.{is_source_kernel}
 use Rattle.csdf_core.specs.State.{State, present, opening}
@@ -20,12 +17,12 @@ use Rattle.csdf_core.specs.Step.{count, given, is_source}
 use Rattle.csdf_run.specs.Journal.{Program, program_for}
 use Rattle.csdf_run.specs.Sequential.{IsStuck, sequential_state}
 use Rattle.csdf_run.specs.Laws.{AreAmple, CompletesAll}
-use Rattle.csdf_core.proofs.Periodic.{IsPeriodic, periodic, at_period, able_row, able_rows, given_mono, wet_at}
+use Rattle.csdf_core.proofs.Accepting.{AllIdle, idle_count}
+use Rattle.csdf_core.proofs.Periodic.{each_periodic, at_period, able_row, able_rows, given_mono, wet_at}
 use Rattle.csdf_core.proofs.FiringCounts.{put_at, got_at, put, got}
 use Rattle.csdf_core.proofs.Able.{IsAble, IsAbleAt, able_later}
 use Rattle.csdf_core.proofs.Booked.{IsBooked, can_of}
-use Rattle.csdf_run.proofs.Sequential.{AllIdle, rest_opening, rest_all, stuck_all}
-use Rattle.csdf_run.proofs.Ends.{idle_count}
+use Rattle.csdf_run.proofs.Sequential.{rest_opening, rest_all, stuck_all}
 
 -- the limit on all firings doesn't matter
 same_given : (a : Accepted) (feeds : List (List ℤ)) (periods : ℕ) (firings : Option ℕ) (x n : ℕ)
@@ -51,14 +48,6 @@ module _ (a : Accepted) (feeds : List (List ℤ)) (periods : ℕ) (firings : Opt
   abbrev plan : Plan
   plan = (program_for a feeds periods firings).plan
 
-  each_periodic : (i : ℕ) (c : graph.Channel) → slice_get a.graph.channels i ≡ Some c → IsPeriodic a.q c
-  each_periodic i c is =
-      let channel = at (IsChannel a.graph.actors) a.graph.channels i c ok.well_formed.fitting.channels is in
-      let rep = ok.repetition in
-      let len = rep.firings.each_actor in
-      periodic a.graph.actors a.r a.q c channel (at (IsBalanced a.graph.actors a.r) a.graph.channels i c rep.least.balances is)
-      (rep.firings.firings c.from (let h = channel.from in omega arith)) (rep.firings.firings c.to (let h = channel.to in omega arith))
-
   -- a firing of the schedule is left in t
   step : (j x : ℕ) (n : List ℕ) → j < periods → length n ≡ length a.graph.actors → IsFed a.graph.channels n → CanFire a.graph.channels a.capacities n x
       → suc (get_or n x 0) ≤ get_or a.q x 0
@@ -80,7 +69,7 @@ module _ (a : Accepted) (feeds : List (List ℤ)) (periods : ℕ) (firings : Opt
             same_given a feeds periods firings x (periods * get_or a.q x 0) in
             omega arith));
         rows = able_rows (IsAbleAt (at_period a.q j n) (at_period a.q j n) x k) a.graph.channels a.capacities ok.least.completes.each_channel
-            (λ i c is. able_row a.graph.channels a.q a.capacities n j x i c (get_or a.capacities i 0) can.exists (each_periodic i c is) refl is fed can);
+            (λ i c is. able_row a.graph.channels a.q a.capacities n j x i c (get_or a.capacities i 0) can.exists (each_periodic a ok i c is) refl is fed can);
       } in
       elim (eq-or-lt_of_le (below x)) [
         | inl same ↦

@@ -1,20 +1,19 @@
 -- A whole firing at one go, from a state in which every actor is idle to one like it.
-use Rattle.std.proofs.Common.{◌≡◌, ℕ, zero, suc, ◌+◌, ◌<◌, ◌==◌, cond, inl, inr, List, [], ◌∷◌, length, get_or, set, map, filter, refl, ap, sym, subst, ◌∙◌}
+use Rattle.std.proofs.Common.{◌≡◌, ℕ, ◌+◌, ◌<◌, ◌==◌, cond, List, [], ◌∷◌, length, get_or, set, map, filter, refl, ap, sym, ◌∙◌}
 use Rattle.std.proofs.Common.{arith, Bool, true, false, length-set}
 use Rattle.std.specs.Prelude.{ℤ, sum}
 use Rattle.std.proofs.lemmas.List.Sums.{sum_by-cons}
-use Rattle.std.proofs.lemmas.List.{get_or-set_other, get_or-set_same}
-use Rattle.std.proofs.lemmas.Bool.Decides.{eqb_tells}
+use Rattle.std.proofs.lemmas.List.{get_or-set_same}
 use Rattle.csdf_graph.specs.Rates.{rate}
 use Rattle.csdf_graph.specs.declared.parts.Kernel.TheVariants.{Sink}
 use Rattle.csdf_kernel.proofs.ValueLemmas.{length_of_value}
-use Rattle.csdf_core.specs.declared.stage.Stage.{Stage}
 use Rattle.csdf_core.specs.declared.stage.Stage.TheVariants.{Idle, Begun, Fetched, Written}
 use Rattle.csdf_core.specs.Moves.{Begin, Read, Write}
 use Rattle.csdf_core.specs.Plan.{Channel, gives_of}
 use Rattle.csdf_core.specs.Rows.{gift}
 use Rattle.csdf_core.specs.State.{State, present, opening}
 use Rattle.csdf_core.specs.Step.{count, stage, answer, accepted}
+use Rattle.csdf_core.proofs.Accepting.{AllIdle, idle_again}
 use Rattle.csdf_core.proofs.Opening.{alike}
 use Rattle.csdf_run.specs.Journal.{Program, value, inputs, output_counts, no_reads}
 use Rattle.csdf_core.specs.Going.{CanGo}
@@ -42,9 +41,6 @@ unfolding value
 length_value w a k read = length_of_value (get_or w.kernels a Sink) (output_counts w a k) (inputs w a k read) ∙ sum_of_counts a k w.plan.channels
 
 -- ---- the states on the way
-
-abbrev pub AllIdle : State → Type 0
-AllIdle s = (a : ℕ) → stage (present s) a ≡ Idle
 
 abbrev pub after_begin : Program → State → ℕ → State
 after_begin w s a = accepted w.plan s (Begin a)
@@ -103,22 +99,8 @@ goes w s kept a f can =
       last = faithful_finished w (after_write w s a) (set kept a read) a f3 there at3;
     }
 
-pub idle_again : (w : Program) (s : State) (a : ℕ) → AllIdle s → AllIdle (fired w s a)
-idle_again w s a idle b = elim (eqb_tells b a) [
-  | inl e ↦ subst (λ (d : ℕ). get_or (set (set (set (set s.stages a Begun) a Fetched) a Written) a Idle) d Idle ≡ Idle) (sym e.1)
-      (set_idle (set (set (set s.stages a Begun) a Fetched) a Written) a)
-  | inr e ↦
-      get_or-set_other (set (set (set s.stages a Begun) a Fetched) a Written) a b Idle Idle e.1
-      ∙ get_or-set_other (set (set s.stages a Begun) a Fetched) a b Written Idle e.1
-      ∙ get_or-set_other (set s.stages a Begun) a b Fetched Idle e.1
-      ∙ get_or-set_other s.stages a b Begun Idle e.1
-      ∙ idle b
-]
-  where
-    set_idle : (ss : List Stage) (i : ℕ) → get_or (set ss i Idle) i Idle ≡ Idle
-    set_idle [] i = refl
-    set_idle (x ∷ ss) zero = refl
-    set_idle (x ∷ ss) (suc i) = set_idle ss i
+pub idle_fired : (w : Program) (s : State) (a : ℕ) → AllIdle s → AllIdle (fired w s a)
+idle_fired w s a idle = idle_again w.plan s a (written_value w s a) idle
 
 -- ---- the sequential run
 
@@ -132,7 +114,7 @@ pub rest_opening : (w : Program) → IsAtRest w (opening w.plan)
 rest_opening w = record { kept = no_reads w.plan; faithful = faithful_opening w; idle = λ a. alike (length w.plan.sources) a Idle }
 
 pub rest_fired : (w : Program) (s : State) (a : ℕ) → IsAtRest w s → CanGo w.plan (present s) a → IsAtRest w (fired w s a)
-rest_fired w s a r can = let g = goes w s r.kept a r.faithful can in record { kept = kept_by w s r.kept a; faithful = g.last; idle = idle_again w s a r.idle }
+rest_fired w s a r can = let g = goes w s r.kept a r.faithful can in record { kept = kept_by w s r.kept a; faithful = g.last; idle = idle_fired w s a r.idle }
 
 pub rest_all : (w : Program) (s : State) (actors : List ℕ) → IsAtRest w s → IsSequentialFrom w s actors → IsAtRest w (state_from w s actors)
 rest_all w s [] r p = r
