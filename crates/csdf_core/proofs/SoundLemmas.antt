@@ -1,5 +1,6 @@
 -- A core stays sound at each accepted move.
-use Rattle.std.proofs.Common.{◌≡◌, ℕ, zero, suc, ◌+◌, ◌-◌, ◌*◌, ◌<◌, ◌≤◌, List, [], ◌∷◌, inl, inr, length, get_or, set, drop, ap, subst, ◌∙◌, sym, arith, None}
+use Rattle.std.proofs.Common.{◌≡◌, ℕ, zero, suc, ◌+◌, ◌-◌, ◌*◌, ◌<◌, ◌≤◌, List, [], ◌∷◌, inl, inr, length, get_or, set, drop, refl, ap, subst, ◌∙◌, sym, arith}
+use Rattle.std.proofs.Common.{None}
 use Rattle.std.proofs.Common.{cond}
 use Rattle.std.specs.Prelude.{ℤ, slice_index, sum, sum_by, count_by, not, All}
 use Rattle.std.proofs.lemmas.List.{get_or-set_other, get_or-set_same, get_or_default, length-set, length-drop}
@@ -12,7 +13,8 @@ use Rattle.csdf_core.specs.Moves.{Begin, Read, Finish, Close}
 use Rattle.csdf_core.specs.Plan.{Channel, Plan, takes_of}
 use Rattle.csdf_core.specs.Rows.{left, need, gift}
 use Rattle.csdf_core.specs.State.{Present}
-use Rattle.csdf_core.specs.Step.{count, stage, is_stage, given, refusal, first_of, write_table}
+use Rattle.csdf_core.specs.Step.{count, stage, is_stage, given, refusal, first_of, write_table, begun_count, reserved}
+use Rattle.csdf_core.specs.Ready.{IsFit}
 use Rattle.csdf_core.specs.Shows.{ArePeaks, raised, AreSharedOut}
 use Rattle.csdf_core.specs.Sound.{IsSound}
 use Rattle.csdf_core.proofs.Kept.{begins, reads, writes, finishes}
@@ -50,6 +52,25 @@ high_left a k (c ∷ cs) (p ∷ peaks) (t ∷ ts) len h = (
 )
 
 module _ (plan : Plan) (p : Present) (peaks sums : List ℕ) (started kept : ℕ) (pool : Shared) where
+  -- a move that leaves all counts as they are
+  unfinished : (p' : Present) (peaks' : List ℕ) (started' kept' : ℕ) (pool' : Shared) → IsSound plan p peaks sums started kept pool → p'.counts ≡ p.counts
+      → IsFit plan p' → length peaks' ≡ length plan.channels → ArePeaks peaks' p'.tokens → length pool'.chains ≡ length plan.channels → AreSharedOut plan pool'
+      → started' ≡ begun_count p' → kept' ≡ reserved plan p' → IsSound plan p' peaks' sums started' kept' pool'
+  unfinished p' peaks' started' kept' pool' s same fit peaked high chained cells starts keeps = record {
+    fit = fit;
+    playable = s.playable;
+    peaked = peaked;
+    high = high;
+    chained = chained;
+    cells = cells;
+    within = subst (λ (counts : List ℕ). (b : ℕ) → get_or counts b 0 ≤ slice_index plan.limits b) (sym same) s.within;
+    tallied = s.tallied;
+    summed = subst (λ (counts : List ℕ). (b : ℕ) → b < length plan.sources → slice_index sums b ≡ given plan b (get_or counts b 0)) (sym same) s.summed;
+    small = subst (λ (counts : List ℕ). (b : ℕ) → b < length plan.sources → slice_index sums b ≤ 8192 * get_or counts b 0) (sym same) s.small;
+    starts = starts;
+    keeps = keeps;
+  }
+
   pub sound_begun : (a started' kept' : ℕ) → IsSound plan p peaks sums started kept pool → refusal plan p (Begin a) ≡ None → started' ≡ started + 1
       → kept' ≡ kept + (gift a (count p a) plan.channels - need a (count p a) plan.channels) → IsSound plan (begun p a) peaks sums started' kept' pool
   sound_begun a started' kept' s none one more =
@@ -57,20 +78,8 @@ module _ (plan : Plan) (p : Present) (peaks sums : List ℕ) (started kept : ℕ
       let lt : a < length p.stages = let there = b.there in let staged = s.fit.staged in omega arith in
       let busy = busy_set p a Begun Idle lt b.idle in
       let room = reserved_begun plan p a b.there lt b.idle in
-      record {
-        fit = fit_begun plan p a s.fit none;
-        playable = s.playable;
-        peaked = s.peaked;
-        high = s.high;
-        chained = s.chained;
-        cells = s.cells;
-        within = s.within;
-        tallied = s.tallied;
-        summed = s.summed;
-        small = s.small;
-        starts = omega (arith, one, busy, s.starts);
-        keeps = omega (arith, more, room, s.keeps);
-      }
+      unfinished (begun p a) peaks started' kept' pool s refl (fit_begun plan p a s.fit none) s.peaked s.high s.chained s.cells
+      (omega (arith, one, busy, s.starts)) (omega (arith, more, room, s.keeps))
 
   pub sound_fetched : (a kept' : ℕ) (pool' : Shared) → IsSound plan p peaks sums started kept pool → refusal plan p (Read a) ≡ None
       → kept' + (gift a (count p a) plan.channels - need a (count p a) plan.channels) ≡ kept + gift a (count p a) plan.channels
@@ -80,20 +89,9 @@ module _ (plan : Plan) (p : Present) (peaks sums : List ℕ) (started kept : ℕ
       let lt : a < length p.stages = let there = w.there in let staged = s.fit.staged in omega arith in
       let busy = busy_set p a Fetched Begun lt w.at in
       let room = reserved_fetched plan p a w.there lt w.at in
-      record {
-        fit = fit_fetched plan p a s.fit none;
-        playable = s.playable;
-        peaked = s.peaked;
-        high = high_left a (count p a) plan.channels peaks p.tokens s.fit.queued s.high;
-        chained = chains ∙ s.chained;
-        cells = cells;
-        within = s.within;
-        tallied = s.tallied;
-        summed = s.summed;
-        small = s.small;
-        starts = omega (arith, busy, s.starts);
-        keeps = omega (arith, more, room, s.keeps);
-      }
+      unfinished (fetched plan p a) peaks started kept' pool' s refl (fit_fetched plan p a s.fit none) s.peaked
+      (high_left a (count p a) plan.channels peaks p.tokens s.fit.queued s.high) (chains ∙ s.chained) cells (omega (arith, busy, s.starts))
+      (omega (arith, more, room, s.keeps))
 
   pub sound_written : (a kept' : ℕ) (v : List ℤ) (peaks' : List ℕ) (pool' : Shared) → IsSound plan p peaks sums started kept pool
       → first_of (write_table plan p a v) ≡ None
@@ -105,20 +103,10 @@ module _ (plan : Plan) (p : Present) (peaks sums : List ℕ) (started kept : ℕ
       let busy = busy_set p a Written Fetched lt w.at in
       let room = reserved_written plan p a v w.there lt w.at in
       let fit = fit_written plan p a v s.fit none in
-      record {
-        fit = fit;
-        playable = s.playable;
-        peaked = ap length raise ∙ length-raised peaks (written plan p a v).tokens (s.peaked ∙ sym fit.queued) ∙ fit.queued;
-        high = subst (λ ps. ArePeaks ps (written plan p a v).tokens) (sym raise) (raised_are peaks (written plan p a v).tokens);
-        chained = chains ∙ s.chained;
-        cells = cells;
-        within = s.within;
-        tallied = s.tallied;
-        summed = s.summed;
-        small = s.small;
-        starts = omega (arith, busy, s.starts);
-        keeps = omega (arith, more, room, s.keeps);
-      }
+      unfinished (written plan p a v) peaks' started kept' pool' s refl fit
+      (ap length raise ∙ length-raised peaks (written plan p a v).tokens (s.peaked ∙ sym fit.queued) ∙ fit.queued)
+      (subst (λ ps. ArePeaks ps (written plan p a v).tokens) (sym raise) (raised_are peaks (written plan p a v).tokens)) (chains ∙ s.chained) cells
+      (omega (arith, busy, s.starts)) (omega (arith, more, room, s.keeps))
 
   pub sound_finished : (a total : ℕ) → IsSound plan p peaks sums started kept pool → refusal plan p (Finish a) ≡ None
       → total ≡ slice_index sums a + gift a (count p a) plan.channels → gift a (count p a) plan.channels ≤ 8192
@@ -164,20 +152,8 @@ module _ (plan : Plan) (p : Present) (peaks sums : List ℕ) (started kept : ℕ
 
   pub sound_closed : (c : ℕ) → IsSound plan p peaks sums started kept pool → refusal plan p (Close c) ≡ None
       → IsSound plan (closed p c) peaks sums started kept pool
-  sound_closed c s none = record {
-    fit = fit_closed plan p c s.fit none;
-    playable = s.playable;
-    peaked = s.peaked;
-    high = s.high;
-    chained = s.chained;
-    cells = s.cells;
-    within = s.within;
-    tallied = s.tallied;
-    summed = s.summed;
-    small = s.small;
-    starts = s.starts;
-    keeps = s.keeps;
-  }
+  sound_closed c s none = unfinished (closed p c) peaks started kept pool s refl (fit_closed plan p c s.fit none) s.peaked s.high s.chained s.cells s.starts
+      s.keeps
 
   -- few firings have begun
   pub few_started : IsSound plan p peaks sums started kept pool → started ≤ 2000000000
