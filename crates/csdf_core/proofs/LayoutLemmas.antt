@@ -1,9 +1,9 @@
 -- The graph's lists beside the plan's.
-use Rattle.std.proofs.Common.{◌≡◌, ℕ, zero, suc, ◌<◌, ◌≤◌, List, [], ◌∷◌, length, get_or, map, refl, ap, subst, ◌∙◌, sym, arith, Bool, cond}
+use Rattle.std.proofs.Common.{◌≡◌, ℕ, zero, suc, ◌<◌, ◌≤◌, List, [], ◌∷◌, length, get_or, map, Some, refl, ap, subst, ◌∙◌, sym, arith, Bool, cond}
 use Rattle.std.specs.List.{zip}
 use Rattle.std.proofs.lemmas.List.{length-map}
 use Rattle.std.proofs.Common.{◌%◌}
-use Rattle.std.specs.Prelude.{All}
+use Rattle.std.specs.Prelude.{All, slice_get}
 use Rattle.std.specs.List.{AllByRecursion}
 use Rattle.std.proofs.lemmas.List.Elements.{recursion_from_All}
 use Rattle.csdf_graph.specs.Rates.{rate}
@@ -62,13 +62,29 @@ in_graph view items gs caps i same e lt =
     let b : length (map with_capacity (zip gs caps)) ≡ length gs = length-capacities gs caps e in
     omega arith
 
--- what the plan says of a channel, by the graph's
-pub channel_value : {X : Type 0} (view : X → graph.Channel) (f : Channel → ℕ) (h : graph.Channel → ℕ)
-    → ((g : graph.Channel) (b : ℕ) → f (with_capacity (g, b)) ≡ h g)
-    → (items : List X) (gs : List graph.Channel) (caps : List ℕ) (i : ℕ) (x : X) → map view items ≡ gs → length caps ≡ length gs
-    → i < length (map with_capacity (zip gs caps)) → x ≡ get_or items i x → h (view x) ≡ get_or (map f (map with_capacity (zip gs caps))) i 0
-channel_value view f h same items gs caps i x seen e lt is =
-    seen_at view h items gs seen i x 0 (in_graph view items gs caps i seen e lt) is ∙ ap (λ l. get_or l i 0) (sym (map-capacities f h same gs caps e))
+-- a channel of the plan, by the graph's
+pub channel_seen : {X : Type 0} (view : X → graph.Channel) (items : List X) (gs : List graph.Channel) (caps : List ℕ) (i : ℕ) (x : X) → map view items ≡ gs
+    → length caps ≡ length gs → i < length items → x ≡ get_or items i x
+    → slice_get (map with_capacity (zip gs caps)) i
+    ≡ Some (with_capacity (view x, get_or (map (λ (c : Channel). c.capacity) (map with_capacity (zip gs caps))) i 0))
+channel_seen {X = X} view items gs caps i x same len lt is =
+    subst (λ hs. slice_get (map with_capacity (zip hs caps)) i
+    ≡ Some (with_capacity (view x, get_or (map (λ (c : Channel). c.capacity) (map with_capacity (zip hs caps))) i 0))) same
+    (by items caps i (len ∙ sym (ap length same) ∙ length-map items view) lt is)
+  where
+    by : (ys : List X) (bs : List ℕ) (j : ℕ) → length bs ≡ length ys → j < length ys → x ≡ get_or ys j x
+        → slice_get (map with_capacity (zip (map view ys) bs)) j
+        ≡ Some (with_capacity (view x, get_or (map (λ (c : Channel). c.capacity) (map with_capacity (zip (map view ys) bs))) j 0))
+    by [] bs j e l h = absurd (omega arith)
+    by (y ∷ ys) [] j e l h = absurd (omega arith)
+    by (y ∷ ys) (b ∷ bs) zero e l h = ap (λ z. Some (with_capacity (view z, b))) (sym h)
+    by (y ∷ ys) (b ∷ bs) (suc j) e l h = by ys bs j (omega arith) (omega arith) h
+
+-- a part of a channel, in the list of these parts
+pub part_at : {K : Type 0} (f : Channel → K) (cs : List Channel) (i : ℕ) (c : Channel) (d : K) → slice_get cs i ≡ Some c → f c ≡ get_or (map f cs) i d
+part_at f [] i c d is = absurd (cc)
+part_at f (x ∷ cs) zero c d is = ap f (let e : x ≡ c = cc in sym e)
+part_at f (x ∷ cs) (suc i) c d is = part_at f cs i c d is
 
 small_at : (xs : List ℕ) (i : ℕ) → AllByRecursion (λ n. n ≤ 64) xs → get_or xs i 0 ≤ 64
 small_at [] i h = omega arith

@@ -1,14 +1,15 @@
 //! What a core plays: a graph with its capacities and limits.
 
-ghost use Rattle.std.specs.Prelude.{◌≡◌, ◌<◌, ◌≤◌, length, map, slice_index, slice_index_or, false, All, IfOk};
+ghost use Rattle.std.specs.Prelude.{◌≡◌, ◌<◌, ◌≤◌, length, map, slice_get, slice_index, slice_index_or, false, All, IfOk, Some};
 ghost use Rattle.csdf_core.specs.Plan.{Channel as ChannelModel};
-ghost use Rattle.csdf_core.specs.Layout.{is_source_kernel, plan_for};
+ghost use Rattle.csdf_core.specs.Layout.{is_source_kernel, plan_for, with_capacity};
+ghost use Rattle.csdf_graph.specs.Graph.{channel_view};
 ghost use Rattle.csdf_core.specs.Playable.{IsPlayable};
 ghost use Rattle.csdf_core.specs.Streams.{part};
 ghost use Rattle.csdf_core.specs.Ports.{inputs_at, outputs_at, take_at, give_at};
 
 use crate::setup::Setup;
-use csdf_graph::{Graph, Kernel};
+use csdf_graph::{Channel, Graph, Kernel};
 use std::alloc::{AllocError, Global};
 use std::marker::Model;
 
@@ -109,13 +110,26 @@ impl Layout {
         self.graph.outputs(actor)
     }
 
+    /// The channel as the graph has it.
+    fn channel(&self, channel: u32) -> &Channel
+        requires { channel < length self.now.channels }
+        ensures value { slice_get self.now.channels channel ≡ Some (with_capacity (
+          channel_view result.now,
+          slice_index (map (λ (c : ChannelModel). c.capacity) self.now.channels) channel,
+        )) }
+        ensures produce { All (λ n. n ≤ 64) result.now.produce.items }
+        ensures consume { All (λ n. n ≤ 64) result.now.consume.items }
+    {
+        &self.graph.channels()[channel as usize]
+    }
+
     /// How many tokens a firing of the channel's consumer takes out.
     pub(crate) fn takes(&self, channel: u32, firing: u32) -> u32
         requires { channel < length self.now.channels }
         ensures value { result ≡ take_at self.now.channels firing channel }
         ensures small { result ≤ 64 }
     {
-        self.graph.channels()[channel as usize].consumption(firing)
+        self.channel(channel).consumption(firing)
     }
 
     /// How many tokens a firing of the channel's producer puts in.
@@ -124,7 +138,7 @@ impl Layout {
         ensures value { result ≡ give_at self.now.channels firing channel }
         ensures small { result ≤ 64 }
     {
-        self.graph.channels()[channel as usize].production(firing)
+        self.channel(channel).production(firing)
     }
 
     /// The channel's producer.
@@ -132,7 +146,7 @@ impl Layout {
         requires { channel < length self.now.channels }
         ensures { result ≡ slice_index (map (λ (c : ChannelModel). c.from) self.now.channels) channel }
     {
-        self.graph.channels()[channel as usize].from
+        self.channel(channel).from
     }
 
     /// The channel's consumer.
@@ -140,7 +154,7 @@ impl Layout {
         requires { channel < length self.now.channels }
         ensures { result ≡ slice_index (map (λ (c : ChannelModel). c.to) self.now.channels) channel }
     {
-        self.graph.channels()[channel as usize].to
+        self.channel(channel).to
     }
 
     /// The channel's capacity.
@@ -156,7 +170,7 @@ impl Layout {
         requires { channel < length self.now.channels }
         ensures { result.now ≡ part channel (map (λ (c : ChannelModel). c.initial) self.now.channels) }
     {
-        &self.graph.channels()[channel as usize].initial
+        &self.channel(channel).initial
     }
 
     /// The greatest number of firings of the actor.
