@@ -1,6 +1,6 @@
 //! Groups of actors, each with a vector of its own.
 
-ghost use Rattle.std.specs.Prelude.{◌≡◌, ◌≤◌, ◌<◌, All, MatchOption, IfOk, map, option_map};
+ghost use Rattle.std.specs.Prelude.{◌≡◌, ◌≤◌, ◌<◌, MatchOption, IfOk, option_map};
 ghost use Rattle.csdf_analysis.specs.Members.{factor, moved, Moves, alone};
 
 use std::alloc::{AllocError, Global};

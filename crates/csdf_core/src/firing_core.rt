@@ -43,7 +43,7 @@ impl Model for Core {
 impl Core {
     ghost use Rattle.csdf_core.specs.State.{opening};
     ghost use Rattle.csdf_core.specs.Shows.{Shows};
-    ghost use Rattle.csdf_core.specs.Step.{refused, is_open, given, held, reserved, count, stage};
+    ghost use Rattle.csdf_core.specs.Step.{is_open, given, reserved, count, stage};
     ghost use Rattle.csdf_core.specs.Rows.{need, gift};
     ghost use Rattle.csdf_core.specs.Ports.{tokens_at};
     ghost use Rattle.csdf_core.specs.Plan.{Channel as ChannelModel};

@@ -1,7 +1,6 @@
 //! The ends of each channel, by name in the file and by number in the graph.
 
-ghost use Rattle.std.specs.Prelude.{◌≡◌, map, option_map, string_bytes, ◌<◌, ◌≤◌, length, IfSome};
-ghost use Rattle.csdf_graph.specs.declared.fault.GraphFault.TheVariants.{Memory};
+ghost use Rattle.std.specs.Prelude.{◌≡◌, map, string_bytes, ◌<◌, ◌≤◌, length, IfSome};
 ghost use Rattle.csdf_graph.specs.Passes.{Gives, Reads, each};
 ghost use Rattle.csdf_graph.specs.Graph.{channel_view};
 ghost use Rattle.csdf_graph.specs.Ranges.{ranged_view};

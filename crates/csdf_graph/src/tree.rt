@@ -1,6 +1,6 @@
 //! What the tables of a file hold.
 
-ghost use Rattle.std.specs.Prelude.{◌≡◌, map, option_map, option_copied, option_and_then, IfOk};
+ghost use Rattle.std.specs.Prelude.{◌≡◌, map, option_map, option_copied, IfOk};
 ghost use Rattle.toml.specs.Data.{as_str, as_integer, as_table, get_member};
 ghost use Rattle.toml.specs.View.{view, table_view};
 ghost use Rattle.csdf_graph.specs.Tree.{is_among, has_only, all_some, text_at, integer_at, integer_or, optional_integer_at, array_at, array_or_none};

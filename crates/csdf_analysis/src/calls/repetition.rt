@@ -1,6 +1,6 @@
 //! How often each actor of a graph fires in a period.
 
-ghost use Rattle.std.specs.Prelude.{◌≡◌, ◌≤◌, ◌<◌, All, IfOk, IfErr, EachIndex, length, map, slice_index};
+ghost use Rattle.std.specs.Prelude.{◌≡◌, ◌≤◌, ◌<◌, All, IfOk, IfErr, length, map};
 ghost use Rattle.csdf_graph.specs.Graph.{actor_view, channel_view};
 ghost use Rattle.csdf_graph.specs.WellFormed.{IsActor};
 ghost use Rattle.csdf_analysis.specs.Repetition.{full_capacity, IsWithin, HaveRoom, IsFirstOver, AreFirings, IsLeastRepetition, IsRepetition, IsRefused};
