@@ -23,6 +23,11 @@ IsOfFile (fault.TooLarge name) = Unit {0}
 IsOfFile fault.Deadlock = Unit {0}
 IsOfFile fault.TooTight = Unit {0}
 IsOfFile fault.TooLong = ⊥
+IsOfFile (fault.TokenSyntax name line) = ⊥
+IsOfFile (fault.TokenRange name line) = ⊥
+IsOfFile (fault.TooManyTokens name) = ⊥
+IsOfFile fault.Mixed = ⊥
+IsOfFile fault.Worker = ⊥
 IsOfFile (fault.Device d) = ⊥
 IsOfFile fault.Memory = Unit {0}
 

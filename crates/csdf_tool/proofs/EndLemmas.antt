@@ -18,6 +18,11 @@ one_or_three (fault.TooLarge name) = inl refl
 one_or_three fault.Deadlock = inl refl
 one_or_three fault.TooTight = inl refl
 one_or_three fault.TooLong = inl refl
+one_or_three (fault.TokenSyntax name line) = inl refl
+one_or_three (fault.TokenRange name line) = inl refl
+one_or_three (fault.TooManyTokens name) = inl refl
+one_or_three fault.Mixed = inr refl
+one_or_three fault.Worker = inr refl
 one_or_three (fault.Device d) = inr refl
 one_or_three fault.Memory = inr refl
 
@@ -68,6 +73,11 @@ long_or_not (fault.TooLarge name) = inr (λ e. cc)
 long_or_not fault.Deadlock = inr (λ e. cc)
 long_or_not fault.TooTight = inr (λ e. cc)
 long_or_not fault.TooLong = inl refl
+long_or_not (fault.TokenSyntax name line) = inr (λ e. cc)
+long_or_not (fault.TokenRange name line) = inr (λ e. cc)
+long_or_not (fault.TooManyTokens name) = inr (λ e. cc)
+long_or_not fault.Mixed = inr (λ e. cc)
+long_or_not fault.Worker = inr (λ e. cc)
 long_or_not (fault.Device d) = inr (λ e. cc)
 long_or_not fault.Memory = inr (λ e. cc)
 

@@ -6,3 +6,4 @@ pub mod CommandExamples
 pub mod CommandLemmas
 pub mod EndLemmas
 pub mod ToldLemmas
+pub mod RunLemmas

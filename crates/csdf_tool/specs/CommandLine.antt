@@ -1,10 +1,14 @@
 -- What the words of the command line ask for, by the meaning that clap gives to a command and its words.
-use Rattle.std.specs.Prelude.{List, [], ◌∷◌, Option, Some, None, true, codes, if◌then◌else◌, unwrap_or}
+use Rattle.std.specs.Prelude.{ℕ, List, [], ◌∷◌, Option, Some, None, true, codes, if◌then◌else◌, option_and_then, unwrap_or}
 use Rattle.std.specs.Str.{bytes_eq}
-use Rattle.clap.specs.Words.{App, Row, Text, first_of, new_app, new_rule, subcommand_of, with_rule, with_subcommand}
+use Rattle.std.specs.Str.Parse.{digits_value, without_leading_plus}
+use Rattle.clap.specs.Words.{App, Row, Rule, Text, first_of, new_app, new_rule, subcommand_of, with_rule, with_subcommand}
 use Rattle.clap.specs.Simple.{on_top}
+use Rattle.clap.specs.ValueTests.{is_unsigned_in}
+use Rattle.clap.specs.declared.builder.value_parser.ValueParser.TheVariants.{Unsigned}
 use Rattle.csdf_tool.specs.declared.command.Request.{Request}
 use Rattle.csdf_tool.specs.declared.command.Request.TheVariants as request
+use Rattle.csdf_tool.specs.declared.order.RunOrder.{RunOrder}
 use Rattle.csdf_tool.specs.declared.question.Question.{Question}
 use Rattle.csdf_tool.specs.declared.question.Question.TheVariants.{Check, Repetition, Schedule, Capacity}
 
@@ -14,6 +18,19 @@ use Rattle.csdf_tool.specs.declared.question.Question.TheVariants.{Check, Repeti
 abbrev pub on_graph : Text → App
 on_graph name = with_rule (new_app name) (record (new_rule (codes "GRAPH")) { required = true })
 
+-- an option with a number in a range
+abbrev pub number_option : Text → ℕ → ℕ → Rule
+number_option name least most = record (new_rule name) { long = Some name; value_names = 1; parser = Some (Unsigned least most) }
+
+-- the command that runs a graph asks for a folder too, and takes three numbers
+abbrev pub on_files : App
+on_files = with_rule (on_graph (codes "run")) (record (new_rule (codes "DIR")) { required = true })
+
+abbrev pub run_command : App
+run_command =
+    let two = with_rule (with_rule on_files (number_option (codes "workers") 1 8)) (number_option (codes "periods") 1 1000) in
+    with_rule two (number_option (codes "firings") 0 1048576000)
+
 -- a program with a version, whose own name is not among the words
 abbrev pub no_commands : App
 no_commands = on_top (λ s. record s { no_binary_name = true; has_version = true }) (new_app (codes "csdf"))
@@ -21,25 +38,64 @@ no_commands = on_top (λ s. record s { no_binary_name = true; has_version = true
 abbrev pub with_command : App → Text → App
 with_command a name = with_subcommand a (on_graph name).top
 
-abbrev pub program : App
-program =
-    let two = with_command (with_command no_commands (codes "moves")) (codes "check") in
+-- a program with the commands that answer a question or play a script
+abbrev pub with_questions : App → App
+with_questions a =
+    let two = with_command (with_command a (codes "moves")) (codes "check") in
     let four = with_command (with_command two (codes "repetition")) (codes "schedule") in
     with_command four (codes "capacity")
 
+abbrev pub program : App
+program = with_questions (with_subcommand no_commands run_command.top)
+
 -- ---- what they ask for
+
+-- a run of the graph of a file over the token files of a folder
+pub record Order : Type 0 where
+  pub graph : Text
+  pub folder : Text
+  pub workers : ℕ
+  pub periods : ℕ
+  pub firings : Option ℕ
+
+abbrev pub order_view : RunOrder → Order
+order_view o = record { graph = o.graph.now; folder = o.folder.now; workers = o.workers; periods = o.periods; firings = o.firings }
 
 pub data Asked : Type 0 where
   Input : Asked
   Moves : Text → Asked
   Ask : Question → Text → Asked
+  Run : Order → Asked
 
 abbrev pub asked_view : Request → Asked
 asked_view request.Input = Input
 asked_view (request.Moves path) = Moves path.now
 asked_view (request.Ask question path) = Ask question path.now
+asked_view (request.Run order) = Run (order_view order)
 
--- what a command asks for with the file that it names; no other command has a file
+-- the number in a text, where it is one and in the range
+abbrev pub number_in : ℕ → ℕ → Text → Option ℕ
+number_in least most text = if is_unsigned_in least most text then Some (digits_value 10 (without_leading_plus text)) else None
+
+-- the number of an option, where it was given
+abbrev pub number_of : ℕ → ℕ → Text → List Row → Option ℕ
+number_of least most option rows = option_and_then (number_in least most) (first_of option rows)
+
+-- the word in a place, which is there wherever the words are taken
+abbrev pub word_of : Text → List Row → Text
+word_of place rows = unwrap_or (first_of place rows) []
+
+-- the run that the words after `run` ask for
+abbrev pub order_of : List Row → Order
+order_of rows = record {
+  graph = word_of (codes "GRAPH") rows;
+  folder = word_of (codes "DIR") rows;
+  workers = unwrap_or (number_of 1 8 (codes "workers") rows) 1;
+  periods = unwrap_or (number_of 1 1000 (codes "periods") rows) 1;
+  firings = number_of 0 1048576000 (codes "firings") rows;
+}
+
+-- what a command but `run` asks for with the file that it names; no other command has a file alone
 unfoldable pub asked_by : Text → Text → Asked
 asked_by name path =
     if bytes_eq name (codes "check") then Ask Check path
@@ -49,10 +105,14 @@ asked_by name path =
     else if bytes_eq name (codes "moves") then Moves path
     else Input
 
+-- what a command asks for with the words after it
+unfoldable pub asked_of : Text → List Row → Asked
+asked_of name rows = if bytes_eq name (codes "run") then Run (order_of rows) else asked_by name (word_of (codes "GRAPH") rows)
+
 -- what the command that was met asks for, and standard input where none was
 abbrev pub asked : Option (Text × List Row) → Asked
 asked None = Input
-asked (Some met) = asked_by met.0 (unwrap_or (first_of (codes "GRAPH") met.1) [])
+asked (Some met) = asked_of met.0 met.1
 
 -- what words ask for
 abbrev pub words_ask : List Text → Asked

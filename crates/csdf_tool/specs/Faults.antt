@@ -8,11 +8,14 @@ use Rattle.csdf_graph.specs.declared.intake.InputFault.{InputFault}
 use Rattle.csdf_graph.specs.declared.intake.InputFault.TheVariants as input
 use Rattle.csdf_analysis.specs.declared.fault.AcceptFault.{AcceptFault}
 use Rattle.csdf_analysis.specs.declared.fault.AcceptFault.TheVariants as accept
+use Rattle.csdf_tool.specs.declared.fault.LineEnd.{LineEnd}
+use Rattle.csdf_tool.specs.declared.fault.LineEnd.TheVariants as end
 use Rattle.csdf_tool.specs.declared.fault.Stream.{Stream}
 use Rattle.csdf_tool.specs.declared.fault.Stream.TheVariants.{Input, Output, File}
 use Rattle.csdf_tool.specs.Printed.{name_at}
 use Rattle.csdf_tool.specs.declared.fault.ToolFault.{ToolFault}
-use Rattle.csdf_tool.specs.declared.fault.ToolFault.TheVariants.{Graph, Line, Unbalanced, TooLarge, Deadlock, TooTight, TooLong, Device, Memory}
+use Rattle.csdf_tool.specs.declared.fault.ToolFault.TheVariants.{Graph, Line, Unbalanced, TooLarge, Deadlock, TooTight, TooLong}
+use Rattle.csdf_tool.specs.declared.fault.ToolFault.TheVariants.{TokenSyntax, TokenRange, TooManyTokens, Mixed, Worker, Device, Memory}
 
 -- ---- texts
 
@@ -35,6 +38,11 @@ graph_text (graph.KernelPorts a) = codes "kernel ports at actor " ++ decimal a
 graph_text graph.NotConnected = codes "not connected"
 graph_text graph.Memory = codes "out of memory"
 
+-- what a fault of a line of a token file ends with
+abbrev pub end_text : LineEnd → List ℕ
+end_text (end.Syntax line) = codes ": syntax at line " ++ decimal line
+end_text (end.Range line) = codes ": range at line " ++ decimal line
+
 -- the text of a fault
 abbrev pub fault_text : ToolFault → List ℕ
 fault_text (Graph fault) = codes "csdf: graph: " ++ graph_text fault
@@ -44,6 +52,11 @@ fault_text (TooLarge name) = codes "csdf: graph: too large at channel " ++ name
 fault_text Deadlock = codes "csdf: graph: deadlock"
 fault_text TooTight = codes "csdf: graph: too tight"
 fault_text TooLong = codes "csdf: input too long"
+fault_text (TokenSyntax name line) = codes "csdf: tokens " ++ name ++ end_text (end.Syntax line)
+fault_text (TokenRange name line) = codes "csdf: tokens " ++ name ++ end_text (end.Range line)
+fault_text (TooManyTokens name) = codes "csdf: tokens " ++ name ++ codes ": too many"
+fault_text Mixed = codes "csdf: run: mixed"
+fault_text Worker = codes "csdf: run: worker"
 fault_text (Device stream) = codes "csdf: device: " ++ stream_text stream
 fault_text Memory = codes "csdf: memory"
 
@@ -91,7 +104,7 @@ abbrev pub Tells : {X Y : Type 0} → (X → Y) → Result X ToolFault → (Resu
 Tells view (Ok x) Allows = Allows (Ok (view x))
 Tells view (Err fault) Allows = fault ≢ Memory → Allows (Err fault)
 
--- the exit status: 1 where an input was refused, 3 where a device or memory failed
+-- the exit status: 1 where an input was refused, 3 where a device, memory or a run failed
 abbrev pub status_of : ToolFault → ℕ
 status_of (Graph fault) = 1
 status_of (Line n) = 1
@@ -100,5 +113,10 @@ status_of (TooLarge name) = 1
 status_of Deadlock = 1
 status_of TooTight = 1
 status_of TooLong = 1
+status_of (TokenSyntax name line) = 1
+status_of (TokenRange name line) = 1
+status_of (TooManyTokens name) = 1
+status_of Mixed = 3
+status_of Worker = 3
 status_of (Device d) = 3
 status_of Memory = 3

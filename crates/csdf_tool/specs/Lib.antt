@@ -4,5 +4,6 @@ pub mod Ends
 pub mod Faults
 pub mod Lines
 pub mod Printed
+pub mod Running
 pub mod Session
 pub mod Turns

@@ -1,11 +1,14 @@
 //! The command line.
 
-ghost use Rattle.std.specs.Prelude.{◌≡◌, [], true, false, map, string_bytes, Ok, IfErr, IfOk};
-ghost use Rattle.clap.specs.Words.{app_of, fault_of, kind_of, subcommand_of, subcommand_rows_of, takes, FailsBy};
+ghost use Rattle.std.specs.Prelude.{◌≡◌, ◌≤◌, [], true, false, map, string_bytes, Ok, IfErr, IfOk, IfSome};
+ghost use Rattle.clap.specs.Words.{app_of, fault_of, found_of, kind_of, rows_of, rule_of, subcommand_of, subcommand_rows_of, takes, with_rule, FailsBy};
 ghost use Rattle.clap.specs.declared.builder.command.Command.TheViews.{out-Command as fields_of};
-ghost use Rattle.csdf_tool.specs.CommandLine.{on_graph, no_commands, with_command, program, asked_view, asked_by, asked, words_ask};
+ghost use Rattle.csdf_tool.specs.CommandLine.{on_graph, on_files, run_command, number_option, no_commands, with_command, with_questions, program, asked_view, asked_by, asked_of, asked, words_ask};
+ghost use Rattle.csdf_tool.specs.CommandLine.{number_in, number_of, order_of, order_view, word_of};
 
+use crate::order::RunOrder;
 use crate::question::Question;
+use clap::builder::ValueParser;
 use clap::error::ErrorKind;
 use clap::{Arg, ArgMatches, Command, Error};
 use std::alloc::{AllocError, Global};
@@ -19,9 +22,30 @@ pub(crate) enum Request<'a> {
     Moves(&'a str),
     /// To answer a question about the graph of this file.
     Ask(Question, &'a str),
+    /// To run the graph of a file.
+    Run(RunOrder<'a>),
 }
 
 const GRAPH: &str = "GRAPH";
+
+const FOLDER: &str = "DIR";
+
+const WORKERS: &str = "workers";
+
+const PERIODS: &str = "periods";
+
+const FIRINGS: &str = "firings";
+
+/// What the help of `run` ends with.
+const ABOUT_FILES: &str = "\
+Reads DIR/NAME.in for each source NAME of the graph, one token a line. Once the run has ended,
+writes DIR/NAME.out for each sink NAME, over a file that is there, and then prints a report.
+
+Exit status: 0 the run has ended (complete, dry, stopped or starved), 1 an input was refused,
+2 these words were, 3 a file, memory or the run itself failed.
+
+Example: csdf run graph.toml tokens --workers 4 --periods 100
+reads tokens/src.in and writes tokens/snk.out, where the graph has a source src and a sink snk.";
 
 /// A command with a graph file.
 fn on_graph<'a>(alloc: Global, name: &'a str, about: &'a str) -> Result<Command<'a>, AllocError>
@@ -30,6 +54,61 @@ fn on_graph<'a>(alloc: Global, name: &'a str, about: &'a str) -> Result<Command<
 {
     let graph = Arg::new(alloc, GRAPH).required(true).help("The graph file");
     Command::new(alloc, name).about(about).arg(graph)
+}
+
+/// A command with one more argument.
+fn with_arg<'a>(command: Command<'a>, arg: Arg<'a>) -> Result<Command<'a>, AllocError>
+    requires { arg.global ≡ false }
+    ensures app { IfOk result (λ r. app_of r ≡ with_rule (app_of command.entry) (rule_of arg.entry)) }
+    ensures globals { IfOk result (λ r. (fields_of r).has_globals ≡ (fields_of command.entry).has_globals) }
+{
+    command.arg(arg)
+}
+
+/// A command with one more option, which has a number in a range.
+fn with_option<'a>(
+    alloc: Global,
+    command: Command<'a>,
+    name: &'a str,
+    letter: &'a str,
+    range: (u64, u64),
+    help: &'a str,
+) -> Result<Command<'a>, AllocError>
+    ensures app { IfOk result (λ r. app_of r ≡ with_rule (app_of command.entry) (number_option name.entry.now range.0 range.1)) }
+    ensures globals { IfOk result (λ r. (fields_of r).has_globals ≡ (fields_of command.entry).has_globals) }
+{
+    let option = Arg::new(alloc, name)
+        .long(name)
+        .value_name(letter)
+        .value_parser(ValueParser::unsigned(range.0, range.1))
+        .help(help);
+    with_arg(command, option)
+}
+
+/// The command that runs a graph, and no option yet.
+fn on_files<'a>(alloc: Global) -> Result<Command<'a>, AllocError>
+    ensures app { IfOk result (λ command. app_of command ≡ on_files) }
+    ensures local { IfOk result (λ command. (fields_of command).has_globals ≡ false) }
+{
+    let command = on_graph(alloc, "run", "Run a graph on token files")?.after_help(ABOUT_FILES);
+    let folder = Arg::new(alloc, FOLDER)
+        .required(true)
+        .help("The folder of the token files");
+    with_arg(command, folder)
+}
+
+/// The command that runs a graph.
+fn run_command<'a>(alloc: Global) -> Result<Command<'a>, AllocError>
+    ensures app { IfOk result (λ command. app_of command ≡ run_command) }
+    ensures local { IfOk result (λ command. (fields_of command).has_globals ≡ false) }
+{
+    let command = on_files(alloc)?;
+    let workers = "How many workers fire: 1 to 8, 1 where absent";
+    let command = with_option(alloc, command, WORKERS, "N", (1, 8), workers)?;
+    let periods = "How many periods to run: 1 to 1000, 1 where absent";
+    let command = with_option(alloc, command, PERIODS, "K", (1, 1000), periods)?;
+    let firings = "The most firings of all actors: 0 to 1048576000, no limit where absent";
+    with_option(alloc, command, FIRINGS, "F", (0, 1_048_576_000), firings)
 }
 
 /// The program, and no command yet.
@@ -60,11 +139,10 @@ fn with_command<'a>(
     program.subcommand(on_graph(alloc, name, about)?)
 }
 
-/// The program's command line.
-fn program<'a>(alloc: Global) -> Result<Command<'a>, AllocError>
-    ensures { IfOk result (λ command. app_of command ≡ program) }
+/// The program with the commands that answer a question or play a script.
+fn with_questions<'a>(alloc: Global, program: Command<'a>) -> Result<Command<'a>, AllocError>
+    ensures { IfOk result (λ r. app_of r ≡ with_questions (app_of program.entry)) }
 {
-    let program = no_commands(alloc)?;
     let program = with_command(alloc, program, "moves", "Play the script of a graph file")?;
     let program = with_command(
         alloc,
@@ -84,6 +162,14 @@ fn program<'a>(alloc: Global) -> Result<Command<'a>, AllocError>
     )
 }
 
+/// The program's command line.
+fn program<'a>(alloc: Global) -> Result<Command<'a>, AllocError>
+    ensures { IfOk result (λ command. app_of command ≡ program) }
+{
+    let program = no_commands(alloc)?.subcommand(run_command(alloc)?)?;
+    with_questions(alloc, program)
+}
+
 /// The words as the parser of command lines matches them.
 fn matches_of<'a>(alloc: Global, words: &'a [String]) -> Result<ArgMatches<'a>, Error>
     ensures met { IfOk result (λ m. subcommand_rows_of m ≡ subcommand_of program (map string_bytes words.entry.now)) }
@@ -93,7 +179,7 @@ fn matches_of<'a>(alloc: Global, words: &'a [String]) -> Result<ArgMatches<'a>, 
     program(alloc)?.try_get_matches_from(words)
 }
 
-/// What a command asks for with the file that it names. No other command has a file.
+/// What a command but `run` asks for with the file that it names. No other command has a file alone.
 #[tactic(auto, unfolding(crate::specs::CommandLine::asked_by))]
 fn asked_by<'a>(command: &str, graph: &'a str) -> Request<'a>
     ensures { asked_view result ≡ asked_by command.now graph.entry.now }
@@ -108,12 +194,75 @@ fn asked_by<'a>(command: &str, graph: &'a str) -> Request<'a>
     }
 }
 
+/// The word in a place.
+fn word_of<'a>(arguments: &ArgMatches<'a>, place: &str) -> &'a str
+    ensures { result.now ≡ word_of place.now (rows_of (found_of arguments.now)) }
+{
+    arguments.get_str(place).unwrap_or("")
+}
+
+/// The number in a text, where it is one and in the range.
+fn number_in(text: &str, least: u32, most: u32) -> Option<u32>
+    ensures value { result ≡ number_in least most text.now }
+    ensures least { IfSome result (λ n. least ≤ n) }
+    ensures most { IfSome result (λ n. n ≤ most) }
+{
+    match text.parse::<u32>() {
+        Ok(number) => {
+            if least <= number && number <= most {
+                Some(number)
+            } else {
+                None
+            }
+        }
+        Err(_) => None,
+    }
+}
+
+/// The number of an option, where it was given.
+fn number_of(arguments: &ArgMatches<'_>, option: &str, least: u32, most: u32) -> Option<u32>
+    ensures value { result ≡ number_of least most option.now (rows_of (found_of arguments.now)) }
+    ensures least { IfSome result (λ n. least ≤ n) }
+    ensures most { IfSome result (λ n. n ≤ most) }
+{
+    match arguments.get_str(option) {
+        Some(text) => number_in(text, least, most),
+        None => None,
+    }
+}
+
+/// The run that the words after `run` ask for.
+///
+/// The parser refuses a number out of its range; where one is read all the same, it counts as absent.
+fn order_of<'a>(arguments: &ArgMatches<'a>) -> RunOrder<'a>
+    ensures { order_view result ≡ order_of (rows_of (found_of arguments.now)) }
+{
+    RunOrder {
+        graph: word_of(arguments, GRAPH),
+        folder: word_of(arguments, FOLDER),
+        workers: number_of(arguments, WORKERS, 1, 8).unwrap_or(1),
+        periods: number_of(arguments, PERIODS, 1, 1000).unwrap_or(1),
+        firings: number_of(arguments, FIRINGS, 0, 1_048_576_000),
+    }
+}
+
+/// What a command asks for with the words after it.
+#[tactic(auto, unfolding(crate::specs::CommandLine::asked_of))]
+fn asked_of<'a>(command: &str, arguments: &ArgMatches<'a>) -> Request<'a>
+    ensures { asked_view result ≡ asked_of command.now (rows_of (found_of arguments.now)) }
+{
+    match command {
+        "run" => Request::Run(order_of(arguments)),
+        _ => asked_by(command, word_of(arguments, GRAPH)),
+    }
+}
+
 /// What the command that was met asks for, and standard input where none was.
 fn asked<'a>(matches: &ArgMatches<'a>) -> Request<'a>
     ensures { asked_view result ≡ asked (subcommand_rows_of matches.now) }
 {
     match matches.subcommand() {
-        Some((command, arguments)) => asked_by(command, arguments.get_str(GRAPH).unwrap_or("")),
+        Some((command, arguments)) => asked_of(command, arguments),
         None => Request::Input,
     }
 }

@@ -8,7 +8,9 @@ use csdf_graph::{Slice, ToWriter};
 use std::fs;
 use std::process::Abort;
 use std::rt::Files;
+use std::sync::Wait;
 use std::test::Fail;
+use std::thread::Threads;
 
 /// The answer to a question, or the line of the fault, for which nothing is written.
 fn answer_to(
@@ -58,7 +60,11 @@ fn a_graph_with_no_answer_is_told(rt: HostRuntime) -> Result<(), Fail> {
 
 /// What the program writes for a command line, without its own name, whose words stand apart by
 /// one space: its status, standard output and standard error.
-fn run(rt: &(impl Files + AllocGlobal), line: &str, input: &str) -> Result<String, Fail> {
+fn run<R: Files + AllocGlobal + Threads + Wait + Sync>(
+    rt: &R,
+    line: &str,
+    input: &str,
+) -> Result<String, Fail> {
     let mut words = Vec::new(rt.alloc());
     for word in line.split_whitespace() {
         words.push(String::from_str(rt.alloc(), word)?)?;

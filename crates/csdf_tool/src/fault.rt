@@ -1,6 +1,6 @@
 //! Why a command gave no answer.
 
-ghost use Rattle.std.specs.Prelude.{◌≡◌, IfOk};
+ghost use Rattle.std.specs.Prelude.{◌≡◌, ◌++◌, IfOk};
 ghost use Rattle.csdf_tool.specs.Faults.{status_of, unread};
 ghost use Rattle.csdf_tool.specs.declared.fault.ToolFault.TheVariants.{Memory};
 
@@ -28,6 +28,21 @@ impl Name {
         ensures { IfOk result (λ n. n ≡ name.now) }
     {
         Ok(Name(String::from_str(alloc, name)?))
+    }
+
+    /// The name of a file: a name and what it ends with.
+    pub(crate) fn with_ending(alloc: Global, name: &str, ending: &str) -> Result<Name, AllocError>
+        ensures { IfOk result (λ n. n ≡ name.now ++ ending.now) }
+    {
+        let mut text = String::from_str(alloc, name)?;
+        text.push_str(ending)?;
+        Ok(Name(text))
+    }
+
+    pub(crate) fn as_str(&self) -> &str
+        ensures { result.now ≡ self.now }
+    {
+        self.0.as_str()
     }
 }
 
@@ -92,6 +107,27 @@ impl fmt::Display for InWords {
     }
 }
 
+/// What a fault of a line of a token file ends with.
+#[derive(Drop)]
+enum LineEnd {
+    Syntax(u32),
+    Range(u32),
+}
+
+impl fmt::Display for LineEnd {
+    ghost use Rattle.std.specs.Prelude.{Some};
+    ghost use Rattle.csdf_tool.specs.Faults.{end_text};
+
+    ghost output = { λ end. Some (end_text end) };
+
+    fn fmt<W: fmt::Write>(&self, f: &mut fmt::Formatter<W>) -> fmt::Result {
+        match self {
+            LineEnd::Syntax(line) => write!(f, ": syntax at line {line}"),
+            LineEnd::Range(line) => write!(f, ": range at line {line}"),
+        }
+    }
+}
+
 /// Why a command gave no answer. Its text is the line that the program prints.
 #[derive(Debug, Drop)]
 pub enum ToolFault {
@@ -109,6 +145,16 @@ pub enum ToolFault {
     TooTight,
     /// The input has more than 16,777,216 bytes.
     TooLong,
+    /// This line of the source's token file, counted from 1, is no number.
+    TokenSyntax(Name, u32),
+    /// The number in this line of the source's token file is no token.
+    TokenRange(Name, u32),
+    /// The source's token file has more than 1,000,000 tokens or 16,777,216 bytes.
+    TooManyTokens(Name),
+    /// What came out of a run does not belong together.
+    Mixed,
+    /// A worker could not be started or taken in.
+    Worker,
     /// A stream failed.
     Device(Stream),
     /// Memory ran out, which says nothing of the input.
@@ -133,6 +179,17 @@ impl fmt::Display for ToolFault {
             ToolFault::Deadlock => write!(f, "csdf: graph: deadlock"),
             ToolFault::TooTight => write!(f, "csdf: graph: too tight"),
             ToolFault::TooLong => write!(f, "csdf: input too long"),
+            ToolFault::TokenSyntax(name, line) => {
+                let end = LineEnd::Syntax(*line);
+                write!(f, "csdf: tokens {name}{end}")
+            }
+            ToolFault::TokenRange(name, line) => {
+                let end = LineEnd::Range(*line);
+                write!(f, "csdf: tokens {name}{end}")
+            }
+            ToolFault::TooManyTokens(name) => write!(f, "csdf: tokens {name}: too many"),
+            ToolFault::Mixed => write!(f, "csdf: run: mixed"),
+            ToolFault::Worker => write!(f, "csdf: run: worker"),
             ToolFault::Device(stream) => write!(f, "csdf: device: {stream}"),
             ToolFault::Memory => write!(f, "csdf: memory"),
         }
@@ -140,7 +197,7 @@ impl fmt::Display for ToolFault {
 }
 
 impl ToolFault {
-    /// The exit status: 1 where an input was refused, 3 where a device or memory failed.
+    /// The exit status: 1 where an input was refused, 3 where a device, memory or a run failed.
     pub fn status(&self) -> u8
         ensures { result ≡ status_of self.now }
     {
@@ -151,8 +208,11 @@ impl ToolFault {
             | ToolFault::TooLarge(_)
             | ToolFault::Deadlock
             | ToolFault::TooTight
-            | ToolFault::TooLong => 1,
-            ToolFault::Device(_) | ToolFault::Memory => 3,
+            | ToolFault::TooLong
+            | ToolFault::TokenSyntax(_, _)
+            | ToolFault::TokenRange(_, _)
+            | ToolFault::TooManyTokens(_) => 1,
+            ToolFault::Mixed | ToolFault::Worker | ToolFault::Device(_) | ToolFault::Memory => 3,
         }
     }
 }

@@ -7,11 +7,14 @@ mod command;
 mod command_tests;
 mod described;
 mod fault;
+mod files;
 mod line;
+mod order;
 mod printed;
 mod program;
 mod question;
 mod replay;
+mod run_files;
 mod session;
 #[cfg(test)]
 mod tests;

@@ -3,24 +3,29 @@
 ghost use Rattle.std.specs.Prelude.{◌≡◌, ◌≢◌, ◌↔◌, ◌<◌, ◌≤◌, ◌⊎◌, length, map, string_bytes, ℕ, List, [], true, Ok, Err, IfErr, IfSome, OnOk};
 ghost use Rattle.std.specs.Io.KnownBytes.{Appends};
 ghost use Rattle.clap.specs.Words.{fault_of, kind_of, takes};
-ghost use Rattle.csdf_tool.specs.CommandLine.{program, asked_view, words_ask, Moves, Ask};
+ghost use Rattle.csdf_tool.specs.CommandLine.{program, asked_view, words_ask, Moves, Ask, Order, Run};
 ghost use Rattle.csdf_tool.specs.Described.{IsDescription};
 ghost use Rattle.csdf_tool.specs.declared.question.Question.{Question};
 ghost use Rattle.csdf_tool.specs.Ends.{Ended, EndsAs, EndsBy, EndsFor, EndsForOneOf, IsFaultOfFile, IsFaultOfInput};
 ghost use Rattle.csdf_tool.specs.Faults.{status_of};
+ghost use Rattle.csdf_tool.specs.Running.{IsRunTold};
 ghost use Rattle.csdf_tool.specs.Session.{IsAnswer};
 
 use crate::command::{Request, request_of};
 use crate::described::describe;
-use crate::fault::{Name, Stream, ToolFault, unread};
+use crate::fault::{Stream, ToolFault, unread};
+use crate::files::file_bytes;
 use crate::replay::play_script;
+use crate::run_files::run_files;
 use clap::Error;
 use clap::error::ErrorKind;
-use csdf_graph::{FromReader, InputFault, Intake, Outlet, read_bytes, write_bytes};
+use csdf_graph::{Intake, Outlet, read_bytes, write_bytes};
 use std::alloc::Global;
+use std::fmt;
 use std::fmt::Write;
 use std::rt::Files;
-use std::{fmt, fs};
+use std::sync::Wait;
+use std::thread::Threads;
 
 /// Reads a graph file with a script to its end, and writes the replies.
 pub(crate) fn play_input<I: Intake, O: Outlet>(
@@ -43,25 +48,9 @@ pub(crate) fn play_input<I: Intake, O: Outlet>(
     }
 }
 
-/// All bytes of a file.
-fn file_bytes(rt: &(impl Files + AllocGlobal), path: &str) -> Result<Vec<u8>, ToolFault>
-    ensures other { IfErr result (λ fault. fault ≢ ToolFault.Device Stream.Output) }
-    ensures long { IfErr result (λ fault. status_of fault ≡ 1 → fault ≡ ToolFault.TooLong) }
-{
-    let alloc = rt.alloc();
-    let name = Name::new(alloc, path)?;
-    let Ok(file) = fs::open(rt, path) else {
-        return Err(unread(Stream::File(name), InputFault::Read));
-    };
-    match read_bytes(alloc, &mut FromReader::new(file)) {
-        Ok(bytes) => Ok(bytes),
-        Err(fault) => Err(unread(Stream::File(name), fault)),
-    }
-}
-
 /// Carries a request out.
-fn carry_out<I: Intake, O: Outlet>(
-    rt: &(impl Files + AllocGlobal),
+fn carry_out<R: Files + AllocGlobal + Threads + Wait + Sync, I: Intake, O: Outlet>(
+    rt: &R,
     request: Request<'_>,
     reader: &mut I,
     out: &mut O,
@@ -74,6 +63,8 @@ fn carry_out<I: Intake, O: Outlet>(
         × Appends (O.written out.old) (O.written out.new) text) }
     ensures told { (question : Question) (path : List ℕ) → asked_view request.entry ≡ Ask question path → OnOk result ((bytes text : List ℕ)
         × IsDescription question bytes (Ok text) × Appends (O.written out.old) (O.written out.new) text) }
+    ensures ran { (order : Order) → asked_view request.entry ≡ Run order → OnOk result ((bytes text : List ℕ)
+        × IsRunTold order bytes (Ok text) × Appends (O.written out.old) (O.written out.new) text) }
     ensures long { request.entry ≡ Request.Input → result ≡ Err ToolFault.TooLong
         → IfSome (I.left reader.old) (λ bytes. 16777216 < length bytes) }
     ensures refused { request.entry ≡ Request.Input → IfErr result (λ fault. status_of fault ≡ 1 → fault ≢ ToolFault.TooLong
@@ -82,12 +73,15 @@ fn carry_out<I: Intake, O: Outlet>(
         → IfErr result (λ fault. status_of fault ≡ 1 → IsFaultOfFile IsAnswer fault) }
     ensures told_refused { (question : Question) (path : List ℕ) → asked_view request.entry ≡ Ask question path
         → IfErr result (λ fault. status_of fault ≡ 1 → IsFaultOfFile (IsDescription question) fault) }
+    ensures ran_refused { (order : Order) → asked_view request.entry ≡ Run order
+        → IfErr result (λ fault. status_of fault ≡ 1 → IsFaultOfFile (IsRunTold order) fault) }
 {
     let alloc = rt.alloc();
     match request {
         Request::Input => play_input(alloc, reader, out),
         Request::Moves(path) => play_script(alloc, &file_bytes(rt, path)?, out),
         Request::Ask(question, path) => describe(alloc, question, &file_bytes(rt, path)?, out),
+        Request::Run(order) => run_files(rt, order, out),
     }
 }
 
@@ -173,8 +167,8 @@ fn status_of_words<O: Outlet, E: Outlet>(
 ///
 /// A fault of status 1 or 3 is told on `err` by its text and a newline, and nothing is written to
 /// `out` but for a fault of `out` itself. A failure of `err` changes no status.
-pub fn run_words<I: Intake, O: Outlet, E: Outlet>(
-    rt: &(impl Files + AllocGlobal),
+pub fn run_words<R: Files + AllocGlobal + Threads + Wait + Sync, I: Intake, O: Outlet, E: Outlet>(
+    rt: &R,
     words: &[String],
     reader: &mut I,
     out: &mut O,
@@ -193,10 +187,15 @@ pub fn run_words<I: Intake, O: Outlet, E: Outlet>(
     ensures told { (question : Question) (path : List ℕ) → takes program (map string_bytes words.now) ≡ true
         → words_ask (map string_bytes words.now) ≡ Ask question path → result ≡ 0
         → (bytes text : List ℕ) × IsDescription question bytes (Ok text) × Appends (O.written out.old) (O.written out.new) text }
+    ensures ran { (order : Order) → takes program (map string_bytes words.now) ≡ true
+        → words_ask (map string_bytes words.now) ≡ Run order → result ≡ 0
+        → (bytes text : List ℕ) × IsRunTold order bytes (Ok text) × Appends (O.written out.old) (O.written out.new) text }
     ensures moves_refused { (path : List ℕ) → words_ask (map string_bytes words.now) ≡ Moves path → result ≡ 1
         → (fault : ToolFault) × IsFaultOfFile IsAnswer fault × EndsAs fault result (E.written err.old) (E.written err.new) (E.failed err.new) }
     ensures told_refused { (question : Question) (path : List ℕ) → words_ask (map string_bytes words.now) ≡ Ask question path → result ≡ 1
         → (fault : ToolFault) × IsFaultOfFile (IsDescription question) fault × EndsAs fault result (E.written err.old) (E.written err.new) (E.failed err.new) }
+    ensures ran_refused { (order : Order) → words_ask (map string_bytes words.now) ≡ Run order → result ≡ 1
+        → (fault : ToolFault) × IsFaultOfFile (IsRunTold order) fault × EndsAs fault result (E.written err.old) (E.written err.new) (E.failed err.new) }
     ensures played { words.now ≡ [] → result ≡ 0 → IfSome (I.left reader.old)
         (λ bytes. (text : List ℕ) × IsAnswer bytes (Ok text) × Appends (O.written out.old) (O.written out.new) text) }
     ensures faulty { words.now ≡ [] → result ≡ 1 → (fault : ToolFault) × IfSome (I.left reader.old) (λ bytes. IsFaultOfInput bytes fault)

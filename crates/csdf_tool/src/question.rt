@@ -58,7 +58,7 @@ pub(crate) fn repetition_text(
 }
 
 /// The actor's name.
-fn actor_name(actors: &[Actor], number: u32) -> &str
+pub(crate) fn actor_name(actors: &[Actor], number: u32) -> &str
     ensures { result.now ≡ name_at (actor_names (map actor_view actors.now)) number }
 {
     match actors.get(number as usize) {

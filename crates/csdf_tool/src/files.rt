@@ -1,0 +1,78 @@
+//! Whole files, read and written.
+
+ghost use Rattle.std.specs.Prelude.{◌≡◌, ◌≢◌, IfErr};
+ghost use Rattle.csdf_tool.specs.Faults.{status_of};
+ghost use Rattle.csdf_tool.specs.Running.{IsUnread, IsUnwritten};
+
+use crate::fault::{Name, Stream, ToolFault, unread};
+use csdf_graph::{FromReader, InputFault, ToWriter, read_bytes, write_bytes};
+use std::alloc::{AllocError, Global};
+use std::fs;
+use std::path::{AsPath, Path, PathBuf};
+use std::rt::Files;
+
+/// All bytes of the file at a path. One that can't be opened is one that fails.
+fn bytes_at<P: AsPath>(rt: &(impl Files + AllocGlobal), path: P) -> Result<Vec<u8>, InputFault> {
+    match fs::open(rt, path) {
+        Ok(file) => read_bytes(rt.alloc(), &mut FromReader::new(file)),
+        Err(_) => Err(InputFault::Read),
+    }
+}
+
+/// All bytes of a file that the command line names.
+pub(crate) fn file_bytes(rt: &(impl Files + AllocGlobal), path: &str) -> Result<Vec<u8>, ToolFault>
+    ensures other { IfErr result (λ fault. fault ≢ ToolFault.Device Stream.Output) }
+    ensures long { IfErr result (λ fault. status_of fault ≡ 1 → fault ≡ ToolFault.TooLong) }
+{
+    let name = Name::new(rt.alloc(), path)?;
+    match bytes_at(rt, path) {
+        Ok(bytes) => Ok(bytes),
+        Err(fault) => Err(unread(Stream::File(name), fault)),
+    }
+}
+
+/// The path of a file of a folder.
+fn path_in(alloc: Global, folder: &str, file: &Name) -> Result<PathBuf, AllocError> {
+    Path::new(folder).join(alloc, file.as_str())
+}
+
+/// All bytes of the token file of a source: `NAME.in` in the folder.
+pub(crate) fn feed_bytes(
+    rt: &(impl Files + AllocGlobal),
+    folder: &str,
+    source: &str,
+) -> Result<Vec<u8>, ToolFault>
+    ensures { IfErr result (λ fault. IsUnread source.now fault) }
+{
+    let alloc = rt.alloc();
+    let source = Name::new(alloc, source)?;
+    let file = Name::with_ending(alloc, source.as_str(), ".in")?;
+    let path = path_in(alloc, folder, &file)?;
+    match bytes_at(rt, path) {
+        Ok(bytes) => Ok(bytes),
+        Err(InputFault::Read) => Err(ToolFault::Device(Stream::File(file))),
+        Err(InputFault::TooLong) => Err(ToolFault::TooManyTokens(source)),
+        Err(InputFault::Memory) => Err(ToolFault::Memory),
+    }
+}
+
+/// Writes a text to a file of a folder, which is made where it is not there.
+pub(crate) fn write_file(
+    rt: &(impl Files + AllocGlobal),
+    folder: &str,
+    file: &Name,
+    text: &[u8],
+) -> Result<(), ToolFault>
+    ensures { IfErr result (λ fault. IsUnwritten file.now fault) }
+{
+    let alloc = rt.alloc();
+    let name = Name::new(alloc, file.as_str())?;
+    let path = path_in(alloc, folder, file)?;
+    let Ok(writer) = fs::create(rt, path) else {
+        return Err(ToolFault::Device(Stream::File(name)));
+    };
+    match write_bytes(&mut ToWriter::new(writer), text) {
+        Ok(()) => Ok(()),
+        Err(_) => Err(ToolFault::Device(Stream::File(name))),
+    }
+}

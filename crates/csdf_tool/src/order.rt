@@ -1,0 +1,20 @@
+//! What the command to run asks for.
+
+ghost use Rattle.std.specs.Prelude.{◌≤◌};
+
+/// A run of the graph of a file over the token files of a folder.
+#[derive(Clone, Copy, Debug)]
+pub(crate) struct RunOrder<'a> {
+    /// The graph file.
+    pub(crate) graph: &'a str,
+    /// The folder.
+    pub(crate) folder: &'a str,
+    pub(crate) workers: u32,
+    pub(crate) periods: u32,
+    /// The most firings of all actors together.
+    pub(crate) firings: Option<u32>,
+    ghost some_worker: { 1 ≤ workers },
+    ghost few_workers: { workers ≤ 8 },
+    ghost some_period: { 1 ≤ periods },
+    ghost few_periods: { periods ≤ 1000 },
+}

@@ -1,0 +1,218 @@
+//! A run of a graph file over the token files of a folder.
+
+ghost use Rattle.std.specs.Prelude.{◌≡◌, ◌≢◌, ℕ, List, [], true, Ok, Err, length, map, slice_index_or, IfErr, IfOk, OnOk};
+ghost use Rattle.std.specs.Io.KnownBytes.{Appends};
+ghost use Rattle.csdf_graph.specs.Graph.{actor_view};
+ghost use Rattle.csdf_graph.specs.GraphText.{IsGraphOf};
+ghost use Rattle.csdf_core.specs.Layout.{is_source_kernel};
+ghost use Rattle.csdf_run.specs.Texts.{TellRun, TellSequentialRun, source_count, texts_in};
+ghost use Rattle.csdf_run.specs.Work.{is_sink_kernel};
+ghost use Rattle.csdf_tool.specs.CommandLine.{order_view};
+ghost use Rattle.csdf_tool.specs.Ends.{IsFaultOfFile};
+ghost use Rattle.csdf_tool.specs.Faults.{status_of};
+ghost use Rattle.csdf_tool.specs.Running.{IsRefusedFile, IsRunBy, IsRunTold, IsUnreadOf, IsUnwrittenOf, RefusesRun};
+ghost use Rattle.csdf_tool.specs.Running.{file_view, run_fault, sink_files, texts_fault, token_fault};
+
+use crate::fault::{Name, Stream, ToolFault};
+use crate::files::{feed_bytes, file_bytes, write_file};
+use crate::order::RunOrder;
+use crate::question::actor_name;
+use crate::session::accept_fault;
+use csdf_graph::{Actor, Graph, Kernel, Outlet, TokenFault, read_graph, write_bytes};
+use csdf_run::{RunFault, Texts, TextsFault, run_texts};
+use std::alloc::{AllocError, Global};
+use std::rt::Files;
+use std::sync::Wait;
+use std::thread::Threads;
+
+fn is_source(actor: &Actor) -> bool
+    ensures { result ≡ is_source_kernel (actor_view actor.now).kernel }
+{
+    matches!(actor.kernel, Kernel::Source)
+}
+
+fn is_sink(actor: &Actor) -> bool
+    ensures { result ≡ is_sink_kernel (actor_view actor.now).kernel }
+{
+    matches!(actor.kernel, Kernel::Sink)
+}
+
+/// The bytes of the token file of each source, in file order.
+#[tactic(auto, using(crate::proofs::RunLemmas::unread_here))]
+fn feeds_in(
+    rt: &(impl Files + AllocGlobal),
+    folder: &str,
+    actors: &[Actor],
+) -> Result<Vec<Vec<u8>>, ToolFault>
+    ensures refused { IfErr result (IsUnreadOf (map actor_view actors.now)) }
+{
+    let mut feeds = Vec::new(rt.alloc());
+    for actor in actors {
+        if is_source(actor) {
+            feeds.push(feed_bytes(rt, folder, actor.name.as_str())?)?;
+        }
+    }
+    Ok(feeds)
+}
+
+/// Why the token file of a source is refused, as the program tells it.
+fn token_fault(alloc: Global, source: &str, fault: TokenFault) -> Result<ToolFault, AllocError>
+    ensures { IfOk result (λ told. told ≡ token_fault source.now fault) }
+{
+    let name = Name::new(alloc, source)?;
+    match fault {
+        TokenFault::Syntax(line) => Ok(ToolFault::TokenSyntax(name, line)),
+        TokenFault::Range(line) => Ok(ToolFault::TokenRange(name, line)),
+        TokenFault::TooMany => Ok(ToolFault::TooManyTokens(name)),
+        TokenFault::Memory => Ok(ToolFault::Memory),
+        TokenFault::Read => {
+            let file = Name::with_ending(alloc, source, ".in")?;
+            Ok(ToolFault::Device(Stream::File(file)))
+        }
+    }
+}
+
+/// Why a run failed, as the program tells it.
+fn run_fault(fault: RunFault) -> ToolFault
+    ensures { result ≡ run_fault fault }
+{
+    match fault {
+        RunFault::Memory => ToolFault::Memory,
+        RunFault::Mixed => ToolFault::Mixed,
+        RunFault::Worker => ToolFault::Worker,
+    }
+}
+
+/// Why texts make no run, as the program tells it: actors and channels by their names.
+fn texts_fault(alloc: Global, graph: &Graph, fault: TextsFault) -> Result<ToolFault, AllocError>
+    ensures { IfOk result (λ told. told ≡ texts_fault graph.now fault) }
+{
+    match fault {
+        TextsFault::Graph(fault) => Ok(ToolFault::from(fault)),
+        TextsFault::Accept(fault) => accept_fault(alloc, graph, fault),
+        TextsFault::FeedCount => Ok(ToolFault::Mixed),
+        TextsFault::Feed(actor, fault) => {
+            token_fault(alloc, actor_name(graph.actors(), actor), fault)
+        }
+        TextsFault::Run(fault) => Ok(run_fault(fault)),
+    }
+}
+
+/// Runs a graph file over the bytes of its sources' token files.
+fn texts_of<R: AllocGlobal + Threads + Wait + Sync>(
+    rt: &R,
+    graph: &Graph,
+    bytes: &[u8],
+    feeds: &[Vec<u8>],
+    order: RunOrder<'_>,
+) -> Result<Texts, ToolFault>
+    ensures told { IfOk result (TellRun bytes.now (texts_in feeds.now) order.entry.periods order.entry.firings) }
+    ensures sequential { IfOk result (TellSequentialRun bytes.now (texts_in feeds.now) order.entry.periods order.entry.firings) }
+    ensures refused { IfErr result (λ fault. fault ≢ ToolFault.Memory → RefusesRun graph.now bytes.now (texts_in feeds.now) fault) }
+{
+    let alloc = rt.alloc();
+    let (workers, periods) = (order.workers, order.periods);
+    match run_texts(rt, alloc, bytes, feeds, workers, periods, order.firings) {
+        Ok(texts) => Ok(texts),
+        Err(fault) => Err(texts_fault(alloc, graph, fault)?),
+    }
+}
+
+/// A graph, and what is told of its run.
+#[derive(Drop)]
+struct Ran {
+    graph: Graph,
+    texts: Texts,
+}
+
+/// Reads the files of a run, and runs.
+fn ran_by<R: Files + AllocGlobal + Threads + Wait + Sync>(
+    rt: &R,
+    order: RunOrder<'_>,
+) -> Result<Ran, ToolFault>
+    ensures ran { IfOk result (λ ran. (bytes : List ℕ) × (feeds : List (List ℕ)) × IsRunBy (order_view order.entry) ran.graph bytes feeds ran.texts) }
+    ensures refused { IfErr result (λ fault. status_of fault ≡ 1 → IsFaultOfFile (IsRunTold (order_view order.entry)) fault) }
+    ensures other { IfErr result (λ fault. fault ≢ ToolFault.Device Stream.Output) }
+{
+    let bytes = file_bytes(rt, order.graph)?;
+    let graph = read_graph(rt.alloc(), &bytes)?;
+    let feeds = feeds_in(rt, order.folder, graph.actors())?;
+    let texts = texts_of(rt, &graph, &bytes, &feeds, order)?;
+    Ok(Ran { graph, texts })
+}
+
+/// A file that is written: its name, and its text.
+#[derive(Drop)]
+struct SinkFile<'a> {
+    name: Name,
+    text: &'a [u8],
+}
+
+/// The text with this number; the empty text where there is none.
+fn text_at(texts: &[Vec<u8>], number: usize) -> &[u8]
+    ensures { result.now ≡ slice_index_or (texts_in texts.now) number [] }
+{
+    match texts.get(number) {
+        Some(text) => text.as_slice(),
+        None => &[],
+    }
+}
+
+/// The file of each sink, in file order.
+fn sink_files<'a>(
+    alloc: Global,
+    actors: &[Actor],
+    texts: &'a [Vec<u8>],
+) -> Result<Vec<SinkFile<'a>>, AllocError>
+    ensures { IfOk result (λ files. map file_view files.items ≡ sink_files (map actor_view actors.now) (texts_in texts.entry.now)) }
+{
+    let mut files = Vec::new(alloc);
+    let mut next = 0;
+    for actor in actors {
+        if is_sink(actor) {
+            let name = Name::with_ending(alloc, actor.name.as_str(), ".out")?;
+            let text = text_at(texts, next);
+            files.push(SinkFile { name, text })?;
+            next += 1;
+        }
+    }
+    Ok(files)
+}
+
+/// Writes the file of each sink, in file order.
+#[tactic(auto, using(crate::proofs::RunLemmas::unwritten_here))]
+fn write_sinks(
+    rt: &(impl Files + AllocGlobal),
+    folder: &str,
+    actors: &[Actor],
+    texts: &Texts,
+) -> Result<(), ToolFault>
+    ensures { IfErr result (IsUnwrittenOf (sink_files (map actor_view actors.now) (texts_in texts.now.sinks.items))) }
+{
+    let files = sink_files(rt.alloc(), actors, &texts.sinks)?;
+    for file in &files {
+        write_file(rt, folder, &file.name, file.text)?;
+    }
+    Ok(())
+}
+
+/// Runs the graph of a file over the token files of a folder: writes what each sink took, and then
+/// the report.
+pub(crate) fn run_files<R: Files + AllocGlobal + Threads + Wait + Sync, O: Outlet>(
+    rt: &R,
+    order: RunOrder<'_>,
+    out: &mut O,
+) -> Result<(), ToolFault>
+    ensures written { OnOk result ((bytes text : List ℕ) × IsRunTold (order_view order.entry) bytes (Ok text)
+        × Appends (O.written out.old) (O.written out.new) text) }
+    ensures unwritten { IfErr result (λ fault. fault ≢ ToolFault.Device Stream.Output → out.new ≡ out.old) }
+    ensures failed { result ≡ Err (ToolFault.Device Stream.Output) → O.failed out.new ≡ true }
+    ensures refused { IfErr result (λ fault. status_of fault ≡ 1 → IsFaultOfFile (IsRunTold (order_view order.entry)) fault) }
+{
+    let ran = ran_by(rt, order)?;
+    write_sinks(rt, order.folder, ran.graph.actors(), &ran.texts)?;
+    match write_bytes(out, &ran.texts.report) {
+        Ok(()) => Ok(()),
+        Err(_) => Err(ToolFault::Device(Stream::Output)),
+    }
+}
