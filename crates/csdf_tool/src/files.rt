@@ -1,11 +1,12 @@
 //! Whole files, read and written.
 
-ghost use Rattle.std.specs.Prelude.{◌≡◌, ◌≢◌, IfErr};
+ghost use Rattle.std.specs.Prelude.{◌≡◌, ◌≢◌, true, IfErr, OnOk};
+ghost use Rattle.std.specs.Io.KnownBytes.{Appends};
 ghost use Rattle.csdf_tool.specs.Faults.{status_of};
 ghost use Rattle.csdf_tool.specs.Running.{IsUnread, IsUnwritten};
 
 use crate::fault::{Name, Stream, ToolFault, unread};
-use csdf_graph::{FromReader, InputFault, ToWriter, read_bytes, write_bytes};
+use csdf_graph::{FromReader, InputFault, Outlet, ToWriter, read_bytes, write_bytes};
 use std::alloc::{AllocError, Global};
 use std::fs;
 use std::path::{AsPath, Path, PathBuf};
@@ -56,6 +57,17 @@ pub(crate) fn feed_bytes(
     }
 }
 
+/// Writes a text to an open file.
+fn write_text<O: Outlet>(writer: &mut O, file: Name, text: &[u8]) -> Result<(), ToolFault>
+    ensures written { OnOk result (Appends (O.written writer.old) (O.written writer.new) text.now) }
+    ensures refused { IfErr result (λ fault. (fault ≡ ToolFault.Device (Stream.File file)) × (O.failed writer.new ≡ true)) }
+{
+    match write_bytes(writer, text) {
+        Ok(()) => Ok(()),
+        Err(_) => Err(ToolFault::Device(Stream::File(file))),
+    }
+}
+
 /// Writes a text to a file of a folder, which is made where it is not there.
 pub(crate) fn write_file(
     rt: &(impl Files + AllocGlobal),
@@ -68,11 +80,8 @@ pub(crate) fn write_file(
     let alloc = rt.alloc();
     let name = Name::new(alloc, file.as_str())?;
     let path = path_in(alloc, folder, file)?;
-    let Ok(writer) = fs::create(rt, path) else {
-        return Err(ToolFault::Device(Stream::File(name)));
-    };
-    match write_bytes(&mut ToWriter::new(writer), text) {
-        Ok(()) => Ok(()),
+    match fs::create(rt, path) {
+        Ok(writer) => write_text(&mut ToWriter::new(writer), name, text),
         Err(_) => Err(ToolFault::Device(Stream::File(name))),
     }
 }
