@@ -116,9 +116,10 @@ impl Hints {
         self.ready
     }
 
-    /// Looks again at these actors.
+    /// Looks at those of these actors that are not told yet. One that can begin stays so while others
+    /// move, but for the limit on all firings and for cells: then its start is refused, and told here.
     fn look(&mut self, core: &Core, mask: u64) {
-        self.ready = self.ready & !mask | able_among(core, mask);
+        self.ready |= able_among(core, mask & !self.ready);
     }
 
     /// The actor's start was refused.
