@@ -1,6 +1,7 @@
 //! A core, and the moves that brought it where it is.
 
-ghost use Rattle.std.specs.Prelude.{ℕ, ◌≡◌, ◌≢◌, ◌↔◌, IsTrue, All, ◌+◌, ◌<◌, ◌≤◌, [], ◌∷◌, None, true, false, pos, IfOk, OnOk, length, map, replicate, slice_range, suc, slice_index, slice_index_or};
+ghost use Rattle.std.specs.Prelude.{ℕ, ◌≡◌, ◌≢◌, ◌↔◌, IsTrue, All, ◌+◌, ◌<◌, ◌≤◌, [], ◌∷◌, None, true, false, pos, IfOk, OnOk, length, map};
+ghost use Rattle.std.specs.Prelude.{replicate, slice_range, suc, slice_index, slice_index_or};
 ghost use Rattle.std.specs.List.{range_with_len};
 ghost use Rattle.csdf_graph.specs.declared.parts.Kernel.TheVariants.{Sink};
 ghost use Rattle.csdf_core.specs.declared.stage.Stage.TheVariants.{Idle, Begun, Fetched, Written};
@@ -53,7 +54,8 @@ impl Model for Book {
       reads = feeds_in b.reads.items;
     } };
 
-    ghost invariant = { λ b. IsBook (record { work = b.work; core = b.core; journal = map move_of b.moves.items; sinks = b.sinks.lists }) (feeds_in b.reads.items) };
+    ghost invariant = { λ b. IsBook (record { work = b.work; core = b.core; journal = map move_of b.moves.items; sinks = b.sinks.lists })
+        (feeds_in b.reads.items) };
 }
 
 /// As many empty buffers.
@@ -134,7 +136,8 @@ impl Book {
         ensures shown { self.new.shown ≡ self.old.shown }
         ensures rooms { self.new.rooms ≡ self.old.rooms }
         ensures room { self.new.room ≡ self.old.room }
-        ensures buffer { OnOk result (length (slice_index_or self.new.reads actor []) ≡ need actor (count self.old.shown.core.now actor) self.old.shown.core.plan.channels) }
+        ensures buffer { OnOk result (length (slice_index_or self.new.reads actor [])
+            ≡ need actor (count self.old.shown.core.now actor) self.old.shown.core.plan.channels) }
     {
         let need = self.core.need(actor);
         self.reads[actor as usize].resize(need, 0)
@@ -146,7 +149,8 @@ impl Book {
         ensures shown { self.new.shown ≡ self.old.shown }
         ensures reads { self.new.reads ≡ self.old.reads }
         ensures room { self.new.room ≡ self.old.room }
-        ensures sink { OnOk result (is_sink_kernel (slice_index_or (program self.old.shown.work).kernels actor Sink) ≡ true → need actor (count self.old.shown.core.now actor) self.old.shown.core.plan.channels ≤ slice_index self.new.rooms actor) }
+        ensures sink { OnOk result (is_sink_kernel (slice_index_or (program self.old.shown.work).kernels actor Sink) ≡ true
+            → need actor (count self.old.shown.core.now actor) self.old.shown.core.plan.channels ≤ slice_index self.new.rooms actor) }
     {
         if !self.work.is_sink(actor) {
             return Ok(());
@@ -195,7 +199,8 @@ impl Book {
         requires room { 0 < self.old.room }
         requires accepted { refusal self.old.shown.core.plan self.old.shown.core.now (Read actor) ≡ None }
         requires buffer { length (slice_index_or self.old.reads actor []) ≡ need actor (count self.old.shown.core.now actor) self.old.shown.core.plan.channels }
-        requires sink { is_sink_kernel (slice_index_or (program self.old.shown.work).kernels actor Sink) ≡ true → need actor (count self.old.shown.core.now actor) self.old.shown.core.plan.channels ≤ slice_index self.old.rooms actor }
+        requires sink { is_sink_kernel (slice_index_or (program self.old.shown.work).kernels actor Sink) ≡ true
+            → need actor (count self.old.shown.core.now actor) self.old.shown.core.plan.channels ≤ slice_index self.old.rooms actor }
         ensures next { IsNext self.old self.new (Read actor) }
         ensures buffer { length (slice_index_or self.new.reads actor []) ≡ length (slice_index_or self.old.reads actor []) }
         ensures tokens { slice_index_or self.new.reads actor [] ≡ slice_index_or (reads_of (program self.new.shown.work) self.new.shown.journal) actor [] }
@@ -211,7 +216,8 @@ impl Book {
     pub(crate) fn write(&mut self, actor: u32, tokens: Vec<i32>)
         requires room { 0 < self.old.room }
         requires accepted { refusal self.old.shown.core.plan self.old.shown.core.now (Write actor tokens.items) ≡ None }
-        requires just { tokens.items ≡ value (program self.old.shown.work) actor (count self.old.shown.core.now actor) (slice_index_or (reads_of (program self.old.shown.work) self.old.shown.journal) actor []) }
+        requires just { tokens.items ≡ value (program self.old.shown.work) actor (count self.old.shown.core.now actor)
+            (slice_index_or (reads_of (program self.old.shown.work) self.old.shown.journal) actor []) }
         ensures next { IsNext self.old self.new (Write actor tokens.items) }
     {
         certain::write(&mut self.core, actor, &tokens);
@@ -233,7 +239,8 @@ impl Book {
         requires room { 2 ≤ self.old.room }
         requires exists { actor < length self.old.shown.core.plan.sources }
         requires has_read { stage self.old.shown.core.now actor ≡ Fetched }
-        requires just { tokens.items ≡ value (program self.old.shown.work) actor (count self.old.shown.core.now actor) (slice_index_or (reads_of (program self.old.shown.work) self.old.shown.journal) actor []) }
+        requires just { tokens.items ≡ value (program self.old.shown.work) actor (count self.old.shown.core.now actor)
+            (slice_index_or (reads_of (program self.old.shown.work) self.old.shown.journal) actor []) }
         ensures { HasGiven self.old self.new actor tokens.items }
     {
         let _ = &self.work;
@@ -392,7 +399,9 @@ impl Book {
     /// The inputs of the actor's next firing, with zeros in the place of what it will read.
     pub(crate) fn blank_inputs(&self, alloc: Global, actor: u32) -> Result<Inputs, AllocError>
         requires exists { actor < length self.now.shown.core.plan.sources }
-        ensures value { IfOk result (λ v. v.items ≡ inputs (program self.now.shown.work) actor (count self.now.shown.core.now actor) (replicate (need actor (count self.now.shown.core.now actor) self.now.shown.core.plan.channels) (pos 0))) }
+        ensures value { IfOk result (λ v. v.items
+            ≡ inputs (program self.now.shown.work) actor (count self.now.shown.core.now actor)
+            (replicate (need actor (count self.now.shown.core.now actor) self.now.shown.core.plan.channels) (pos 0))) }
         ensures few { IfOk result (λ v. length v.items ≤ 8192) }
     {
         if !self.work.is_source(actor) {
@@ -404,7 +413,9 @@ impl Book {
     /// The part of its feed that the next firing of a source computes from.
     fn feed_part(&self, actor: u32) -> &[i32]
         requires { actor < length self.now.shown.core.plan.sources }
-        ensures value { result.now ≡ slice_range (feed_of self.now.shown.work.feeds actor) (given (program self.now.shown.work).plan actor (count self.now.shown.core.now actor)) (given (program self.now.shown.work).plan actor (suc (count self.now.shown.core.now actor))) }
+        ensures value { result.now ≡ slice_range (feed_of self.now.shown.work.feeds actor)
+            (given (program self.now.shown.work).plan actor (count self.now.shown.core.now actor))
+            (given (program self.now.shown.work).plan actor (suc (count self.now.shown.core.now actor))) }
         ensures few { length result.now ≤ 8192 }
     {
         let used = self.core.written(actor) as usize;
@@ -414,8 +425,11 @@ impl Book {
     /// Puts what the actor has read in the place of the zeros.
     pub(crate) fn fill(&self, actor: u32, into: &mut Inputs)
         requires exists { actor < length self.now.shown.core.plan.sources }
-        requires blank { into.old.items ≡ inputs (program self.now.shown.work) actor (count self.now.shown.core.now actor) (replicate (length (slice_index_or self.now.reads actor [])) (pos 0)) }
-        ensures value { into.new.items ≡ inputs (program self.now.shown.work) actor (count self.now.shown.core.now actor) (slice_index_or self.now.reads actor []) }
+        requires blank { into.old.items
+            ≡ inputs (program self.now.shown.work) actor (count self.now.shown.core.now actor)
+            (replicate (length (slice_index_or self.now.reads actor [])) (pos 0)) }
+        ensures value { into.new.items
+            ≡ inputs (program self.now.shown.work) actor (count self.now.shown.core.now actor) (slice_index_or self.now.reads actor []) }
         ensures count { length into.new.items ≡ length into.old.items }
     {
         if !self.work.is_source(actor) {
@@ -426,7 +440,8 @@ impl Book {
     /// Whether these are what the actor's present firing computes from.
     fn are_inputs(&self, actor: u32, tokens: &[i32]) -> bool
         requires exists { actor < length self.now.shown.core.plan.sources }
-        ensures { IsTrue result ↔ (tokens.now ≡ inputs (program self.now.shown.work) actor (count self.now.shown.core.now actor) (slice_index_or self.now.reads actor [])) }
+        ensures { IsTrue result ↔ (tokens.now
+            ≡ inputs (program self.now.shown.work) actor (count self.now.shown.core.now actor) (slice_index_or self.now.reads actor [])) }
     {
         if self.work.is_source(actor) {
             are_same_tokens(tokens, self.feed_part(actor))

@@ -11,7 +11,8 @@ ghost use Rattle.csdf_kernel.specs.Value.{HasFilterInRange};
 ghost use Rattle.csdf_run.specs.Journal.{IsHonest};
 ghost use Rattle.csdf_run.specs.Work.{AreFeeds, feeds_in, program};
 ghost use Rattle.csdf_run.specs.Outcome.{HasTotals, IsEndOf, IsOutcome, journal_in};
-ghost use Rattle.csdf_run.specs.Floor.{HasGone, IsFloor, IsReady, IsStartAnswer, IsUnderWay, IsDeliverAnswer, closes, closes_after, ending_of, present_task, start_refusal, task_of};
+ghost use Rattle.csdf_run.specs.Floor.{HasGone, IsFloor, IsReady, IsStartAnswer, IsUnderWay, IsDeliverAnswer, closes, closes_after, ending_of};
+ghost use Rattle.csdf_run.specs.Floor.{present_task, start_refusal, task_of};
 
 use crate::book::Book;
 use crate::ending::ending_of;
@@ -59,8 +60,10 @@ impl Floor {
         requires fed { AreFeeds accepted.now.graph (feeds_in feeds.now) }
         requires some_period { 1 ≤ periods }
         requires few_periods { periods ≤ 1000 }
-        ensures work { IfOk result (λ floor. floor.work ≡ record { accepted = accepted.now; feeds = feeds_in feeds.now; periods = periods; firings = firings }) }
-        ensures journal { IfOk result (λ floor. floor.journal ≡ closes floor.core.plan (present (opening floor.core.plan)) (range_with_len 0 (length floor.core.plan.channels))) }
+        ensures work { IfOk result (λ floor. floor.work
+            ≡ record { accepted = accepted.now; feeds = feeds_in feeds.now; periods = periods; firings = firings }) }
+        ensures journal { IfOk result (λ floor. floor.journal
+            ≡ closes floor.core.plan (present (opening floor.core.plan)) (range_with_len 0 (length floor.core.plan.channels))) }
     {
         let work = Work::new(alloc, accepted, feeds, periods, firings)?;
         let mut book = Book::open(alloc, work)?;
@@ -170,7 +173,8 @@ impl Floor {
         firings: Option<u32>,
         totals: &[u32],
     ) -> bool
-        ensures { IsTrue result ↔ IsEndOf self.now (record { accepted = accepted.now; feeds = feeds_in feeds.now; periods = periods; firings = firings }) totals.now }
+        ensures { IsTrue result ↔ IsEndOf self.now
+            (record { accepted = accepted.now; feeds = feeds_in feeds.now; periods = periods; firings = firings }) totals.now }
     {
         self.book.work().is(accepted, feeds, periods, firings)
             && self.book.has_counts(totals)

@@ -1,6 +1,8 @@
 //! Laws of journals over their definitions.
 
-ghost use Rattle.csdf_run.specs.Laws.{Persists, BeginsNoMore, FinishesAll, Agree, HasSequentialRun, IsOnly, StaysWithin, EndsAsSequential, QuietIsExhausted, GoesOn, IsHonestAtEach, EndsCounted, StaysCounted, CompletesAll, EndsComplete, SequentialIsHonest, OrderDoesNotShow};
+ghost use Rattle.csdf_run.specs.Laws.{Persists, BeginsNoMore, FinishesAll, Agree, HasSequentialRun, IsOnly, StaysWithin, EndsAsSequential};
+ghost use Rattle.csdf_run.specs.Laws.{QuietIsExhausted, GoesOn, IsHonestAtEach, EndsCounted, StaysCounted, CompletesAll, EndsComplete};
+ghost use Rattle.csdf_run.specs.Laws.{SequentialIsHonest, OrderDoesNotShow};
 ghost use Rattle.csdf_run.specs.Periods.{RunsHonestly};
 ghost use Rattle.csdf_run.specs.Endings.{OneEnding, EndsByEnding};
 

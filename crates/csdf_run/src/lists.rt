@@ -1,6 +1,7 @@
 //! A list of tokens for each actor.
 
-ghost use Rattle.std.specs.Prelude.{◌≡◌, ◌<◌, ◌≤◌, ◌++◌, [], if◌then◌else◌, IsTrue, All, IfOk, OnOk, length, map, replicate, slice_index, slice_index_or, slice_set};
+ghost use Rattle.std.specs.Prelude.{◌≡◌, ◌<◌, ◌≤◌, ◌++◌, [], if◌then◌else◌, IsTrue, All, IfOk, OnOk, length, map, replicate, slice_index};
+ghost use Rattle.std.specs.Prelude.{slice_index_or, slice_set};
 
 use std::alloc::{AllocError, Global};
 use std::marker::Model;

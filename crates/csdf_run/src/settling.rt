@@ -36,7 +36,8 @@ pub fn settle(
     requires some_period { 1 ≤ periods }
     requires few_periods { periods ≤ 1000 }
     requires totals { length totals.now ≡ length accepted.now.graph.actors }
-    ensures answer { IsSettleAnswer (IsEndOf floor (record { accepted = accepted.now; feeds = feeds_in feeds.now; periods = periods; firings = firings }) totals.now) result }
+    ensures answer { IsSettleAnswer
+        (IsEndOf floor (record { accepted = accepted.now; feeds = feeds_in feeds.now; periods = periods; firings = firings }) totals.now) result }
     ensures journal { IfOk result (λ o. journal_in o ≡ floor.journal) }
     ensures honest { IfOk result (HasHonestJournal (program_for accepted.now (feeds_in feeds.now) periods firings)) }
     ensures settled { IfOk result (EndsSettled (program_for accepted.now (feeds_in feeds.now) periods firings)) }

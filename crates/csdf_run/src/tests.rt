@@ -62,7 +62,19 @@ channel = [
 ]
 "#;
 
-/// A run of a graph whose actor 0 alone is a source, and what its sinks took with its printed report.
+const RING: &str = r#"actor = [
+  { name = "a", kernel = "copy" },
+  { name = "b", kernel = "copy" },
+  { name = "c", kernel = "copy" },
+]
+channel = [
+  { name = "x", from = "a", to = "b", produce = [1], consume = [1] },
+  { name = "y", from = "b", to = "c", produce = [1], consume = [1] },
+  { name = "z", from = "c", to = "a", produce = [1], consume = [1], initial = [5] },
+]
+"#;
+
+/// A run of a graph in which none but actor 0 is a source, and what its sinks took with its printed report.
 #[derive(Clone, Copy)]
 struct Case {
     graph: &'static str,
@@ -72,7 +84,7 @@ struct Case {
     wanted: &'static str,
 }
 
-const CASES: [Case; 10] = [
+const CASES: [Case; 11] = [
     // enough tokens
     Case {
         graph: ACCUMULATED,
@@ -117,6 +129,18 @@ const CASES: [Case; 10] = [
                ending dry\n\
                x written 0 taken 0 held 0 peak 0 capacity 3 closed\n\
                y written 0 taken 0 held 0 peak 0 capacity 1 open\n",
+    },
+    // no source
+    Case {
+        graph: RING,
+        feed: &[],
+        periods: 2,
+        firings: None,
+        wanted: "\n\
+               ending complete\n\
+               x written 2 taken 2 held 0 peak 1 capacity 1 closed\n\
+               y written 2 taken 2 held 0 peak 1 capacity 1 closed\n\
+               z written 2 taken 2 held 1 peak 1 capacity 1 closed\n",
     },
     // four cells are enough
     Case {

@@ -251,7 +251,8 @@ fn run_fed<R: Threads + Wait + Sync>(
     requires few_workers { workers ≤ 8 }
     requires some_period { 1 ≤ periods }
     requires few_periods { periods ≤ 1000 }
-    ensures { IfOk result (λ texts. (outcome : OutcomeCode) × TellOutcome (work_for fed.now.accepted (feeds_in fed.now.feeds.items) periods firings) outcome texts) }
+    ensures { IfOk result (λ texts. (outcome : OutcomeCode)
+        × TellOutcome (work_for fed.now.accepted (feeds_in fed.now.feeds.items) periods firings) outcome texts) }
 {
     let outcome = run(
         rt,

@@ -3,7 +3,8 @@
 ghost use Rattle.std.specs.Prelude.{◌≡◌, ◌≤◌, [], true, false, map, string_bytes, Ok, IfErr, IfOk, IfSome};
 ghost use Rattle.clap.specs.Words.{app_of, fault_of, found_of, kind_of, rows_of, rule_of, subcommand_of, subcommand_rows_of, takes, with_rule, FailsBy};
 ghost use Rattle.clap.specs.declared.builder.command.Command.TheViews.{out-Command as fields_of};
-ghost use Rattle.csdf_tool.specs.CommandLine.{on_graph, on_files, run_command, number_option, no_commands, with_command, with_questions, program, asked_view, asked_by, asked_of, asked, words_ask};
+ghost use Rattle.csdf_tool.specs.CommandLine.{on_graph, on_files, run_command, number_option, no_commands, with_command, with_questions, program};
+ghost use Rattle.csdf_tool.specs.CommandLine.{asked_view, asked_by, asked_of, asked, words_ask};
 ghost use Rattle.csdf_tool.specs.CommandLine.{number_in, number_of, order_of, order_view, word_of};
 
 use crate::order::RunOrder;

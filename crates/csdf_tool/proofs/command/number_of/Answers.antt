@@ -7,7 +7,8 @@ use Rattle.csdf_tool.proofs.command.number_of.Goals as goal
 pub returns-in-Some-clause-value : goal.returns-in-Some-clause-value
 returns-in-Some-clause-value c =
     let found = c.get_str.ensures ∙ first_value-rows (found_of c.args.arguments.now) c.args.option.now in
-    c.number_in.ensures.value ∙ number_given c.args.least c.args.most c.args.option.now (rows_of (found_of c.args.arguments.now)) c.get_str.result c.in-Some.text c.in-Some.is found
+    c.number_in.ensures.value
+    ∙ number_given c.args.least c.args.most c.args.option.now (rows_of (found_of c.args.arguments.now)) c.get_str.result c.in-Some.text c.in-Some.is found
 
 pub returns-in-None-clause-value : goal.returns-in-None-clause-value
 returns-in-None-clause-value c =

@@ -12,4 +12,5 @@ returns-in_err-write_file g c =
     let told = ap (λ texts. sink_files (map actor_view c.args.actors.now) (texts_in texts)) c.deref.ensures.value in
     let same = ap (map file_view) c.deref-file-items.ensures.value ∙ c.in_ok-files.ensures ∙ told in
     if_err_fault _ fault _ c.from_residual-in_err-write_file.ensures.1
-    (unwritten_here c.deref-file-items.result.now _ c.loop-file.file-index c.file-item.result fault same c.loop-file-test.true c.file-item.is c.in_err-write_file.ensures)
+    (unwritten_here c.deref-file-items.result.now _ c.loop-file.file-index c.file-item.result fault same c.loop-file-test.true
+    c.file-item.is c.in_err-write_file.ensures)

@@ -4,7 +4,8 @@ use Rattle.csdf_core.proofs.LayoutLemmas.{part_at, rate_small}
 use Rattle.csdf_core.proofs.layout.Layout.gives.Goals as goal
 
 pub returns-clause-value : goal.returns-clause-value
-returns-clause-value c = c.production.ensures ∙ part_at (λ ch. rate ch.produce c.args.firing) c.args.self.now.channels c.args.channel _ 0 c.channel.ensures.value
+returns-clause-value c = c.production.ensures ∙ part_at
+    (λ ch. rate ch.produce c.args.firing) c.args.self.now.channels c.args.channel _ 0 c.channel.ensures.value
 
 pub returns-clause-small : goal.returns-clause-small
 returns-clause-small c = subst (λ n. n ≤ 64) (sym c.production.ensures) (rate_small _ c.args.firing c.channel.ensures.produce)
