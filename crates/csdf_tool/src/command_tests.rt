@@ -120,3 +120,24 @@ fn refused_words_end_with_status_two(rt: HostRuntime) -> Result<(), Fail> {
     assert_eq!(rt; version.as_str(), "0|csdf 0.1.0\n|");
     Ok(())
 }
+
+#[test]
+fn a_run_reads_and_writes_files(rt: HostRuntime) -> Result<(), Fail> {
+    fs::write(&rt, "run.toml", ROW)?;
+    fs::write(&rt, "a.in", "1\n2\n3\n4\n5\n6\n")?;
+    let refused = run(&rt, "run run.toml . --workers 9", "")?;
+    assert!(rt; refused.starts_with("2||error: "));
+    let told = run(&rt, "run run.toml . --workers 2", "")?;
+    let x = "x written 6 taken 6 held 0 peak 4 capacity 4 closed\n";
+    let y = "y written 2 taken 2 held 0 peak 2 capacity 2 closed\n";
+    let wanted = format!(in rt.alloc(); "0|ending complete\n{x}{y}|")?;
+    assert_eq!(rt; told.as_str(), wanted.as_str());
+    let sink = fs::read_to_string(&rt, "c.out")?;
+    assert_eq!(rt; sink.as_str(), "1\n4\n");
+    fs::remove_file(&rt, "a.in")?;
+    let missing = run(&rt, "run run.toml .", "")?;
+    assert_eq!(rt; missing.as_str(), "3||csdf: device: a.in\n");
+    fs::remove_file(&rt, "c.out")?;
+    fs::remove_file(&rt, "run.toml")?;
+    Ok(())
+}

@@ -423,6 +423,8 @@ fn faults_have_a_line_and_a_status(rt: HostRuntime) -> Result<(), Fail> {
         (ToolFault::TooTight, "csdf: graph: too tight", 1),
         (ToolFault::Line(99_999), "csdf: script: line 99999", 1),
         (ToolFault::TooLong, "csdf: input too long", 1),
+        (ToolFault::Mixed, "csdf: run: mixed", 3),
+        (ToolFault::Worker, "csdf: run: worker", 3),
         (
             ToolFault::Device(Stream::Input),
             "csdf: device: standard input",
