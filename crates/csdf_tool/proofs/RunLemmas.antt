@@ -5,7 +5,7 @@ use Rattle.std.proofs.lemmas.List.{get_or-drop, get_or-map, length-map}
 use Rattle.std.specs.String.{string_bytes}
 use Rattle.csdf_graph.specs.Graph.{Actor, Graph, actor_view}
 use Rattle.csdf_graph.specs.GraphText.{IsGraphOf}
-use Rattle.csdf_graph.specs.declared.graph.Actor.{Actor as ActorCode}
+use Rattle.csdf_graph.specs.declared.parts.Actor.{Actor as ActorCode}
 use Rattle.csdf_core.specs.Layout.{is_source_kernel}
 use Rattle.csdf_run.specs.Work.{is_sink_kernel}
 use Rattle.csdf_tool.specs.declared.fault.ToolFault.{ToolFault}
