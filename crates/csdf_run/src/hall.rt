@@ -17,8 +17,9 @@ use std::thread;
 /// How often a worker yields before it sleeps.
 const YIELDS: u32 = 100;
 
-/// How many products, or tokens, make a firing worth waking another worker for.
-const HEAVY: usize = 512;
+/// How many products, or tokens, make a firing worth waking another worker for: they take about as long
+/// as to wake one.
+const HEAVY: usize = 16_384;
 
 /// What is behind the lock: the floor, where to look for the next firing, and how many firings are under
 /// way and workers asleep.
