@@ -45,6 +45,9 @@ main="$launched/crates/csdf_tool/src/main.rt"
 launch "no rt" 3 0 /dev/null "$room/no_rt" without_rt
 launch "first build" 7 1 "$room/words_told" "$room/built" with_rt
 launch "nothing changed" 7 1 "$room/words_told" /dev/null with_rt
+rm "$launched/crates/csdf_tool/out/csdf_tool.sum"
+launch "built, with no record" 7 1 "$room/words_told" /dev/null with_rt
+launch "built, with a record once more" 7 1 "$room/words_told" /dev/null with_rt
 launch "built, and no rt" 7 1 "$room/words_told" /dev/null without_rt
 touch -d "1 hour" "$main"
 launch "a source with another time" 7 1 "$room/words_told" /dev/null with_rt
@@ -53,7 +56,10 @@ launch "no source changed" 7 1 "$room/words_told" /dev/null with_rt
 echo "fn main() { }" > "$main"
 touch -d "1970-01-02" "$main"
 launch "an older source with other content" 7 2 "$room/words_told" "$room/built" with_rt
+touch -d "1 hour" "$main"
+rm "$launched/crates/csdf_tool/out/csdf_tool.sum"
+launch "a newer source, with no record" 7 3 "$room/words_told" "$room/built" with_rt
 echo "#" >> "$launched/crates/csdf_tool/out/csdf_tool"
-launch "another program" 7 3 "$room/words_told" "$room/built" with_rt
+launch "another program" 7 4 "$room/words_told" "$room/built" with_rt
 echo > "$launched/crates/csdf_tool/src/bad.rt"
-launch "a build that fails" 3 3 /dev/null /dev/null with_rt
+launch "a build that fails" 3 4 /dev/null /dev/null with_rt
