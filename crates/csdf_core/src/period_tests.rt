@@ -49,19 +49,41 @@ channel = [
 ]
 "#;
 
-/// From 44.1 kHz to 48 kHz in three stages of one phase each.
+/// From 44.1 kHz to 48 kHz in three stages, by rates that differ from phase to phase.
 const RATES: &str = r#"actor = [
   { name = "disc", kernel = "source" },
-  { name = "up", kernel = "copy" },
-  { name = "down", kernel = "copy" },
-  { name = "out", kernel = "copy" },
+  { name = "up", kernel = "copy", phases = 4 },
+  { name = "down", kernel = "copy", phases = 5 },
+  { name = "out", kernel = "copy", phases = 8 },
   { name = "dac", kernel = "sink" },
 ]
 channel = [
-  { name = "a", from = "disc", to = "up", produce = [1], consume = [3] },
-  { name = "b", from = "up", to = "down", produce = [4], consume = [7] },
-  { name = "c", from = "down", to = "out", produce = [5], consume = [7] },
-  { name = "d", from = "out", to = "dac", produce = [8], consume = [1] },
+  { name = "a", from = "disc", to = "up", produce = [1], consume = [1, 1, 1, 0] },
+  { name = "b", from = "up", to = "down", produce = [1, 1, 1, 1], consume = [1, 2, 1, 2, 1] },
+  { name = "c", from = "down", to = "out", produce = [1, 1, 1, 1, 1], consume = [1, 1, 1, 1, 1, 1, 1, 0] },
+  { name = "d", from = "out", to = "dac", produce = [1, 1, 1, 1, 1, 1, 1, 1], consume = [1] },
+]
+"#;
+
+/// A loop that learns from the error of four samples what to take off the next four.
+const CANCELLER: &str = r#"actor = [
+  { name = "far", kernel = "source" },
+  { name = "microphone", kernel = "source" },
+  { name = "estimate", kernel = "fir", weights = [3, 4], shift = 2 },
+  { name = "left", kernel = "fir", weights = [1, -1], shift = 0 },
+  { name = "step", kernel = "fir", weights = [1, 1, 1, 1], shift = 3 },
+  { name = "learned", kernel = "sum" },
+  { name = "line", kernel = "sink" },
+]
+channel = [
+  { name = "speech", from = "far", to = "estimate", produce = [1], consume = [1] },
+  { name = "correction", from = "learned", to = "estimate", produce = [4], consume = [1], initial = [0, 0, 0, 0] },
+  { name = "heard", from = "microphone", to = "left", produce = [1], consume = [1] },
+  { name = "echo", from = "estimate", to = "left", produce = [1], consume = [1] },
+  { name = "error", from = "left", to = "step", produce = [1], consume = [4] },
+  { name = "change", from = "step", to = "learned", produce = [1], consume = [1] },
+  { name = "so_far", from = "learned", to = "learned", produce = [1], consume = [1], initial = [0] },
+  { name = "clean", from = "left", to = "line", produce = [1], consume = [1] },
 ]
 "#;
 
@@ -157,7 +179,7 @@ fn play_schedule(rt: &impl Abort, alloc: Global, accepted: &Accepted) -> Result<
 #[test]
 fn schedules_are_played_over_and_over(rt: HostRuntime) -> Result<(), Fail> {
     let alloc = rt.alloc();
-    for text in [PAIR, SUMS, CIRCLE, CELLS, RATES] {
+    for text in [PAIR, SUMS, CIRCLE, CELLS, RATES, CANCELLER] {
         let accepted = accepted_in(alloc, text)?;
         play_schedule(&rt, alloc, &accepted)?;
     }
