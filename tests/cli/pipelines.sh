@@ -25,6 +25,10 @@ for folder in "$top"/examples/*/; do
     run_case "$command examples/$name" /dev/null "$folder/expected/$command" /dev/null 0 \
       "$command" "$folder/graph.toml"
   done
+  if [[ -f "$folder/expected/dot" ]]; then
+    run_case "dot examples/$name" /dev/null "$folder/expected/dot" /dev/null 0 \
+      dot "$folder/graph.toml"
+  fi
   for workers in 1 2 8; do
     run_pipeline "$folder" "$name" "$workers"
   done

@@ -2,7 +2,7 @@
 use Rattle.std.proofs.Common.{◌≡◌, ℕ, Bool, List, [], ◌∷◌, ◌++◌, Option, Some, None, true, false, codes, map, refl}
 use Rattle.clap.specs.Words.{Shape, Text, fault_of, takes}
 use Rattle.clap.proofs.OnLiterals.{clap_on_literals}
-use Rattle.csdf_tool.specs.declared.question.Question.TheVariants.{Check, Repetition, Schedule, Capacity}
+use Rattle.csdf_tool.specs.declared.question.Question.TheVariants.{Check, Repetition, Schedule, Capacity, Dot}
 use Rattle.csdf_tool.specs.CommandLine.{program, asked_by, asked_of, words_ask, Asked, Input, Moves, Ask, Run}
 
 abbrev on : Text → List Text
@@ -23,6 +23,10 @@ schedule_asks = refl
 capacity_asks : words_ask (on (codes "capacity")) ≡ Ask Capacity (codes "a.toml")
 unfolding clap_on_literals asked_by asked_of
 capacity_asks = refl
+
+dot_asks : words_ask (on (codes "dot")) ≡ Ask Dot (codes "a.toml")
+unfolding clap_on_literals asked_by asked_of
+dot_asks = refl
 
 moves_asks : words_ask (on (codes "moves")) ≡ Moves (codes "a.toml")
 unfolding clap_on_literals asked_by asked_of

@@ -4,6 +4,7 @@ pub mod SessionLemmas
 pub mod AnswerLemmas
 pub mod CommandExamples
 pub mod CommandLemmas
+pub mod DotLemmas
 pub mod EndLemmas
 pub mod ToldLemmas
 pub mod RunLemmas

@@ -10,7 +10,7 @@ use Rattle.csdf_tool.specs.declared.command.Request.{Request}
 use Rattle.csdf_tool.specs.declared.command.Request.TheVariants as request
 use Rattle.csdf_tool.specs.declared.order.RunOrder.{RunOrder}
 use Rattle.csdf_tool.specs.declared.question.Question.{Question}
-use Rattle.csdf_tool.specs.declared.question.Question.TheVariants.{Check, Repetition, Schedule, Capacity}
+use Rattle.csdf_tool.specs.declared.question.Question.TheVariants.{Check, Repetition, Schedule, Capacity, Dot}
 
 -- ---- the commands
 
@@ -43,7 +43,7 @@ abbrev pub with_questions : App → App
 with_questions a =
     let two = with_command (with_command a (codes "moves")) (codes "check") in
     let four = with_command (with_command two (codes "repetition")) (codes "schedule") in
-    with_command four (codes "capacity")
+    with_command (with_command four (codes "capacity")) (codes "dot")
 
 abbrev pub program : App
 program = with_questions (with_subcommand no_commands run_command.top)
@@ -102,6 +102,7 @@ asked_by name path =
     else if bytes_eq name (codes "repetition") then Ask Repetition path
     else if bytes_eq name (codes "schedule") then Ask Schedule path
     else if bytes_eq name (codes "capacity") then Ask Capacity path
+    else if bytes_eq name (codes "dot") then Ask Dot path
     else if bytes_eq name (codes "moves") then Moves path
     else Input
 

@@ -13,6 +13,7 @@ use Rattle.csdf_analysis.specs.Repetition.{IsRepetition, IsRefused}
 use Rattle.csdf_tool.specs.declared.fault.ToolFault.{ToolFault}
 use Rattle.csdf_tool.specs.declared.question.Question.{Question}
 use Rattle.csdf_tool.specs.declared.question.Question.TheVariants as question
+use Rattle.csdf_tool.specs.Drawing.{dot_text}
 use Rattle.csdf_tool.specs.Faults.{fault_of, accept_fault}
 use Rattle.csdf_tool.specs.Printed.{newline, names_of, name_at}
 use Rattle.csdf_tool.specs.Session.{RefusesGraph}
@@ -76,6 +77,9 @@ TellsSchedule a text =
 abbrev pub TellsCapacity : Accepted → List ℕ → Type 0
 TellsCapacity a text = text ≡ capacity_text a
 
+abbrev pub TellsDot : Accepted → List ℕ → Type 0
+TellsDot a text = text ≡ dot_text a
+
 -- the answers to the questions
 abbrev pub IsCheck : Graph → Result (List ℕ) ToolFault → Type 0
 IsCheck g = ByRepetition g (λ r q. check_text (length g.actors) (length g.channels))
@@ -89,12 +93,16 @@ IsScheduleTold g = ByAcceptance g TellsSchedule
 abbrev pub IsCapacityTold : Graph → Result (List ℕ) ToolFault → Type 0
 IsCapacityTold g = ByAcceptance g TellsCapacity
 
+abbrev pub IsDotTold : Graph → Result (List ℕ) ToolFault → Type 0
+IsDotTold g = ByAcceptance g TellsDot
+
 -- the answer to a question about a graph, or its first fault
 abbrev pub IsTold : Question → Graph → Result (List ℕ) ToolFault → Type 0
 IsTold question.Check g = IsCheck g
 IsTold question.Repetition g = IsRepetitionTold g
 IsTold question.Schedule g = IsScheduleTold g
 IsTold question.Capacity g = IsCapacityTold g
+IsTold question.Dot g = IsDotTold g
 
 -- the answer to a question about a graph file, or its first fault: those of the file come first
 abbrev pub IsDescription : Question → List ℕ → Result (List ℕ) ToolFault → Type 0

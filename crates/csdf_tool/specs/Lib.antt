@@ -1,5 +1,6 @@
 pub mod CommandLine
 pub mod Described
+pub mod Drawing
 pub mod Ends
 pub mod Faults
 pub mod Lines

@@ -155,12 +155,14 @@ fn with_questions<'a>(alloc: Global, program: Command<'a>) -> Result<Command<'a>
     let program = with_command(alloc, program, "repetition", cycles)?;
     let firings = "Print the actor of each firing of a period";
     let program = with_command(alloc, program, "schedule", firings)?;
-    with_command(
+    let program = with_command(
         alloc,
         program,
         "capacity",
         "Print the least channel capacities",
-    )
+    )?;
+    let drawing = "Print the graph for Graphviz, which draws it";
+    with_command(alloc, program, "dot", drawing)
 }
 
 /// The program's command line.
@@ -190,6 +192,7 @@ fn asked_by<'a>(command: &str, graph: &'a str) -> Request<'a>
         "repetition" => Request::Ask(Question::Repetition, graph),
         "schedule" => Request::Ask(Question::Schedule, graph),
         "capacity" => Request::Ask(Question::Capacity, graph),
+        "dot" => Request::Ask(Question::Dot, graph),
         "moves" => Request::Moves(graph),
         _ => Request::Input,
     }

@@ -58,6 +58,52 @@ fn a_graph_with_no_answer_is_told(rt: HostRuntime) -> Result<(), Fail> {
     Ok(())
 }
 
+/// A row whose first channel begins with three tokens, whose second with as many as are drawn, and
+/// whose third with one more; its middle is a filter of two phases, which feeds itself.
+const FILLED: &str = r#"actor = [
+  { name = "src", kernel = "source" },
+  { name = "mean", kernel = "fir", weights = [1, 1], shift = 1, phases = 2 },
+  { name = "snk", kernel = "sink" },
+]
+channel = [
+  { name = "x", from = "src", to = "mean", produce = [3], consume = [2, 1], initial = [7, 8, 9] },
+  { name = "y", from = "mean", to = "snk", produce = [0, 1], consume = [1], initial = [1, 2, 3, 4, 5, 6, 7, 8] },
+  { name = "z", from = "mean", to = "mean", produce = [1, 1], consume = [1, 1], initial = [1, 2, 3, 4, 5, 6, 7, 8, 9] },
+]
+"#;
+
+#[test]
+fn a_graph_is_drawn(rt: HostRuntime) -> Result<(), Fail> {
+    let row = answer_to(&rt, Question::Dot, ROW)?;
+    let wanted = r#"digraph csdf {
+  rankdir=LR;
+  node [shape=box];
+  n0 [label="a\nsource\nphases 1, firings 3"];
+  n1 [label="b\ncopy\nphases 1, firings 2"];
+  n2 [label="c\nsink\nphases 1, firings 1"];
+  n0 -> n1 [label="x\nrates 2 / 3\ncapacity 4\n"];
+  n1 -> n2 [label="y\nrates 1 / 2\ncapacity 2\n"];
+}
+"#;
+    assert_eq!(rt; row.as_str(), wanted);
+    let filled = answer_to(&rt, Question::Dot, FILLED)?;
+    let wanted = r#"digraph csdf {
+  rankdir=LR;
+  node [shape=box];
+  n0 [label="src\nsource\nphases 1, firings 1"];
+  n1 [label="mean\nfir\nphases 2, firings 2"];
+  n2 [label="snk\nsink\nphases 1, firings 1"];
+  n0 -> n1 [label="x\nrates 3 / 2 1\ncapacity 3\n•••"];
+  n1 -> n2 [label="y\nrates 0 1 / 1\ncapacity 8\n••••••••"];
+  n1 -> n1 [label="z\nrates 1 1 / 1 1\ncapacity 9\n9 •"];
+}
+"#;
+    assert_eq!(rt; filled.as_str(), wanted);
+    let stuck = answer_to(&rt, Question::Dot, STUCK)?;
+    assert_eq!(rt; stuck.as_str(), "csdf: graph: deadlock");
+    Ok(())
+}
+
 /// What the program writes for a command line, without its own name, whose words stand apart by
 /// one space: its status, standard output and standard error.
 fn run<R: Files + AllocGlobal + Threads + Wait + Sync>(

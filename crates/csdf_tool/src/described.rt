@@ -3,9 +3,10 @@
 ghost use Rattle.std.specs.Prelude.{◌≡◌, ◌≢◌, ℕ, List, true, Ok, Err, string_bytes, IfErr, IfOk, OnOk};
 ghost use Rattle.std.specs.Io.KnownBytes.{Appends};
 ghost use Rattle.csdf_analysis.specs.Repetition.{IsRepetition};
-ghost use Rattle.csdf_tool.specs.Described.{RefusesRepetition, IsCheck, IsRepetitionTold, IsScheduleTold, IsCapacityTold, IsTold, IsDescription};
+ghost use Rattle.csdf_tool.specs.Described.{RefusesRepetition, IsCheck, IsRepetitionTold, IsScheduleTold, IsCapacityTold, IsDotTold, IsTold, IsDescription};
 ghost use Rattle.csdf_tool.specs.Faults.{Tells};
 
+use crate::drawing::dot_text;
 use crate::fault::{Stream, ToolFault};
 use crate::question::{Question, capacity_text, check_text, repetition_text, schedule_text};
 use crate::session::{accept_fault, accepted_of};
@@ -60,6 +61,15 @@ fn capacity_of(alloc: Global, graph: Graph) -> Result<String, ToolFault>
     Ok(text)
 }
 
+/// The drawing of the graph, or why it is not accepted.
+fn dot_of(alloc: Global, graph: Graph) -> Result<String, ToolFault>
+    ensures { Tells string_bytes result (IsDotTold graph) }
+{
+    let accepted = accepted_of(alloc, graph)?;
+    let text = dot_text(alloc, &accepted)?;
+    Ok(text)
+}
+
 /// The answer to a question about a graph, or why there is none.
 fn told(alloc: Global, question: Question, graph: Graph) -> Result<String, ToolFault>
     ensures { Tells string_bytes result (IsTold question graph) }
@@ -69,6 +79,7 @@ fn told(alloc: Global, question: Question, graph: Graph) -> Result<String, ToolF
         Question::Repetition => repetition_of(alloc, &graph),
         Question::Schedule => schedule_of(alloc, graph),
         Question::Capacity => capacity_of(alloc, graph),
+        Question::Dot => dot_of(alloc, graph),
     }
 }
 

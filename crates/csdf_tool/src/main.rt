@@ -6,6 +6,7 @@ mod command;
 #[cfg(test)]
 mod command_tests;
 mod described;
+mod drawing;
 mod fault;
 mod files;
 mod line;

@@ -21,6 +21,8 @@ pub enum Question {
     Schedule,
     /// The least capacities of its channels.
     Capacity,
+    /// A drawing of it, in the language of Graphviz.
+    Dot,
 }
 
 /// How many actors and channels a consistent graph has.

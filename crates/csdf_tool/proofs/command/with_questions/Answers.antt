@@ -9,4 +9,5 @@ returns c =
     let two = c.in_ok-program-2.ensures ∙ ap (λ (a : App). with_command a (codes "check")) c.in_ok-program.ensures in
     let three = c.in_ok-program-3.ensures ∙ ap (λ (a : App). with_command a (codes "repetition")) two in
     let four = c.in_ok-program-4.ensures ∙ ap (λ (a : App). with_command a (codes "schedule")) three in
-    IfOk-weaker c.with_command-5.result _ _ (λ r h. h ∙ ap (λ (a : App). with_command a (codes "capacity")) four) c.with_command-5.ensures
+    let five = c.in_ok-program-5.ensures ∙ ap (λ (a : App). with_command a (codes "capacity")) four in
+    IfOk-weaker c.with_command-6.result _ _ (λ r h. h ∙ ap (λ (a : App). with_command a (codes "dot")) five) c.with_command-6.ensures
