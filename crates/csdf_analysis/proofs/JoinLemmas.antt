@@ -34,7 +34,7 @@ product_some : (m n : ℕ) → 1 ≤ m → 0 < n → 0 < m * n
 product_some zero n a b = absurd (omega arith)
 product_some (suc m) n a b = let more : suc m * n ≡ m * n + n = omega arith in omega arith
 
-entry_some : (n : ℕ) (ms : List Member) (a : ℕ) → AreEntries n ms → a < n → 1 ≤ entry_at ms a
+pub entry_some : (n : ℕ) (ms : List Member) (a : ℕ) → AreEntries n ms → a < n → 1 ≤ entry_at ms a
 entry_some n ms a entries lt = (All-get_or (λ (x : Member). (1 ≤ x.entry) × (x.entry ≤ 1024)) ms a nobody (omega (arith, entries.each_actor)) entries.within).0
 
 taken_some : (actors : List Actor) (c : Channel) (ms : List Member) → IsLink actors c → AreEntries (length actors) ms → 0 < taken_of actors c ms
@@ -260,7 +260,7 @@ taken_read actors c ms to taken link entries at_to is_taken =
 product_within : (m n : ℕ) → m ≤ 1024 → n ≤ 1024 → m * n ≤ 1048576
 product_within m n a b = let most : m * n ≤ 1024 * 1024 = mul-le-mul a b in omega arith
 
-entry_few : (n : ℕ) (ms : List Member) (a : ℕ) → AreEntries n ms → a < n → entry_at ms a ≤ 1024
+pub entry_few : (n : ℕ) (ms : List Member) (a : ℕ) → AreEntries n ms → a < n → entry_at ms a ≤ 1024
 entry_few n ms a entries lt = (All-get_or (λ (x : Member). (1 ≤ x.entry) × (x.entry ≤ 1024)) ms a nobody (omega (arith, entries.each_actor)) entries.within).1
 
 pub put_within : (actors : List Actor) (c : Channel) (ms : List Member) (put : ℕ) → IsLink actors c → AreEntries (length actors) ms → put ≡ put_of actors c ms

@@ -52,10 +52,10 @@ front_and_next cs i c lt at = take-suc cs i c lt ∙ ap (λ d. take i cs ++ d �
 abbrev pub entries_of : List Member → List ℕ
 entries_of ms = map (λ (m : Member). m.entry) ms
 
-entries_at : (ms : List Member) (a : ℕ) → slice_index (entries_of ms) a ≡ entry_at ms a
+pub entries_at : (ms : List Member) (a : ℕ) → slice_index (entries_of ms) a ≡ entry_at ms a
 entries_at ms a = get_or-map (λ (m : Member). m.entry) ms a nobody
 
-entries_vector : (actors : List Actor) (ms : List Member) → AreEntries (length actors) ms → IsVector actors (entries_of ms)
+pub entries_vector : (actors : List Actor) (ms : List Member) → AreEntries (length actors) ms → IsVector actors (entries_of ms)
 entries_vector actors ms entries = record {
   each_actor = length-map ms (λ (m : Member). m.entry) ∙ entries.each_actor;
   positive = All-map (λ n. 1 ≤ n) (λ (m : Member). m.entry) ms (λ i d lt. (entries.within i d lt).0);
@@ -64,7 +64,8 @@ entries_vector actors ms entries = record {
 pub entries_small : (actors : List Actor) (ms : List Member) → AreEntries (length actors) ms → IsSmall (entries_of ms)
 entries_small actors ms entries = All-map (λ n. n ≤ 1024) (λ (m : Member). m.entry) ms (λ i d lt. (entries.within i d lt).1)
 
-entries_balance : (actors : List Actor) (channels : List Channel) (ms : List Member) → AreMembers actors channels ms → Balances actors (entries_of ms) channels
+pub entries_balance : (actors : List Actor) (channels : List Channel) (ms : List Member) → AreMembers actors channels ms
+    → Balances actors (entries_of ms) channels
 entries_balance actors channels ms members i d lt =
     let c = slice_index_or channels i d in
     ap (λ n. n * cycle_produced actors c) (entries_at ms c.from) ∙ members.balanced i d lt ∙ ap (λ n. n * cycle_consumed actors c) (sym (entries_at ms c.to))

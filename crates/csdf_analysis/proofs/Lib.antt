@@ -2,6 +2,7 @@ pub mod DivisorLemmas
 pub mod MemberLemmas
 pub mod JoinLemmas
 pub mod LeastLemmas
+pub mod DemandLemmas
 pub mod BoundLemmas
 pub mod CountLemmas
 pub mod PeriodLemmas
@@ -10,5 +11,6 @@ pub mod FiringLemmas
 pub mod FitLemmas
 pub mod RunLemmas
 pub mod SearchLemmas
+pub mod StallLemmas
 pub mod LowerLemmas
 pub mod WakeLemmas

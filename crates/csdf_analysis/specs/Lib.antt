@@ -1,5 +1,6 @@
 pub mod Acceptance
 pub mod Capacities
+pub mod Demands
 pub mod Divisor
 pub mod Fitting
 pub mod Laws
@@ -8,4 +9,5 @@ pub mod Members
 pub mod Period
 pub mod Repetition
 pub mod Running
+pub mod Stalling
 pub mod Waking

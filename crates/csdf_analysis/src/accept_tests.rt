@@ -6,7 +6,7 @@ use std::alloc::{AllocError, Global};
 use std::test::Fail;
 
 /// The chain where the first channel has too small a capacity, and where it has a large one.
-const TIGHT_CHAIN: &str = r#"cells = 7
+pub(crate) const TIGHT_CHAIN: &str = r#"cells = 7
 actor = [
   { name = "a", kernel = "source" },
   { name = "b", kernel = "copy" },
@@ -31,7 +31,7 @@ channel = [
 "#;
 
 /// A cycle with no token, and one with a token.
-const STUCK_CYCLE: &str =
+pub(crate) const STUCK_CYCLE: &str =
     r#"actor = [{ name = "a", kernel = "copy" }, { name = "b", kernel = "copy" }]
 channel = [
   { name = "x", from = "a", to = "b", produce = [1], consume = [1] },

@@ -23,7 +23,7 @@ pub(crate) fn phases_of(actors: &[Actor], number: u32) -> u32
 }
 
 /// How many tokens so many cycles of the producer put into the channel.
-fn put_in(actors: &[Actor], channel: &Channel, cycles: u32) -> u64
+pub(crate) fn put_in(actors: &[Actor], channel: &Channel, cycles: u32) -> u64
     requires { IsLink (map actor_view actors.now) (channel_view channel.now) }
     ensures { result ≡ cycles * cycle_produced (map actor_view actors.now) (channel_view channel.now) }
 {
@@ -31,7 +31,7 @@ fn put_in(actors: &[Actor], channel: &Channel, cycles: u32) -> u64
 }
 
 /// How many tokens so many cycles of the consumer take out of the channel.
-fn taken_out(actors: &[Actor], channel: &Channel, cycles: u32) -> u64
+pub(crate) fn taken_out(actors: &[Actor], channel: &Channel, cycles: u32) -> u64
     requires { IsLink (map actor_view actors.now) (channel_view channel.now) }
     ensures { result ≡ cycles * cycle_consumed (map actor_view actors.now) (channel_view channel.now) }
 {

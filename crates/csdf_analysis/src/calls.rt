@@ -1,6 +1,8 @@
-//! The four calls that analyse a graph, each in a file of its name.
+//! The calls that analyse a graph, each in a file of its name.
 
 pub(crate) mod capacities;
+pub(crate) mod demand;
 pub(crate) mod raise;
 pub(crate) mod repetition;
 pub(crate) mod schedule;
+pub(crate) mod stall;

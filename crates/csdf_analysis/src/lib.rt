@@ -5,6 +5,7 @@
 mod accepted;
 mod balance;
 mod calls;
+mod demand;
 mod fault;
 mod gcd;
 mod laws;
@@ -13,18 +14,26 @@ mod members;
 mod neighbours;
 mod net;
 mod run;
+mod stall;
 mod vector;
+mod waits;
 
 pub use accepted::{Accepted, accept};
 pub use calls::capacities::capacities;
+pub use calls::demand::demand_of;
 pub use calls::raise::raise;
 pub use calls::repetition::repetition;
 pub use calls::schedule::schedule;
+pub use calls::stall::stall_of;
+pub use demand::{Demand, Ratio};
 pub use fault::AcceptFault;
 pub use laws::{every_schedule_goes_on, full_capacity_suffices, greater_capacities_complete};
+pub use stall::{Bounds, Stall, Wait};
 pub use vector::Vector;
 
 #[cfg(test)]
 mod accept_tests;
+#[cfg(test)]
+mod stall_tests;
 #[cfg(test)]
 mod tests;

@@ -18,9 +18,9 @@ use std::alloc::{AllocError, Global};
 #[derive(Drop)]
 pub(crate) struct Run {
     pub(crate) bounds: Vec<u32>,
-    counts: Vec<u32>,
+    pub(crate) counts: Vec<u32>,
     phases: Vec<u32>,
-    lengths: Vec<u32>,
+    pub(crate) lengths: Vec<u32>,
     pub(crate) firings: u32,
 }
 
@@ -112,7 +112,7 @@ impl Run {
 
     /// The phase of the actor's next firing.
     #[inline(always)]
-    fn phase(&self, net: &Net, actor: u32) -> u32
+    pub(crate) fn phase(&self, net: &Net, actor: u32) -> u32
         requires run { IsRun net.now self.now }
         requires exists { actor < length net.now.firings }
         ensures value { result ≡ slice_index self.now.counts.items actor % phases_of net.now.actors actor }
@@ -126,7 +126,7 @@ impl Run {
 
     /// Whether the channel holds what the consumer takes in this phase, which is its next firing's.
     #[inline(always)]
-    fn holds_enough(&self, net: &Net, number: u32, phase: u32) -> bool
+    pub(crate) fn holds_enough(&self, net: &Net, number: u32, phase: u32) -> bool
         requires run { IsRun net.now self.now }
         requires exists { number < length net.now.channels }
         requires within { (c : ChannelModel) → slice_get net.now.channels number ≡ Some c → phase < phases_of net.now.actors c.to }
@@ -140,7 +140,7 @@ impl Run {
 
     /// How many tokens the channel would hold after the next firing of its producer.
     #[inline(always)]
-    fn filled(&self, net: &Net, number: u32) -> u32
+    pub(crate) fn filled(&self, net: &Net, number: u32) -> u32
         requires run { IsRun net.now self.now }
         requires exists { number < length net.now.channels }
         ensures { (c : ChannelModel) → slice_get net.now.channels number ≡ Some c → result ≡ held_after c.from self.now.counts.items c }

@@ -14,7 +14,11 @@ use csdf_graph::{Channel, Graph};
 use std::alloc::{AllocError, Global};
 
 /// The initial tokens of each channel and all that its producer puts in within a period.
-fn full_capacities(alloc: Global, channels: &[Channel], q: &[u32]) -> Result<Vec<u32>, AllocError>
+pub(crate) fn full_capacities(
+    alloc: Global,
+    channels: &[Channel],
+    q: &[u32],
+) -> Result<Vec<u32>, AllocError>
     requires channels { All (IsWithin (length q.now)) (map channel_view channels.now) }
     requires room { HaveRoom q.now (map channel_view channels.now) }
     ensures { IfOk result (λ v. v.items ≡ full_capacities q.now (map channel_view channels.now)) }
@@ -27,7 +31,11 @@ fn full_capacities(alloc: Global, channels: &[Channel], q: &[u32]) -> Result<Vec
 }
 
 /// The given capacity of each channel, or else its full one.
-fn first_bounds(alloc: Global, channels: &[Channel], q: &[u32]) -> Result<Vec<u32>, AllocError>
+pub(crate) fn first_bounds(
+    alloc: Global,
+    channels: &[Channel],
+    q: &[u32],
+) -> Result<Vec<u32>, AllocError>
     requires channels { All (IsWithin (length q.now)) (map channel_view channels.now) }
     requires room { HaveRoom q.now (map channel_view channels.now) }
     ensures { IfOk result (λ v. v.items ≡ first_bounds q.now (map channel_view channels.now)) }

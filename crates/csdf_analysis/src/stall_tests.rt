@@ -1,0 +1,62 @@
+use super::*;
+use crate::accept_tests::{STUCK_CYCLE, TIGHT_CHAIN};
+use crate::tests::{CHAIN, DISAGREEING, STEEP, graph};
+use std::test::Fail;
+
+fn stall_in(rt: &HostRuntime, text: &str, bounds: Bounds) -> Result<Stall, Fail> {
+    let graph = graph(rt, text)?;
+    let vector = repetition(rt.alloc(), &graph)?;
+    Ok(stall_of(rt.alloc(), &graph, &vector, bounds)?)
+}
+
+#[test]
+fn a_cycle_without_tokens_waits_for_them(rt: HostRuntime) -> Result<(), Fail> {
+    let stall = stall_in(&rt, STUCK_CYCLE, Bounds::Full)?;
+    assert_eq!(rt; stall.bounds.as_slice(), [1, 1].as_slice());
+    assert_eq!(rt; stall.counts.as_slice(), [0, 0].as_slice());
+    assert_eq!(rt; stall.held.as_slice(), [0, 0].as_slice());
+    let waits = [Some(Wait::Tokens(1)), Some(Wait::Tokens(0))];
+    assert_eq!(rt; stall.waits.as_slice(), waits.as_slice());
+    Ok(())
+}
+
+#[test]
+fn a_full_channel_is_waited_for(rt: HostRuntime) -> Result<(), Fail> {
+    let stall = stall_in(&rt, TIGHT_CHAIN, Bounds::Given)?;
+    assert_eq!(rt; stall.bounds.as_slice(), [3, 2].as_slice());
+    assert_eq!(rt; stall.counts.as_slice(), [1, 0, 0].as_slice());
+    assert_eq!(rt; stall.held.as_slice(), [2, 0].as_slice());
+    let waits = [
+        Some(Wait::Room(0)),
+        Some(Wait::Tokens(0)),
+        Some(Wait::Tokens(1)),
+    ];
+    assert_eq!(rt; stall.waits.as_slice(), waits.as_slice());
+    Ok(())
+}
+
+#[test]
+fn a_whole_period_waits_for_nothing(rt: HostRuntime) -> Result<(), Fail> {
+    let stall = stall_in(&rt, CHAIN, Bounds::Full)?;
+    assert_eq!(rt; stall.bounds.as_slice(), [6, 2].as_slice());
+    assert_eq!(rt; stall.counts.as_slice(), [3, 2, 1].as_slice());
+    assert_eq!(rt; stall.waits.as_slice(), [None, None, None].as_slice());
+    Ok(())
+}
+
+fn second_demand(rt: &HostRuntime, text: &str) -> Result<Demand, Fail> {
+    let graph = graph(rt, text)?;
+    assert!(rt; graph.channels().len() == 2);
+    Ok(demand_of(rt.alloc(), &graph, 1)?)
+}
+
+#[test]
+fn channels_ask_for_different_ratios(rt: HostRuntime) -> Result<(), Fail> {
+    let demand = second_demand(&rt, DISAGREEING)?;
+    assert_eq!(rt; demand.own, Ratio { from: 1, to: 2 });
+    assert_eq!(rt; demand.before, Some(Ratio { from: 1, to: 1 }));
+    let demand = second_demand(&rt, STEEP)?;
+    assert_eq!(rt; demand.own, Ratio { from: 64, to: 1 });
+    assert_eq!(rt; demand.before, None);
+    Ok(())
+}
