@@ -7,24 +7,16 @@ mod ending;
 mod fault;
 mod floor;
 mod gate;
-#[cfg(test)]
-mod gate_tests;
 mod hall;
 mod hints;
 mod jobs;
 mod laws;
 mod lists;
-#[cfg(test)]
-mod oracle_tests;
 mod outcome;
 mod printed;
 mod running;
 mod same;
 mod settling;
-#[cfg(test)]
-mod tests;
-#[cfg(test)]
-mod text_tests;
 mod texts;
 mod work;
 mod worker;

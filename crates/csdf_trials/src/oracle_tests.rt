@@ -1,4 +1,4 @@
-use crate::{Ending, Open, Outcome, are_feeds, run};
+use csdf_run::{Ending, Open, Outcome, are_feeds, run};
 use csdf_analysis::{Accepted, accept};
 use csdf_graph::{Channel, Graph, Kernel, read_graph};
 use std::alloc::Global;

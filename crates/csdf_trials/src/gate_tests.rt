@@ -1,7 +1,7 @@
 ghost use Rattle.std.specs.Prelude.{◌≡◌};
 ghost use Rattle.csdf_claims.specs.Board.{Holds, KeepsAll};
 
-use crate::{Gate, Outcome, are_feeds, run};
+use csdf_run::{Gate, Outcome, are_feeds, run};
 use csdf_analysis::{Accepted, accept};
 use csdf_claims::{Board, Place};
 use csdf_graph::read_graph;
@@ -241,6 +241,6 @@ fn long_chain(alloc: Global) -> Result<String, Fail> {
 #[test]
 fn sixty_four_actors_by_eight_workers(rt: HostRuntime) -> Result<(), Fail> {
     let text = long_chain(rt.alloc())?;
-    let outcome = outcome_of(&rt, rt.alloc(), text.as_str(), &[7], 8, &crate::Open)?;
+    let outcome = outcome_of(&rt, rt.alloc(), text.as_str(), &[7], 8, &csdf_run::Open)?;
     check_taken(&rt, rt.alloc(), &outcome, 7)
 }

@@ -1,7 +1,7 @@
 ghost use Rattle.std.specs.Prelude.{◌≤◌, IfOk, length};
 ghost use Rattle.csdf_run.specs.Floor.{IsReady};
 
-use crate::{
+use csdf_run::{
     DeliverFault, Ending, Floor, Open, Outcome, RunFault, StartFault, are_feeds, printed_report,
     run, settle,
 };

@@ -1,4 +1,4 @@
-use crate::{Ending, Texts, TextsFault, run_texts};
+use csdf_run::{Ending, Texts, TextsFault, run_texts};
 use csdf_analysis::AcceptFault;
 use csdf_graph::{GraphFault, TokenFault};
 use std::alloc::Global;
