@@ -42,7 +42,12 @@ fn numbers(alloc: Global, count: usize) -> Result<Vec<usize>, AllocError>
     (0..count).collect(alloc)
 }
 
-fn groups_of(alloc: Global, count: usize, channels: &[Channel]) -> Result<Vec<usize>, AllocError>
+/// A number for each of so many actors, the same for those that channels join.
+pub(crate) fn groups_of(
+    alloc: Global,
+    count: usize,
+    channels: &[Channel],
+) -> Result<Vec<usize>, AllocError>
     ensures { IfOk result (λ v. v.items ≡ groups_of count (map channel_view channels.now)) }
 {
     let mut groups = numbers(alloc, count)?;

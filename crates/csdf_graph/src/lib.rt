@@ -4,6 +4,7 @@
 mod checks;
 mod connected;
 mod device;
+mod explained;
 mod fault;
 mod from_reader;
 mod fused;
@@ -29,6 +30,7 @@ mod tokens;
 mod tree;
 
 pub use device::{DeviceFailed, Intake, Outlet};
+pub use explained::explain_fault;
 pub use fault::{At, GraphFault};
 pub use from_reader::FromReader;
 pub use fused::Fused;
@@ -49,5 +51,7 @@ pub use tokens::{TOKEN_LIMIT, TokenFault, read_tokens, write_tokens, written_tok
 
 #[cfg(test)]
 mod byte_tests;
+#[cfg(test)]
+mod explained_tests;
 #[cfg(test)]
 mod tests;

@@ -1,0 +1,105 @@
+//! Why a graph file is refused, in words for those who wrote it.
+
+mod keys;
+mod misfit;
+mod names;
+mod numbers;
+mod ports;
+mod rates;
+
+use crate::explained::keys::shape_misfit;
+use crate::explained::misfit::{Misfit, table_at};
+use crate::explained::names::{end_misfit, name_misfit, name_of};
+use crate::explained::numbers::range_misfit;
+use crate::explained::ports::{ports_misfit, push_unjoined};
+use crate::explained::rates::{length_misfit, zero_misfit};
+use crate::fault::{At, GraphFault};
+use std::alloc::{AllocError, Global};
+use toml::Table;
+
+/// The place of a fault, where it has one.
+fn place_of(fault: GraphFault) -> At {
+    match fault {
+        GraphFault::Shape(at) | GraphFault::Name(at) | GraphFault::Range(at) => at,
+        GraphFault::UnknownActor(number)
+        | GraphFault::PhaseLength(number)
+        | GraphFault::ZeroRate(number) => At::Channel(number),
+        GraphFault::KernelPorts(number) => At::Actor(number),
+        GraphFault::NotToml | GraphFault::NotConnected | GraphFault::Memory => At::File,
+    }
+}
+
+/// The key that a fault is about, where it is about one.
+fn misfit_of(file: &Table, fault: GraphFault) -> Option<Misfit<'_>> {
+    match fault {
+        GraphFault::Shape(at) => shape_misfit(file, at),
+        GraphFault::Name(at) => name_misfit(file, at),
+        GraphFault::Range(at) => range_misfit(file, at),
+        GraphFault::UnknownActor(number) => end_misfit(file, number),
+        GraphFault::PhaseLength(number) => length_misfit(file, number),
+        GraphFault::ZeroRate(number) => zero_misfit(file, number),
+        GraphFault::KernelPorts(number) => ports_misfit(file, number),
+        GraphFault::NotToml | GraphFault::NotConnected | GraphFault::Memory => None,
+    }
+}
+
+/// Appends the fault with the name of its table, then what is wrong there.
+fn push_fault(text: &mut String, file: &Table, fault: GraphFault) -> Result<(), AllocError> {
+    write!(text, "{fault}")?;
+    if let Some(name) = name_of(table_at(file, place_of(fault))) {
+        write!(text, " ({name})")?;
+    }
+    write!(text, "\n")?;
+    if let Some(misfit) = misfit_of(file, fault) {
+        write!(text, "{misfit}\n")?;
+    }
+    Ok(())
+}
+
+/// The bytes of the line in which this place is.
+fn line_at(bytes: &[u8], place: usize) -> &[u8] {
+    let (before, after) = bytes.split_at(place.min(bytes.len()));
+    let start = match before.iter().rposition(|byte| *byte == b'\n') {
+        Some(newline) => newline + 1,
+        None => 0,
+    };
+    let end = match after.iter().position(|byte| *byte == b'\n') {
+        Some(newline) => before.len() + newline,
+        None => bytes.len(),
+    };
+    &bytes[start..end]
+}
+
+/// Where the bytes are no TOML: what `toml` says, and the line.
+fn not_toml(alloc: Global, bytes: &[u8], error: &toml::de::Error) -> Result<String, AllocError> {
+    let mut text = String::new(alloc);
+    write!(text, "{error}")?;
+    let place = match error.span() {
+        Some(span) => span.start,
+        None => 0,
+    };
+    if let Ok(line) = str::from_utf8(line_at(bytes, place)) {
+        write!(text, "{line}\n")?;
+    }
+    Ok(text)
+}
+
+/// Why [`read_graph`](crate::read_graph) refuses a graph file with this fault: the fault with the
+/// name of its table, then the key, what was found there and what is wanted; for a text that is not
+/// TOML its line and column, and the line itself.
+///
+/// The error is want of memory.
+pub fn explain_fault(alloc: Global, bytes: &[u8], fault: GraphFault) -> Result<String, AllocError> {
+    match toml::table_from_slice(alloc, bytes) {
+        Ok(file) => {
+            let mut text = String::new(alloc);
+            push_fault(&mut text, &file, fault)?;
+            if fault == GraphFault::NotConnected {
+                push_unjoined(alloc, &mut text, &file)?;
+            }
+            Ok(text)
+        }
+        Err(error) if error.is_memory() => Err(AllocError),
+        Err(error) => not_toml(alloc, bytes, &error),
+    }
+}
