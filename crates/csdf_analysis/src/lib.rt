@@ -30,10 +30,3 @@ pub use fault::AcceptFault;
 pub use laws::{every_schedule_goes_on, full_capacity_suffices, greater_capacities_complete};
 pub use stall::{Bounds, Stall, Wait};
 pub use vector::Vector;
-
-#[cfg(test)]
-mod accept_tests;
-#[cfg(test)]
-mod stall_tests;
-#[cfg(test)]
-mod tests;

@@ -23,8 +23,3 @@ pub use playing::{Played, Reply, play, play_on};
 pub use refusal::Refusal;
 pub use setup::Setup;
 pub use stage::Stage;
-
-#[cfg(test)]
-mod period_tests;
-#[cfg(test)]
-mod tests;

@@ -48,10 +48,3 @@ pub use slice::Slice;
 pub use to_writer::ToWriter;
 pub use token_word::{WordFault, token_of};
 pub use tokens::{TOKEN_LIMIT, TokenFault, read_tokens, write_tokens, written_tokens_read_back};
-
-#[cfg(test)]
-mod byte_tests;
-#[cfg(test)]
-mod explained_tests;
-#[cfg(test)]
-mod tests;

@@ -1,10 +1,10 @@
 ghost use Rattle.std.specs.Prelude.{◌≡◌};
 ghost use Rattle.csdf_claims.specs.Board.{Holds, KeepsAll};
 
-use csdf_run::{Gate, Outcome, are_feeds, run};
 use csdf_analysis::{Accepted, accept};
 use csdf_claims::{Board, Place};
 use csdf_graph::read_graph;
+use csdf_run::{Gate, Outcome, are_feeds, run};
 use std::alloc::Global;
 use std::process::Abort;
 use std::sync::Wait;

@@ -1,6 +1,6 @@
-use csdf_run::{Ending, Open, Outcome, are_feeds, run};
 use csdf_analysis::{Accepted, accept};
 use csdf_graph::{Channel, Graph, Kernel, read_graph};
+use csdf_run::{Ending, Open, Outcome, are_feeds, run};
 use std::alloc::Global;
 use std::process::Abort;
 use std::sync::Wait;

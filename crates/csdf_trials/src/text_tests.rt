@@ -1,6 +1,6 @@
-use csdf_run::{Ending, Texts, TextsFault, run_texts};
 use csdf_analysis::AcceptFault;
 use csdf_graph::{GraphFault, TokenFault};
+use csdf_run::{Ending, Texts, TextsFault, run_texts};
 use std::alloc::Global;
 use std::process::Abort;
 use std::sync::Wait;

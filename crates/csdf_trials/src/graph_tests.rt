@@ -1,4 +1,7 @@
-use super::*;
+use csdf_graph::{
+    Actor, At, Channel, GraphFault, Kernel, Script, rate, read_graph, read_graph_and_script,
+    read_script,
+};
 use std::test::*;
 
 /// A source that makes 2 and 1 tokens in turn, and a sink that takes 3.

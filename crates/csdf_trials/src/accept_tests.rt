@@ -1,7 +1,9 @@
 ghost use Rattle.std.specs.Prelude.{◌<◌, length};
 
-use super::*;
-use crate::tests::{CHAIN, CONVERTER, DISAGREEING, TWO_PHASES, TWO_TOKENS, UNEVEN_PHASES, graph};
+use crate::analysis_tests::{
+    CHAIN, CONVERTER, DISAGREEING, TWO_PHASES, TWO_TOKENS, UNEVEN_PHASES, graph,
+};
+use csdf_analysis::{AcceptFault, Accepted, accept, capacities, raise, schedule};
 use std::alloc::{AllocError, Global};
 use std::test::Fail;
 

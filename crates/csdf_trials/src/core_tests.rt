@@ -1,7 +1,7 @@
 ghost use Rattle.std.specs.Prelude.{◌≡◌, ◌≤◌, All, length, IfOk};
 
-use super::*;
 use csdf_analysis::{Accepted, accept};
+use csdf_core::{Core, Move, Played, Reply, Setup, play};
 use csdf_graph::{Actor, Kernel, read_graph};
 use csdf_pool::Cells;
 use std::alloc::{AllocError, Global};

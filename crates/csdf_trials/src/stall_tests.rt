@@ -1,6 +1,6 @@
-use super::*;
+use csdf_analysis::{Bounds, Demand, Ratio, Stall, Wait, demand_of, repetition, stall_of};
 use crate::accept_tests::{STUCK_CYCLE, TIGHT_CHAIN};
-use crate::tests::{CHAIN, DISAGREEING, STEEP, graph};
+use crate::analysis_tests::{CHAIN, DISAGREEING, STEEP, graph};
 use std::test::Fail;
 
 fn stall_in(rt: &HostRuntime, text: &str, bounds: Bounds) -> Result<Stall, Fail> {

@@ -1,7 +1,6 @@
 //! Worked examples of devices and token files.
 
-use crate::token_word::word_of_line;
-use crate::{
+use csdf_graph::{
     DeviceFailed, FromReader, Fused, InputFault, Intake, Outlet, Slice, ToWriter, TokenFault,
     WordFault, WriteFault, read_bytes, read_tokens, token_of, write_bytes, write_tokens,
 };
@@ -11,7 +10,7 @@ use std::test::Fail;
 
 #[test]
 fn well_formed_texts_give_their_tokens(rt: HostRuntime) -> Result<(), Fail> {
-    let table: [(&[u8], &[i32]); 7] = [
+    let table: [(&[u8], &[i32]); 8] = [
         (b"", &[]),
         (b"7\n8", &[7, 8]),
         (b"1\n\n2\n", &[1, 2]),
@@ -19,6 +18,7 @@ fn well_formed_texts_give_their_tokens(rt: HostRuntime) -> Result<(), Fail> {
         (b"2147483647\n-2147483648\n", &[2147483647, -2147483648]),
         (b"-0\n", &[0]),
         (b"5 \r", &[5]),
+        (b" \t-12 \r", &[-12]),
     ];
     for (text, want) in table {
         let tokens = read_tokens(rt.alloc(), &mut Slice::new(text))?;
@@ -209,8 +209,6 @@ fn readers_give_their_bytes(rt: HostRuntime) -> Result<(), Fail> {
 
 #[test]
 fn words_are_read(rt: HostRuntime) {
-    assert_eq!(rt; word_of_line(b" \t-12 \r"), b"-12".as_slice());
-    assert_eq!(rt; word_of_line(b"\r"), b"".as_slice());
     assert_eq!(rt; token_of(b"-12"), Ok(-12));
     assert_eq!(rt; token_of(b""), Err(WordFault::Malformed));
     assert_eq!(rt; token_of(b"2147483648"), Err(WordFault::OutOfRange));

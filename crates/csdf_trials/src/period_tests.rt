@@ -1,6 +1,6 @@
 //! Printed schedules, played over and over.
-use super::*;
 use csdf_analysis::{Accepted, accept, schedule};
+use csdf_core::{Core, Setup};
 use csdf_graph::{Kernel, read_graph};
 use std::alloc::{AllocError, Global};
 use std::process::Abort;

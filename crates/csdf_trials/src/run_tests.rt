@@ -1,14 +1,14 @@
 ghost use Rattle.std.specs.Prelude.{◌≤◌, IfOk, length};
 ghost use Rattle.csdf_run.specs.Floor.{IsReady};
 
-use csdf_run::{
-    DeliverFault, Ending, Floor, Open, Outcome, RunFault, StartFault, are_feeds, printed_report,
-    run, settle,
-};
 use csdf_analysis::{Accepted, accept};
 use csdf_core::Refusal;
 use csdf_graph::read_graph;
 use csdf_kernel::{Counts, Done, Inputs, Job, eval};
+use csdf_run::{
+    DeliverFault, Ending, Floor, Open, Outcome, RunFault, StartFault, are_feeds, printed_report,
+    run, settle,
+};
 use std::alloc::Global;
 use std::process::Abort;
 use std::sync::Wait;

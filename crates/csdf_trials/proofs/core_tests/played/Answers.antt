@@ -3,7 +3,7 @@ use Rattle.csdf_analysis.specs.Acceptance.{Accepted}
 use Rattle.csdf_core.specs.Layout.{plan_for}
 use Rattle.csdf_core.specs.Plan.{Plan}
 use Rattle.csdf_core.proofs.LayoutLemmas.{length-capacities}
-use Rattle.csdf_core.proofs.tests.played.Goals as goal
+use Rattle.csdf_trials.proofs.core_tests.played.Goals as goal
 
 pub returns-clause-channels : goal.returns-clause-channels
 returns-clause-channels c =

@@ -1,4 +1,4 @@
-use super::*;
+use csdf_graph::{explain_fault, read_graph};
 use std::alloc::{AllocError, Global};
 use std::test::*;
 

@@ -1,4 +1,4 @@
-use super::*;
+use csdf_analysis::{AcceptFault, repetition};
 use csdf_graph::{Graph, read_graph};
 use std::test::Fail;
 
