@@ -7,6 +7,7 @@ ghost use Rattle.csdf_tool.specs.CommandLine.{on_graph, on_files, run_command, n
 ghost use Rattle.csdf_tool.specs.CommandLine.{asked_view, asked_by, asked_of, asked, words_ask};
 ghost use Rattle.csdf_tool.specs.CommandLine.{number_in, number_of, order_of, order_view, word_of};
 
+use crate::help;
 use crate::order::RunOrder;
 use crate::question::Question;
 use clap::builder::ValueParser;
@@ -37,24 +38,21 @@ const PERIODS: &str = "periods";
 
 const FIRINGS: &str = "firings";
 
-/// What the help of `run` ends with.
-const ABOUT_FILES: &str = "\
-Reads DIR/NAME.in for each source NAME of the graph, one token a line. Once the run has ended,
-writes DIR/NAME.out for each sink NAME, over a file that is there, and then prints a report.
-
-Exit status: 0 the run has ended (complete, dry, stopped or starved), 1 an input was refused,
-2 these words were, 3 a file, memory or the run itself failed.
-
-Example: csdf run graph.toml tokens --workers 4 --periods 100
-reads tokens/src.in and writes tokens/snk.out, where the graph has a source src and a sink snk.";
-
-/// A command with a graph file.
-fn on_graph<'a>(alloc: Global, name: &'a str, about: &'a str) -> Result<Command<'a>, AllocError>
+/// A command with a graph file, and what its help ends with.
+fn on_graph<'a>(
+    alloc: Global,
+    name: &'a str,
+    about: &'a str,
+    more: &'a str,
+) -> Result<Command<'a>, AllocError>
     ensures app { IfOk result (λ command. app_of command ≡ on_graph name.entry.now) }
     ensures local { IfOk result (λ command. (fields_of command).has_globals ≡ false) }
 {
     let graph = Arg::new(alloc, GRAPH).required(true).help("The graph file");
-    Command::new(alloc, name).about(about).arg(graph)
+    Command::new(alloc, name)
+        .about(about)
+        .after_help(more)
+        .arg(graph)
 }
 
 /// A command with one more argument.
@@ -91,7 +89,7 @@ fn on_files<'a>(alloc: Global) -> Result<Command<'a>, AllocError>
     ensures app { IfOk result (λ command. app_of command ≡ on_files) }
     ensures local { IfOk result (λ command. (fields_of command).has_globals ≡ false) }
 {
-    let command = on_graph(alloc, "run", "Run a graph on token files")?.after_help(ABOUT_FILES);
+    let command = on_graph(alloc, "run", "Run a graph on token files", help::RUN)?;
     let folder = Arg::new(alloc, FOLDER)
         .required(true)
         .help("The folder of the token files");
@@ -121,9 +119,7 @@ fn no_commands<'a>(alloc: Global) -> Result<Command<'a>, AllocError>
         program
             .version("0.1.0")
             .about("Runs and analyses cyclo-static dataflow graphs")
-            .after_help(
-                "Without a command, the script of the graph file on standard input is played.",
-            )
+            .after_help(help::PROGRAM)
             .no_binary_name(true),
     )
 }
@@ -134,35 +130,29 @@ fn with_command<'a>(
     program: Command<'a>,
     name: &'a str,
     about: &'a str,
+    more: &'a str,
 ) -> Result<Command<'a>, AllocError>
     ensures { IfOk result (λ r. app_of r ≡ with_command (app_of program.entry) name.entry.now) }
 {
-    program.subcommand(on_graph(alloc, name, about)?)
+    program.subcommand(on_graph(alloc, name, about, more)?)
 }
 
 /// The program with the commands that answer a question or play a script.
 fn with_questions<'a>(alloc: Global, program: Command<'a>) -> Result<Command<'a>, AllocError>
     ensures { IfOk result (λ r. app_of r ≡ with_questions (app_of program.entry)) }
 {
-    let program = with_command(alloc, program, "moves", "Play the script of a graph file")?;
-    let program = with_command(
-        alloc,
-        program,
-        "check",
-        "Tell whether a graph is consistent",
-    )?;
-    let cycles = "Print each actor's cycles and firings in a period";
-    let program = with_command(alloc, program, "repetition", cycles)?;
-    let firings = "Print the actor of each firing of a period";
-    let program = with_command(alloc, program, "schedule", firings)?;
-    let program = with_command(
-        alloc,
-        program,
-        "capacity",
-        "Print the least channel capacities",
-    )?;
-    let drawing = "Print the graph for Graphviz, which draws it";
-    with_command(alloc, program, "dot", drawing)
+    let about = "Play the script of a graph file";
+    let program = with_command(alloc, program, "moves", about, help::MOVES)?;
+    let about = "Tell whether a graph is consistent";
+    let program = with_command(alloc, program, "check", about, help::CHECK)?;
+    let about = "Print each actor's cycles and firings in a period";
+    let program = with_command(alloc, program, "repetition", about, help::REPETITION)?;
+    let about = "Print the actor of each firing of a period";
+    let program = with_command(alloc, program, "schedule", about, help::SCHEDULE)?;
+    let about = "Print the least channel capacities";
+    let program = with_command(alloc, program, "capacity", about, help::CAPACITY)?;
+    let about = "Print the graph for Graphviz, which draws it";
+    with_command(alloc, program, "dot", about, help::DOT)
 }
 
 /// The program's command line.

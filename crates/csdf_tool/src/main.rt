@@ -9,6 +9,7 @@ mod described;
 mod drawing;
 mod fault;
 mod files;
+mod help;
 mod line;
 mod order;
 mod printed;
