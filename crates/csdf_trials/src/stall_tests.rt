@@ -1,6 +1,6 @@
-use csdf_analysis::{Bounds, Demand, Ratio, Stall, Wait, demand_of, repetition, stall_of};
 use crate::accept_tests::{STUCK_CYCLE, TIGHT_CHAIN};
 use crate::analysis_tests::{CHAIN, DISAGREEING, STEEP, graph};
+use csdf_analysis::{Bounds, Ratio, Stall, Wait, demand_of, repetition, stall_of};
 use std::test::Fail;
 
 fn stall_in(rt: &HostRuntime, text: &str, bounds: Bounds) -> Result<Stall, Fail> {
@@ -44,18 +44,21 @@ fn a_whole_period_waits_for_nothing(rt: HostRuntime) -> Result<(), Fail> {
     Ok(())
 }
 
-fn second_demand(rt: &HostRuntime, text: &str) -> Result<Demand, Fail> {
-    let graph = graph(rt, text)?;
+#[test]
+fn channels_ask_for_different_ratios(rt: HostRuntime) -> Result<(), Fail> {
+    let graph = graph(&rt, DISAGREEING)?;
     assert!(rt; graph.channels().len() == 2);
-    Ok(demand_of(rt.alloc(), &graph, 1)?)
+    let demand = demand_of(rt.alloc(), &graph, 1)?;
+    assert_eq!(rt; demand.own, Ratio { from: 1, to: 2 });
+    assert_eq!(rt; demand.before, Some(Ratio { from: 1, to: 1 }));
+    Ok(())
 }
 
 #[test]
-fn channels_ask_for_different_ratios(rt: HostRuntime) -> Result<(), Fail> {
-    let demand = second_demand(&rt, DISAGREEING)?;
-    assert_eq!(rt; demand.own, Ratio { from: 1, to: 2 });
-    assert_eq!(rt; demand.before, Some(Ratio { from: 1, to: 1 }));
-    let demand = second_demand(&rt, STEEP)?;
+fn a_channel_that_joins_asks_alone(rt: HostRuntime) -> Result<(), Fail> {
+    let graph = graph(&rt, STEEP)?;
+    assert!(rt; graph.channels().len() == 2);
+    let demand = demand_of(rt.alloc(), &graph, 1)?;
     assert_eq!(rt; demand.own, Ratio { from: 64, to: 1 });
     assert_eq!(rt; demand.before, None);
     Ok(())
