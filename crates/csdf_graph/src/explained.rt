@@ -43,13 +43,13 @@ fn misfit_of(file: &Table, fault: GraphFault) -> Option<Misfit<'_>> {
     }
 }
 
-/// Appends the fault with the name of its table, then what is wrong there.
-fn push_fault(text: &mut String, file: &Table, fault: GraphFault) -> Result<(), AllocError> {
-    write!(text, "{fault}")?;
-    if let Some(name) = name_of(table_at(file, place_of(fault))) {
-        write!(text, " ({name})")?;
+/// Appends the name of the table at a fault's place, then what is wrong there.
+fn push_place(text: &mut String, file: &Table, fault: GraphFault) -> Result<(), AllocError> {
+    let place = place_of(fault);
+    if place != At::File {
+        let name = name_of(table_at(file, place)).unwrap_or("without a name");
+        write!(text, "{place} is {name}\n")?;
     }
-    write!(text, "\n")?;
     if let Some(misfit) = misfit_of(file, fault) {
         write!(text, "{misfit}\n")?;
     }
@@ -84,16 +84,16 @@ fn not_toml(alloc: Global, bytes: &[u8], error: &toml::de::Error) -> Result<Stri
     Ok(text)
 }
 
-/// Why [`read_graph`](crate::read_graph) refuses a graph file with this fault: the fault with the
-/// name of its table, then the key, what was found there and what is wanted; for a text that is not
-/// TOML its line and column, and the line itself.
+/// What there is to say of a fault with which [`read_graph`](crate::read_graph) refuses a graph
+/// file: the name of the table, the key, what was found there and what is wanted; for a text that is
+/// not TOML its line and column, and the line itself.
 ///
 /// The error is want of memory.
 pub fn explain_fault(alloc: Global, bytes: &[u8], fault: GraphFault) -> Result<String, AllocError> {
     match toml::table_from_slice(alloc, bytes) {
         Ok(file) => {
             let mut text = String::new(alloc);
-            push_fault(&mut text, &file, fault)?;
+            push_place(&mut text, &file, fault)?;
             if fault == GraphFault::NotConnected {
                 push_unjoined(alloc, &mut text, &file)?;
             }

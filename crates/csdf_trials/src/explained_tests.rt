@@ -30,97 +30,97 @@ const CASES: [Case; 20] = [
     Case {
         old: "[[channel]]",
         new: "cell = 3\n[[channel]]",
-        told: "shape at file\ncell: found a key that this table has not, wanted actor, channel, script or cells\n",
+        told: "cell: found a key that this table has not, wanted actor, channel, script or cells\n",
     },
     Case {
         old: "phases = 2",
         new: "phase = 2",
-        told: "shape at actor 0 (src)\nphase: found a key that this table has not, wanted name, kernel, phases, weights or shift\n",
+        told: "actor 0 is src\nphase: found a key that this table has not, wanted name, kernel, phases, weights or shift\n",
     },
     Case {
         old: "phases = 2",
         new: "phases = 2.0",
-        told: "shape at actor 0 (src)\nphases: found a value of kind float, wanted an integer\n",
+        told: "actor 0 is src\nphases: found a value of kind float, wanted an integer\n",
     },
     Case {
         old: "\"sink\"",
         new: "\"drain\"",
-        told: "shape at actor 1 (snk)\nkernel: found \"drain\", wanted source, sink, copy, sum or fir\n",
+        told: "actor 1 is snk\nkernel: found \"drain\", wanted source, sink, copy, sum or fir\n",
     },
     Case {
         old: "\"sink\"",
         new: "\"fir\", shift = 1",
-        told: "shape at actor 1 (snk)\nweights: found nothing, wanted it where kernel is \"fir\"\n",
+        told: "actor 1 is snk\nweights: found nothing, wanted it where kernel is \"fir\"\n",
     },
     Case {
         old: "\"sink\"",
         new: "\"sink\", shift = 1",
-        told: "shape at actor 1 (snk)\nshift: found a key that this table has not, wanted it only where kernel is \"fir\"\n",
+        told: "actor 1 is snk\nshift: found a key that this table has not, wanted it only where kernel is \"fir\"\n",
     },
     Case {
         old: "from = \"src\"",
         new: "",
-        told: "shape at channel 0 (x)\nfrom: found nothing, wanted a string\n",
+        told: "channel 0 is x\nfrom: found nothing, wanted a string\n",
     },
     Case {
         old: "[2, 1]",
         new: "[2, \"1\"]",
-        told: "shape at channel 0 (x)\nproduce: found an entry of kind string, wanted an array of integers\n",
+        told: "channel 0 is x\nproduce: found an entry of kind string, wanted an array of integers\n",
     },
     Case {
         old: "name = \"snk\"",
         new: "name = \"s-k\"",
-        told: "name at actor 1 (s-k)\nname: found \"s-k\", wanted a letter, then at most 31 letters, digits or underscores\n",
+        told: "actor 1 is s-k\nname: found \"s-k\", wanted a letter, then at most 31 letters, digits or underscores\n",
     },
     Case {
         old: "name = \"snk\"",
         new: "name = \"src\"",
-        told: "name at actor 1 (src)\nname: found \"src\", wanted a name that no earlier table has\n",
+        told: "actor 1 is src\nname: found \"src\", wanted a name that no earlier table has\n",
     },
     Case {
         old: "phases = 2",
         new: "phases = 17",
-        told: "range at actor 0 (src)\nphases: found 17, wanted 1 to 16\n",
+        told: "actor 0 is src\nphases: found 17, wanted 1 to 16\n",
     },
     Case {
         old: "[[channel]]",
         new: "[[channel]]\ninitial = [1, 2]\ncapacity = 1",
-        told: "range at channel 0 (x)\ncapacity: found 1, wanted 2 to 65535\n",
+        told: "channel 0 is x\ncapacity: found 1, wanted 2 to 65535\n",
     },
     Case {
         old: "[2, 1]",
         new: "[2, 65]",
-        told: "range at channel 0 (x)\nproduce: found 65, wanted 0 to 64\n",
+        told: "channel 0 is x\nproduce: found 65, wanted 0 to 64\n",
     },
     Case {
         old: "[[channel]]",
         new: "cells = -1\n[[channel]]",
-        told: "range at file\ncells: found -1, wanted 0 to 8388480\n",
+        told: "cells: found -1, wanted 0 to 8388480\n",
     },
     Case {
         old: "to = \"snk\"",
         new: "to = \"sink\"",
-        told: "unknown actor at channel 0 (x)\nto: found \"sink\", wanted the name of an actor\n",
+        told: "channel 0 is x\nto: found \"sink\", wanted the name of an actor\n",
     },
     Case {
         old: "[2, 1]",
         new: "[3]",
-        told: "phase length at channel 0 (x)\nproduce: found 1 entries, wanted 2, one for each phase of src\n",
+        told: "channel 0 is x\nproduce: found 1 entries, wanted 2, one for each phase of src\n",
     },
     Case {
         old: "[3]",
         new: "[0]",
-        told: "zero rate at channel 0 (x)\nconsume: found zeros alone, wanted a rate above 0 in some phase\n",
+        told: "channel 0 is x\nconsume: found zeros alone, wanted a rate above 0 in some phase\n",
     },
     Case {
         old: "\"sink\"",
         new: "\"source\"",
-        told: "kernel ports at actor 1 (snk)\nkernel: found 1 inputs and 0 outputs, wanted no input and at least one output, as a source has\n",
+        told: "actor 1 is snk\nkernel: found 1 inputs and 0 outputs, wanted no input and at least one output, as a source has\n",
     },
     Case {
         old: "{ name = \"snk\", kernel = \"sink\" },",
         new: "{ name = \"snk\", kernel = \"sink\" }, { name = \"a\", kernel = \"copy\" },",
-        told: "kernel ports at actor 2 (a)\nkernel: found 0 inputs and 0 outputs, wanted at least one of each\n",
+        told: "actor 2 is a\nkernel: found 0 inputs and 0 outputs, wanted at least one of each\n",
     },
 ];
 
@@ -156,6 +156,6 @@ channel = [
 ]
 "#;
     let told = explained(rt.alloc(), text.as_bytes())?;
-    assert_eq!(rt; told.as_str(), "not connected\nno channels join c with a\n");
+    assert_eq!(rt; told.as_str(), "no channels join c with a\n");
     Ok(())
 }
