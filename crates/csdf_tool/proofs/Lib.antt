@@ -6,5 +6,6 @@ pub mod CommandExamples
 pub mod CommandLemmas
 pub mod DotLemmas
 pub mod EndLemmas
+pub mod ExplainLemmas
 pub mod ToldLemmas
 pub mod RunLemmas

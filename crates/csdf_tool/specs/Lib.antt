@@ -2,6 +2,7 @@ pub mod CommandLine
 pub mod Described
 pub mod Drawing
 pub mod Ends
+pub mod Explained
 pub mod Faults
 pub mod Lines
 pub mod Printed

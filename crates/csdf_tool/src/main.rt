@@ -7,6 +7,8 @@ mod command;
 mod command_tests;
 mod described;
 mod drawing;
+mod explained;
+mod explanation;
 mod fault;
 mod files;
 mod help;
