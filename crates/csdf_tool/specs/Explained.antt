@@ -106,9 +106,9 @@ ExplainsGraph g text =
     ((a : Accepted) × IsAccepted a × (a.graph ≡ g) × (text ≡ accepted_text))
     ⊎ ((refusal : AcceptFault) × IsNotAccepted g refusal × TellsRefusal g refusal text)
 
--- what is told of a graph file that is refused: the line of its fault
+-- what is told of a graph file that is refused: the line of its fault, and then what else there is to say of it
 abbrev pub ExplainsFault : GraphFault → List ℕ → Type 0
-ExplainsFault fault text = text ≡ fault_text (fault_of fault) ++ newline
+ExplainsFault fault text = (more : List ℕ) × (text ≡ fault_text (fault_of fault) ++ newline ++ more)
 
 -- an answer to `csdf explain`, which is never a fault of the file
 abbrev pub IsExplained : List ℕ → Result (List ℕ) ToolFault → Type 0

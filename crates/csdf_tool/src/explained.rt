@@ -10,7 +10,7 @@ use crate::fault::{Stream, ToolFault};
 use crate::printed::name_at;
 use crate::question::actor_name;
 use csdf_analysis::{AcceptFault, Bounds, accept, demand_of, repetition, stall_of};
-use csdf_graph::{Graph, GraphFault, Outlet, read_graph, write_bytes};
+use csdf_graph::{Graph, GraphFault, Outlet, explain_fault, read_graph, write_bytes};
 use std::alloc::Global;
 
 /// What the channel asks of its two actors, and what those before it ask.
@@ -79,13 +79,15 @@ fn tell_graph(alloc: Global, graph: Graph) -> Result<String, ToolFault>
     }
 }
 
-/// The line of a fault of a graph file.
-fn tell_fault(alloc: Global, fault: GraphFault) -> Result<String, ToolFault>
+/// The line of a fault of a graph file, and what else there is to say of it.
+fn tell_fault(alloc: Global, bytes: &[u8], fault: GraphFault) -> Result<String, ToolFault>
     ensures told { IfOk result (λ text. ExplainsFault fault (string_bytes text)) }
     ensures memory { IfErr result (λ fault. fault ≡ ToolFault.Memory) }
 {
+    let more = explain_fault(alloc, bytes, fault)?;
     let fault = ToolFault::from(fault);
-    let text = format!(in alloc; "{fault}\n")?;
+    let mut text = format!(in alloc; "{fault}\n")?;
+    text.push_str(more.as_str())?;
     Ok(text)
 }
 
@@ -97,7 +99,7 @@ fn explanation_of(alloc: Global, bytes: &[u8]) -> Result<String, ToolFault>
     match read_graph(alloc, bytes) {
         Ok(graph) => tell_graph(alloc, graph),
         Err(GraphFault::Memory) => Err(ToolFault::Memory),
-        Err(fault) => tell_fault(alloc, fault),
+        Err(fault) => tell_fault(alloc, bytes, fault),
     }
 }
 
