@@ -3,7 +3,7 @@ use Rattle.std.proofs.Common.{◌≡◌, ℕ, Bool, List, [], ◌∷◌, ◌++�
 use Rattle.clap.specs.Words.{Shape, Text, fault_of, takes}
 use Rattle.clap.proofs.OnLiterals.{clap_on_literals}
 use Rattle.csdf_tool.specs.declared.question.Question.TheVariants.{Check, Repetition, Schedule, Capacity, Dot}
-use Rattle.csdf_tool.specs.CommandLine.{program, asked_by, asked_of, words_ask, Asked, Input, Moves, Ask, Run}
+use Rattle.csdf_tool.specs.CommandLine.{program, asked_by, asked_of, words_ask, Asked, Input, Moves, Ask, Explain, Run}
 
 abbrev on : Text → List Text
 on command = command ∷ codes "a.toml" ∷ []
@@ -28,6 +28,10 @@ dot_asks : words_ask (on (codes "dot")) ≡ Ask Dot (codes "a.toml")
 unfolding clap_on_literals asked_by asked_of
 dot_asks = refl
 
+explain_asks : words_ask (on (codes "explain")) ≡ Explain (codes "a.toml")
+unfolding clap_on_literals asked_by asked_of
+explain_asks = refl
+
 moves_asks : words_ask (on (codes "moves")) ≡ Moves (codes "a.toml")
 unfolding clap_on_literals asked_by asked_of
 moves_asks = refl
@@ -41,6 +45,7 @@ abbrev file_of : Asked → Text
 file_of Input = []
 file_of (Moves path) = path
 file_of (Ask question path) = path
+file_of (Explain path) = path
 file_of (Run order) = order.graph
 
 -- each command has its meaning: it asks for something of the file that it names

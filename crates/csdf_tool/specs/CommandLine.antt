@@ -43,7 +43,8 @@ abbrev pub with_questions : App → App
 with_questions a =
     let two = with_command (with_command a (codes "moves")) (codes "check") in
     let four = with_command (with_command two (codes "repetition")) (codes "schedule") in
-    with_command (with_command four (codes "capacity")) (codes "dot")
+    let six = with_command (with_command four (codes "capacity")) (codes "dot") in
+    with_command six (codes "explain")
 
 abbrev pub program : App
 program = with_questions (with_subcommand no_commands run_command.top)
@@ -65,12 +66,14 @@ pub data Asked : Type 0 where
   Input : Asked
   Moves : Text → Asked
   Ask : Question → Text → Asked
+  Explain : Text → Asked
   Run : Order → Asked
 
 abbrev pub asked_view : Request → Asked
 asked_view request.Input = Input
 asked_view (request.Moves path) = Moves path.now
 asked_view (request.Ask question path) = Ask question path.now
+asked_view (request.Explain path) = Explain path.now
 asked_view (request.Run order) = Run (order_view order)
 
 -- the number in a text, where it is one and in the range
@@ -103,6 +106,7 @@ asked_by name path =
     else if bytes_eq name (codes "schedule") then Ask Schedule path
     else if bytes_eq name (codes "capacity") then Ask Capacity path
     else if bytes_eq name (codes "dot") then Ask Dot path
+    else if bytes_eq name (codes "explain") then Explain path
     else if bytes_eq name (codes "moves") then Moves path
     else Input
 

@@ -24,6 +24,8 @@ pub(crate) enum Request<'a> {
     Moves(&'a str),
     /// To answer a question about the graph of this file.
     Ask(Question, &'a str),
+    /// To explain why the graph of this file is refused.
+    Explain(&'a str),
     /// To run the graph of a file.
     Run(RunOrder<'a>),
 }
@@ -152,7 +154,9 @@ fn with_questions<'a>(alloc: Global, program: Command<'a>) -> Result<Command<'a>
     let about = "Print the least channel capacities";
     let program = with_command(alloc, program, "capacity", about, help::CAPACITY)?;
     let about = "Print the graph for Graphviz, which draws it";
-    with_command(alloc, program, "dot", about, help::DOT)
+    let program = with_command(alloc, program, "dot", about, help::DOT)?;
+    let about = "Tell why a graph is refused, or that it is accepted";
+    with_command(alloc, program, "explain", about, help::EXPLAIN)
 }
 
 /// The program's command line.
@@ -183,6 +187,7 @@ fn asked_by<'a>(command: &str, graph: &'a str) -> Request<'a>
         "schedule" => Request::Ask(Question::Schedule, graph),
         "capacity" => Request::Ask(Question::Capacity, graph),
         "dot" => Request::Ask(Question::Dot, graph),
+        "explain" => Request::Explain(graph),
         "moves" => Request::Moves(graph),
         _ => Request::Input,
     }

@@ -3,16 +3,18 @@
 ghost use Rattle.std.specs.Prelude.{◌≡◌, ◌≢◌, ◌↔◌, ◌<◌, ◌≤◌, ◌⊎◌, length, map, string_bytes, ℕ, List, [], true, Ok, Err, IfErr, IfSome, OnOk};
 ghost use Rattle.std.specs.Io.KnownBytes.{Appends};
 ghost use Rattle.clap.specs.Words.{fault_of, kind_of, takes};
-ghost use Rattle.csdf_tool.specs.CommandLine.{program, asked_view, words_ask, Moves, Ask, Order, Run};
+ghost use Rattle.csdf_tool.specs.CommandLine.{program, asked_view, words_ask, Moves, Ask, Explain, Order, Run};
 ghost use Rattle.csdf_tool.specs.Described.{IsDescription};
 ghost use Rattle.csdf_tool.specs.declared.question.Question.{Question};
 ghost use Rattle.csdf_tool.specs.Ends.{Ended, EndsAs, EndsBy, EndsFor, EndsForOneOf, IsFaultOfFile, IsFaultOfInput};
+ghost use Rattle.csdf_tool.specs.Explained.{IsExplained};
 ghost use Rattle.csdf_tool.specs.Faults.{status_of};
 ghost use Rattle.csdf_tool.specs.Running.{IsRunTold};
 ghost use Rattle.csdf_tool.specs.Session.{IsAnswer};
 
 use crate::command::{Request, request_of};
 use crate::described::describe;
+use crate::explained::explain;
 use crate::fault::{Stream, ToolFault, unread};
 use crate::files::file_bytes;
 use crate::replay::play_script;
@@ -63,6 +65,8 @@ fn carry_out<R: Files + AllocGlobal + Threads + Wait + Sync, I: Intake, O: Outle
         × Appends (O.written out.old) (O.written out.new) text) }
     ensures told { (question : Question) (path : List ℕ) → asked_view request.entry ≡ Ask question path → OnOk result ((bytes text : List ℕ)
         × IsDescription question bytes (Ok text) × Appends (O.written out.old) (O.written out.new) text) }
+    ensures explained { (path : List ℕ) → asked_view request.entry ≡ Explain path → OnOk result ((bytes text : List ℕ)
+        × IsExplained bytes (Ok text) × Appends (O.written out.old) (O.written out.new) text) }
     ensures ran { (order : Order) → asked_view request.entry ≡ Run order → OnOk result ((bytes text : List ℕ)
         × IsRunTold order bytes (Ok text) × Appends (O.written out.old) (O.written out.new) text) }
     ensures long { request.entry ≡ Request.Input → result ≡ Err ToolFault.TooLong
@@ -73,6 +77,8 @@ fn carry_out<R: Files + AllocGlobal + Threads + Wait + Sync, I: Intake, O: Outle
         → IfErr result (λ fault. status_of fault ≡ 1 → IsFaultOfFile IsAnswer fault) }
     ensures told_refused { (question : Question) (path : List ℕ) → asked_view request.entry ≡ Ask question path
         → IfErr result (λ fault. status_of fault ≡ 1 → IsFaultOfFile (IsDescription question) fault) }
+    ensures explained_refused { (path : List ℕ) → asked_view request.entry ≡ Explain path
+        → IfErr result (λ fault. status_of fault ≡ 1 → fault ≡ ToolFault.TooLong) }
     ensures ran_refused { (order : Order) → asked_view request.entry ≡ Run order
         → IfErr result (λ fault. status_of fault ≡ 1 → IsFaultOfFile (IsRunTold order) fault) }
 {
@@ -81,6 +87,7 @@ fn carry_out<R: Files + AllocGlobal + Threads + Wait + Sync, I: Intake, O: Outle
         Request::Input => play_input(alloc, reader, out),
         Request::Moves(path) => play_script(alloc, &file_bytes(rt, path)?, out),
         Request::Ask(question, path) => describe(alloc, question, &file_bytes(rt, path)?, out),
+        Request::Explain(path) => explain(alloc, &file_bytes(rt, path)?, out),
         Request::Run(order) => run_files(rt, order, out),
     }
 }
@@ -187,6 +194,9 @@ pub fn run_words<R: Files + AllocGlobal + Threads + Wait + Sync, I: Intake, O: O
     ensures told { (question : Question) (path : List ℕ) → takes program (map string_bytes words.now) ≡ true
         → words_ask (map string_bytes words.now) ≡ Ask question path → result ≡ 0
         → (bytes text : List ℕ) × IsDescription question bytes (Ok text) × Appends (O.written out.old) (O.written out.new) text }
+    ensures explained { (path : List ℕ) → takes program (map string_bytes words.now) ≡ true
+        → words_ask (map string_bytes words.now) ≡ Explain path → result ≡ 0
+        → (bytes text : List ℕ) × IsExplained bytes (Ok text) × Appends (O.written out.old) (O.written out.new) text }
     ensures ran { (order : Order) → takes program (map string_bytes words.now) ≡ true
         → words_ask (map string_bytes words.now) ≡ Run order → result ≡ 0
         → (bytes text : List ℕ) × IsRunTold order bytes (Ok text) × Appends (O.written out.old) (O.written out.new) text }
@@ -194,6 +204,8 @@ pub fn run_words<R: Files + AllocGlobal + Threads + Wait + Sync, I: Intake, O: O
         → (fault : ToolFault) × IsFaultOfFile IsAnswer fault × EndsAs fault result (E.written err.old) (E.written err.new) (E.failed err.new) }
     ensures told_refused { (question : Question) (path : List ℕ) → words_ask (map string_bytes words.now) ≡ Ask question path → result ≡ 1
         → (fault : ToolFault) × IsFaultOfFile (IsDescription question) fault × EndsAs fault result (E.written err.old) (E.written err.new) (E.failed err.new) }
+    ensures explained_refused { (path : List ℕ) → words_ask (map string_bytes words.now) ≡ Explain path → result ≡ 1
+        → (fault : ToolFault) × (fault ≡ ToolFault.TooLong) × EndsAs fault result (E.written err.old) (E.written err.new) (E.failed err.new) }
     ensures ran_refused { (order : Order) → words_ask (map string_bytes words.now) ≡ Run order → result ≡ 1
         → (fault : ToolFault) × IsFaultOfFile (IsRunTold order) fault × EndsAs fault result (E.written err.old) (E.written err.new) (E.failed err.new) }
     ensures played { words.now ≡ [] → result ≡ 0 → IfSome (I.left reader.old)

@@ -10,4 +10,5 @@ returns c =
     let three = c.in_ok-program-3.ensures ∙ ap (λ (a : App). with_command a (codes "repetition")) two in
     let four = c.in_ok-program-4.ensures ∙ ap (λ (a : App). with_command a (codes "schedule")) three in
     let five = c.in_ok-program-5.ensures ∙ ap (λ (a : App). with_command a (codes "capacity")) four in
-    IfOk-weaker c.with_command-6.result _ _ (λ r h. h ∙ ap (λ (a : App). with_command a (codes "dot")) five) c.with_command-6.ensures
+    let six = c.in_ok-program-6.ensures ∙ ap (λ (a : App). with_command a (codes "dot")) five in
+    IfOk-weaker c.with_command-7.result _ _ (λ r h. h ∙ ap (λ (a : App). with_command a (codes "explain")) six) c.with_command-7.ensures

@@ -14,6 +14,14 @@ pub returns-in-Ok-clause-told : goal.returns-in-Ok-clause-told
 returns-in-Ok-clause-told g c = λ question path taken asks zero.
     at_zero c.carry_out.result _ c.status_after.ensures.ends zero (c.carry_out.ensures.told question path (c.in-Ok.ensures.asked ∙ asks))
 
+pub returns-in-Ok-clause-explained : goal.returns-in-Ok-clause-explained
+returns-in-Ok-clause-explained g c = λ path taken asks zero.
+    at_zero c.carry_out.result _ c.status_after.ensures.ends zero (c.carry_out.ensures.explained path (c.in-Ok.ensures.asked ∙ asks))
+
+pub returns-in-Ok-clause-explained_refused : goal.returns-in-Ok-clause-explained_refused
+returns-in-Ok-clause-explained_refused g c = λ path asks one.
+    refused c.carry_out.result _ c.status_after.ensures.ends one (c.carry_out.ensures.explained_refused path (c.in-Ok.ensures.asked ∙ asks))
+
 pub returns-in-Ok-clause-ran : goal.returns-in-Ok-clause-ran
 returns-in-Ok-clause-ran g c = λ order taken asks zero.
     at_zero c.carry_out.result _ c.status_after.ensures.ends zero (c.carry_out.ensures.ran order (c.in-Ok.ensures.asked ∙ asks))
