@@ -17,9 +17,13 @@ mod gate_tests;
 #[cfg(test)]
 mod graph_tests;
 #[cfg(test)]
+mod memory_tests;
+#[cfg(test)]
 mod oracle_tests;
 #[cfg(test)]
 mod period_tests;
+#[cfg(test)]
+mod run_memory_tests;
 #[cfg(test)]
 mod run_tests;
 #[cfg(test)]
