@@ -11,7 +11,7 @@ use std::str::SplitWhitespace;
 use std::test::Fail;
 
 /// A source that makes 2 and 1 tokens in turn, and a sink that takes 3.
-const PAIR: &str = r#"actor = [
+pub(crate) const PAIR: &str = r#"actor = [
   { name = "src", kernel = "source", phases = 2 },
   { name = "snk", kernel = "sink" },
 ]
@@ -53,14 +53,14 @@ channel = [
 
 /// A limit for every actor, a number of tokens for every source, and a limit on all firings.
 #[derive(Clone, Copy)]
-struct Limits {
+pub(crate) struct Limits {
     limit: u32,
     supply: u32,
     firings: Option<u32>,
     ghost few: { limit ≤ 16_384_000 },
 }
 
-const AMPLE: Limits = Limits {
+pub(crate) const AMPLE: Limits = Limits {
     limit: 1_000_000,
     supply: 1_000_000,
     firings: None,
@@ -90,7 +90,7 @@ fn move_in(alloc: Global, line: &str) -> Result<Move, Fail> {
 }
 
 /// The moves of the script, with slashes between them.
-fn moves_in(alloc: Global, script: &str) -> Result<Vec<Move>, Fail> {
+pub(crate) fn moves_in(alloc: Global, script: &str) -> Result<Vec<Move>, Fail> {
     let mut moves = Vec::new(alloc);
     for line in script.split(" / ") {
         moves.push(move_in(alloc, line)?)?;
@@ -99,7 +99,7 @@ fn moves_in(alloc: Global, script: &str) -> Result<Vec<Move>, Fail> {
 }
 
 /// The graph of the file, which is accepted.
-fn accepted_in(alloc: Global, text: &str) -> Result<Accepted, Fail> {
+pub(crate) fn accepted_in(alloc: Global, text: &str) -> Result<Accepted, Fail> {
     match accept(alloc, read_graph(alloc, text.as_bytes())?) {
         Ok(accepted) => Ok(accepted),
         Err((_, fault)) => Err(fault.into()),
@@ -124,7 +124,7 @@ fn supplies(alloc: Global, actors: &[Actor], tokens: u32) -> Result<Vec<u32>, Al
 }
 
 /// The graph, with these limits for each of its actors.
-fn setup_of<'a>(
+pub(crate) fn setup_of<'a>(
     alloc: Global,
     accepted: &'a Accepted,
     limits: &Limits,
@@ -169,7 +169,7 @@ fn tell(text: &mut String, reply: &Reply) -> Result<(), AllocError> {
 }
 
 /// The replies, in order.
-fn text_of(alloc: Global, replies: &[Reply]) -> Result<String, Fail> {
+pub(crate) fn text_of(alloc: Global, replies: &[Reply]) -> Result<String, Fail> {
     let mut text = String::new(alloc);
     for reply in replies {
         if !text.is_empty() {
@@ -255,7 +255,7 @@ fn show_channels(text: &mut String, core: &Core, channels: u32) -> Result<(), Al
 }
 
 /// All that the core shows, and what an actor that is not there needs.
-fn shown(alloc: Global, core: &Core, actors: u32, channels: u32) -> Result<String, Fail>
+pub(crate) fn shown(alloc: Global, core: &Core, actors: u32, channels: u32) -> Result<String, Fail>
     requires actors { actors ≡ length core.now.plan.sources }
     requires channels { channels ≡ length core.now.plan.channels }
 {

@@ -233,6 +233,11 @@ fn reads_scripts(rt: HostRuntime) -> Result<(), Fail> {
         read_script(rt.alloc(), firings.as_bytes())?.firings,
         Some(1)
     );
+    Ok(())
+}
+
+#[test]
+fn refuses_scripts(rt: HostRuntime) -> Result<(), Fail> {
     let table = [
         (
             "[script]\n",
@@ -258,6 +263,11 @@ fn reads_graphs_with_scripts(rt: HostRuntime) -> Result<(), Fail> {
     let read = read_graph_and_script(rt.alloc(), PAIR.as_bytes())?;
     assert_eq!(rt; read.graph.actors().len(), 2);
     assert_eq!(rt; read.script.lines.len(), 12);
+    Ok(())
+}
+
+#[test]
+fn refuses_graphs_with_scripts(rt: HostRuntime) -> Result<(), Fail> {
     let table = [
         ("x", GraphFault::NotToml),
         (

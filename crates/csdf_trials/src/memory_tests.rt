@@ -1,8 +1,11 @@
-//! Calls on graphs that take memory, for `tests/memory/run`: it refuses them one allocation
+//! Calls on graphs, and moves, that take memory, for `tests/memory/run`: it refuses them one allocation
 //! after another.
 
 use crate::analysis_tests::{CHAIN, graph};
+use crate::core_tests::{AMPLE, PAIR, accepted_in, moves_in, setup_of, shown, text_of};
 use csdf_analysis::{AcceptFault, Accepted, accept, capacities, repetition};
+use csdf_core::{Core, Move, play_on};
+use std::alloc::Global;
 use std::process::Abort;
 use std::test::Fail;
 
@@ -32,6 +35,52 @@ fn hands_the_graph_back(rt: HostRuntime) -> Result<(), Fail> {
                 Err((_, fault)) => return Err(fault.into()),
             }
         }
+    }
+    Ok(())
+}
+
+const SCRIPT: &str =
+    "begin 0 / read 0 / write 0 5 6 / finish 0 / begin 0 / read 0 / write 0 7 / finish 0 / \
+    begin 1 / read 1 / write 1 / finish 1";
+
+const REPLIES: &str = "ok / ok / ok / ok / ok / ok / ok / ok / ok / ok 5 6 7 / ok / ok";
+
+/// A core of the graph on which nothing has fired.
+fn opening_core(alloc: Global, accepted: &Accepted) -> Result<Core, Fail> {
+    let setup = setup_of(alloc, accepted, &AMPLE)?;
+    Ok(Core::new(alloc, setup)?)
+}
+
+fn shown_by(alloc: Global, core: &Core) -> Result<String, Fail> {
+    shown(alloc, core, core.actors(), core.channels())
+}
+
+/// Whether the core shows what it does after some of the moves, from the first on.
+fn is_after_a_front(
+    alloc: Global,
+    accepted: &Accepted,
+    core: &Core,
+    moves: &[Move],
+) -> Result<bool, Fail> {
+    let state = shown_by(alloc, core)?;
+    let mut other = opening_core(alloc, accepted)?;
+    let mut found = shown_by(alloc, &other)? == state;
+    for next in moves {
+        play_on(&mut other, alloc, std::slice::from_ref(next))?;
+        found |= shown_by(alloc, &other)? == state;
+    }
+    Ok(found)
+}
+
+#[test]
+fn plays_a_front_of_the_moves(rt: HostRuntime) -> Result<(), Fail> {
+    let alloc = rt.alloc();
+    let accepted = accepted_in(alloc, PAIR)?;
+    let moves = moves_in(alloc, SCRIPT)?;
+    let mut core = opening_core(alloc, &accepted)?;
+    match play_on(&mut core, alloc, &moves) {
+        Ok(replies) => assert_eq!(rt; text_of(alloc, &replies)?.as_str(), REPLIES),
+        Err(_) => assert!(rt; is_after_a_front(alloc, &accepted, &core, &moves)?),
     }
     Ok(())
 }
