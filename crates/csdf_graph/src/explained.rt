@@ -14,6 +14,7 @@ use crate::explained::numbers::range_misfit;
 use crate::explained::ports::{ports_misfit, push_unjoined};
 use crate::explained::rates::{length_misfit, zero_misfit};
 use crate::fault::{At, GraphFault};
+use crate::names::is_name;
 use std::alloc::{AllocError, Global};
 use toml::Table;
 
@@ -43,17 +44,21 @@ fn misfit_of(file: &Table, fault: GraphFault) -> Option<Misfit<'_>> {
     }
 }
 
-/// Appends the name of the table at a fault's place, then what is wrong there.
+/// Appends the name of the table at a fault's place, where it has one.
+fn push_name(text: &mut String, file: &Table, place: At) -> Result<(), AllocError> {
+    match name_of(table_at(file, place)) {
+        Some(name) if place != At::File && is_name(name) => write!(text, "{place} is {name}\n"),
+        _ => Ok(()),
+    }
+}
+
+/// Appends what is wrong at the place of a fault.
 fn push_place(text: &mut String, file: &Table, fault: GraphFault) -> Result<(), AllocError> {
-    let place = place_of(fault);
-    if place != At::File {
-        let name = name_of(table_at(file, place)).unwrap_or("without a name");
-        write!(text, "{place} is {name}\n")?;
+    push_name(text, file, place_of(fault))?;
+    match misfit_of(file, fault) {
+        Some(misfit) => write!(text, "{misfit}\n"),
+        None => Ok(()),
     }
-    if let Some(misfit) = misfit_of(file, fault) {
-        write!(text, "{misfit}\n")?;
-    }
-    Ok(())
 }
 
 /// The bytes of the line in which this place is.
@@ -78,8 +83,9 @@ fn not_toml(alloc: Global, bytes: &[u8], error: &toml::de::Error) -> Result<Stri
         Some(span) => span.start,
         None => 0,
     };
-    if let Ok(line) = str::from_utf8(line_at(bytes, place)) {
-        write!(text, "{line}\n")?;
+    match str::from_utf8(line_at(bytes, place)) {
+        Ok(line) if !line.is_empty() => write!(text, "{line}\n")?,
+        _ => (),
     }
     Ok(text)
 }

@@ -70,7 +70,7 @@ const CASES: [Case; 20] = [
     Case {
         old: "name = \"snk\"",
         new: "name = \"s-k\"",
-        told: "actor 1 is s-k\nname: found \"s-k\", wanted a letter, then at most 31 letters, digits or underscores\n",
+        told: "name: found \"s-k\", wanted a letter, then at most 31 letters, digits or underscores\n",
     },
     Case {
         old: "name = \"snk\"",

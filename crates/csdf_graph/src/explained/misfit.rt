@@ -1,6 +1,7 @@
 //! A key whose value does not fit, in words.
 
 use crate::fault::At;
+use crate::names::is_name;
 use std::fmt;
 use toml::{Table, Value};
 
@@ -30,7 +31,7 @@ impl fmt::Display for Found<'_> {
             Found::Kind(kind) => write!(f, "a value of kind {kind}"),
             Found::Entry(kind) => write!(f, "an entry of kind {kind}"),
             Found::Number(number) => write!(f, "{number}"),
-            Found::Text(text) => write!(f, "\"{text}\""),
+            Found::Text(text) => write!(f, "{text:?}"),
             Found::Entries(count) => write!(f, "{count} entries"),
             Found::Zeros => write!(f, "zeros alone"),
             Found::Ports(inputs, outputs) => { write!(f, "{inputs} inputs and {outputs} outputs") }
