@@ -29,6 +29,4 @@ mod run_tests;
 #[cfg(test)]
 mod stall_tests;
 #[cfg(test)]
-mod stranger_tests;
-#[cfg(test)]
 mod text_tests;

@@ -4,7 +4,7 @@
 use crate::analysis_tests::{CHAIN, graph};
 use crate::core_tests::{AMPLE, PAIR, accepted_in, moves_in, setup_of, shown, text_of};
 use csdf_analysis::{AcceptFault, Accepted, accept, capacities, repetition};
-use csdf_core::{Core, Move, play_on};
+use csdf_core::{Core, Move, Reply, play_on};
 use std::alloc::Global;
 use std::process::Abort;
 use std::test::Fail;
@@ -72,15 +72,41 @@ fn is_after_a_front(
     Ok(found)
 }
 
+/// Plays the moves: all of them with the wanted replies, or for want of memory a front of them.
+fn play_front(
+    rt: &impl Abort,
+    alloc: Global,
+    accepted: &Accepted,
+    moves: &[Move],
+) -> Result<(), Fail> {
+    let mut core = opening_core(alloc, accepted)?;
+    match play_on(&mut core, alloc, moves) {
+        Ok(replies) => check_replies(rt, alloc, &replies),
+        Err(_) => check_front(rt, alloc, accepted, &core, moves),
+    }
+}
+
+fn check_replies(rt: &impl Abort, alloc: Global, replies: &[Reply]) -> Result<(), Fail> {
+    let text = text_of(alloc, replies)?;
+    assert_eq!(rt; text.as_str(), REPLIES);
+    Ok(())
+}
+
+fn check_front(
+    rt: &impl Abort,
+    alloc: Global,
+    accepted: &Accepted,
+    core: &Core,
+    moves: &[Move],
+) -> Result<(), Fail> {
+    let is_front = is_after_a_front(alloc, accepted, core, moves)?;
+    assert!(rt; is_front);
+    Ok(())
+}
+
 #[test]
 fn plays_a_front_of_the_moves(rt: HostRuntime) -> Result<(), Fail> {
-    let alloc = rt.alloc();
-    let accepted = accepted_in(alloc, PAIR)?;
-    let moves = moves_in(alloc, SCRIPT)?;
-    let mut core = opening_core(alloc, &accepted)?;
-    match play_on(&mut core, alloc, &moves) {
-        Ok(replies) => assert_eq!(rt; text_of(alloc, &replies)?.as_str(), REPLIES),
-        Err(_) => assert!(rt; is_after_a_front(alloc, &accepted, &core, &moves)?),
-    }
-    Ok(())
+    let accepted = accepted_in(rt.alloc(), PAIR)?;
+    let moves = moves_in(rt.alloc(), SCRIPT)?;
+    play_front(&rt, rt.alloc(), &accepted, &moves)
 }
