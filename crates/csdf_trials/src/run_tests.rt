@@ -1,9 +1,10 @@
 ghost use Rattle.std.specs.Prelude.{◌≤◌, IfOk, length};
+ghost use Rattle.csdf_kernel.specs.Value.{HasFilterInRange};
 ghost use Rattle.csdf_run.specs.Floor.{IsReady};
 
 use csdf_analysis::{Accepted, accept};
 use csdf_core::Refusal;
-use csdf_graph::read_graph;
+use csdf_graph::{Kernel, read_graph};
 use csdf_kernel::{Counts, Done, Inputs, Job, eval};
 use csdf_run::{
     DeliverFault, Ending, Floor, Open, Outcome, RunFault, StartFault, are_feeds, printed_report,
@@ -445,6 +446,52 @@ fn altered_tokens_are_not_taken(rt: HostRuntime) -> Result<(), Fail> {
     let refusal = refusal_of(rt.alloc(), &mut floor, 0, 2);
     assert_eq!(rt; refusal, Some(StartFault::Refused(Refusal::Full(0))));
     Ok(())
+}
+
+/// A result of a first firing with one output of one token, whatever the floor has started.
+fn other_done(alloc: Global, kernel: Kernel, actor: u32, inputs: &[i32]) -> Result<Done, Fail>
+    requires few { length inputs.now ≤ 8192 }
+    requires filter { HasFilterInRange kernel }
+{
+    let mut counts = Counts::new(alloc);
+    counts.push(1)?;
+    let job = Job {
+        kernel,
+        actor,
+        firing: 0,
+        counts,
+        inputs: Inputs::from_slice(alloc, inputs)?,
+    };
+    match eval(alloc, job) {
+        Ok(done) => Ok(done),
+        Err((_, error)) => Err(error.into()),
+    }
+}
+
+fn check_other<R: Abort>(
+    rt: &R,
+    alloc: Global,
+    floor: &mut Floor,
+    kernel: Kernel,
+    actor: u32,
+    inputs: &[i32],
+) -> Result<(), Fail>
+    requires few { length inputs.now ≤ 8192 }
+    requires filter { HasFilterInRange kernel }
+{
+    let done = other_done(alloc, kernel, actor, inputs)?;
+    assert_eq!(rt; floor.deliver(alloc, &done), Err(DeliverFault::Stranger));
+    Ok(())
+}
+
+/// Of a firing that was not started, and of the started one with one token fewer to write.
+#[test]
+fn results_of_other_firings_are_strangers(rt: HostRuntime) -> Result<(), Fail> {
+    let mut floor = floor_over(&rt, rt.alloc(), &[1, 2, 3, 4, 5, 6])?;
+    assert_eq!(rt; refusal_of(rt.alloc(), &mut floor, 0, 0), None);
+    let alloc = rt.alloc();
+    check_other(&rt, alloc, &mut floor, Kernel::Sum, 1, &[1, 2, 3])?;
+    check_other(&rt, alloc, &mut floor, Kernel::Source, 0, &[1, 2])
 }
 
 #[test]
