@@ -1,13 +1,15 @@
-//! The pool of a core before its first move.
+//! What a core has before its first move.
 
-ghost use Rattle.std.specs.Prelude.{◌≡◌, length, map, IfOk};
+ghost use Rattle.std.specs.Prelude.{◌≡◌, length, map, replicate, true, IfOk};
 ghost use Rattle.csdf_core.specs.Plan.{Channel as ChannelModel};
 ghost use Rattle.csdf_core.specs.Playable.{IsPlayable};
 ghost use Rattle.csdf_core.specs.Ports.{tokens_in};
 ghost use Rattle.csdf_core.specs.Shows.{AreSharedOut};
 ghost use Rattle.csdf_core.specs.Transfers.{opening_pool};
+ghost use Rattle.csdf_core.specs.declared.stage.Stage.TheVariants.{Idle};
 
 use crate::layout::Layout;
+use crate::stage::Stage;
 use crate::transfer::put_tokens;
 use csdf_pool::Pool;
 use std::alloc::{AllocError, Global};
@@ -40,4 +42,34 @@ pub(crate) fn lengths_of(alloc: Global, pool: &Pool, channels: u32) -> Result<Ve
         lengths.push(pool.len(channel))?;
     }
     Ok(lengths)
+}
+
+/// The lists of a core in which nothing has fired.
+#[derive(Drop)]
+pub(crate) struct Blank {
+    pub(crate) counts: Vec<u32>,
+    pub(crate) stages: Vec<Stage>,
+    pub(crate) opens: Vec<bool>,
+    pub(crate) sums: Vec<u64>,
+}
+
+/// The lists of so many actors and channels.
+///
+/// An error says that memory ran out.
+pub(crate) fn blank_lists(
+    alloc: Global,
+    actors: usize,
+    channels: usize,
+) -> Result<Blank, AllocError>
+    ensures counts { IfOk result (λ blank. blank.counts.items ≡ replicate actors 0) }
+    ensures stages { IfOk result (λ blank. blank.stages.items ≡ replicate actors Idle) }
+    ensures opens { IfOk result (λ blank. blank.opens.items ≡ replicate channels true) }
+    ensures sums { IfOk result (λ blank. blank.sums.items ≡ replicate actors 0) }
+{
+    Ok(Blank {
+        counts: vec![in alloc; 0; actors]?,
+        stages: vec![in alloc; Stage::Idle; actors]?,
+        opens: vec![in alloc; true; channels]?,
+        sums: vec![in alloc; 0; actors]?,
+    })
 }

@@ -3,7 +3,7 @@
 ghost use Rattle.std.specs.Prelude.{◌≡◌, ◌-◌, ◌*◌, ◌<◌, ◌≤◌, suc, length, map, sum, IfOk, All, slice_index};
 ghost use Rattle.csdf_pool.specs.Pool.{chain_of, held_cells};
 
-use crate::filling::{filled_pool, lengths_of};
+use crate::filling::{blank_lists, filled_pool, lengths_of};
 use crate::layout::Layout;
 use crate::setup::Setup;
 use crate::stage::Stage;
@@ -65,16 +65,16 @@ impl Core {
         ensures cells { IfOk result (λ core. core.pool ≡ opening_pool core.plan) }
     {
         let layout = Layout::new(alloc, setup)?;
-        let actors = layout.actors();
-        let channels = layout.channels();
+        let (actors, channels) = (layout.actors(), layout.channels());
         let pool = filled_pool(alloc, &layout)?;
         let peaks = lengths_of(alloc, &pool, channels as u32)?;
+        let blank = blank_lists(alloc, actors, channels)?;
         Ok(Core {
             layout,
-            counts: vec![in alloc; 0; actors]?,
-            stages: vec![in alloc; Stage::Idle; actors]?,
-            opens: vec![in alloc; true; channels]?,
-            sums: vec![in alloc; 0; actors]?,
+            counts: blank.counts,
+            stages: blank.stages,
+            opens: blank.opens,
+            sums: blank.sums,
             peaks,
             started: 0,
             reserved: 0,

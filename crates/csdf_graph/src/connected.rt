@@ -43,11 +43,7 @@ fn numbers(alloc: Global, count: usize) -> Result<Vec<usize>, AllocError>
 }
 
 /// A number for each of so many actors, the same for those that channels join.
-pub(crate) fn groups_of(
-    alloc: Global,
-    count: usize,
-    channels: &[Channel],
-) -> Result<Vec<usize>, AllocError>
+fn groups_of(alloc: Global, count: usize, channels: &[Channel]) -> Result<Vec<usize>, AllocError>
     ensures { IfOk result (λ v. v.items ≡ groups_of count (map channel_view channels.now)) }
 {
     let mut groups = numbers(alloc, count)?;

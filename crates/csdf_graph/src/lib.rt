@@ -4,7 +4,6 @@
 mod checks;
 mod connected;
 mod device;
-mod explained;
 mod fault;
 mod from_reader;
 mod fused;
@@ -30,7 +29,6 @@ mod tokens;
 mod tree;
 
 pub use device::{DeviceFailed, Intake, Outlet};
-pub use explained::explain_fault;
 pub use fault::{At, GraphFault};
 pub use from_reader::FromReader;
 pub use fused::Fused;

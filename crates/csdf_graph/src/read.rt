@@ -12,7 +12,7 @@ ghost use Rattle.csdf_graph.specs.Shape.{draft_view};
 ghost use Rattle.csdf_graph.specs.Ranges.{file_view};
 
 use crate::checks::{check_phase_lengths, check_ports, check_rates};
-use crate::connected::{groups_of, is_connected};
+use crate::connected::is_connected;
 use crate::fault::GraphFault;
 use crate::graph::Graph;
 use crate::links::linked_channels;
@@ -106,13 +106,6 @@ fn named_parts(alloc: Global, file: &Table) -> Result<Named, GraphFault>
         actor_names,
         channel_names,
     })
-}
-
-/// A number for each actor of a file, the same for those that channels join.
-pub(crate) fn groups_in(alloc: Global, file: &Table) -> Result<Vec<usize>, GraphFault> {
-    let named = named_parts(alloc, file)?;
-    let groups = groups_of(alloc, named.parts.actors.len(), &named.parts.channels)?;
-    Ok(groups)
 }
 
 /// The graph of the parts, where any two of its actors are joined.

@@ -13,14 +13,14 @@ use Rattle.csdf_graph.specs.Graph.{Actor, Graph, numbers_from}
 use Rattle.csdf_graph.specs.TokenText.{collected, entry_of, no_more_than, token_text, tokens_in, tokens_up_to, words_from}
 use Rattle.csdf_core.specs.Layout.{is_source_kernel}
 use Rattle.csdf_core.specs.Streams.{IsPrefix}
-use Rattle.csdf_run.specs.declared.ending.Ending.{Ending}
-use Rattle.csdf_run.specs.declared.ending.Ending.TheVariants.{Complete, Stopped, Starved, Dry}
-use Rattle.csdf_run.specs.declared.outcome.Outcome.{Outcome}
+use Rattle.csdf_floor.specs.declared.ending.Ending.{Ending}
+use Rattle.csdf_floor.specs.declared.ending.Ending.TheVariants.{Complete, Stopped, Starved, Dry}
+use Rattle.csdf_floor.specs.declared.outcome.Outcome.{Outcome}
 use Rattle.csdf_run.specs.declared.texts.Texts.{Texts}
-use Rattle.csdf_run.specs.Journal.{Program}
-use Rattle.csdf_run.specs.Outcome.{IsEndBeside, sequential_list}
+use Rattle.csdf_floor.specs.Journal.{Program}
+use Rattle.csdf_floor.specs.Outcome.{IsEndBeside, sequential_list}
 use Rattle.csdf_run.specs.Texts.{◌>>=◌, AreTextsBeside, IsTextBeside, TellRun, TellSequentialRun, feed_in, feeds_from, sink_texts, sinks_among, text_at}
-use Rattle.csdf_run.specs.Work.{AreFeeds, feed_of, feeds_in, is_sink_kernel, program}
+use Rattle.csdf_floor.specs.Work.{AreFeeds, feed_of, feeds_in, is_sink_kernel, program}
 
 -- ---- the feeds, one actor after the other
 

@@ -11,17 +11,17 @@ use Rattle.csdf_graph.specs.TokenText.{token_text, tokens_in}
 use Rattle.csdf_analysis.specs.Acceptance.{Accepted, IsAccepted, IsNotAccepted}
 use Rattle.csdf_core.specs.Layout.{is_source_kernel}
 use Rattle.csdf_core.specs.Streams.{IsPrefix}
-use Rattle.csdf_run.specs.declared.ending.Ending.{Ending}
-use Rattle.csdf_run.specs.declared.ending.Ending.TheVariants.{Complete, Stopped, Starved, Dry}
-use Rattle.csdf_run.specs.declared.outcome.Outcome.{Outcome}
+use Rattle.csdf_floor.specs.declared.ending.Ending.{Ending}
+use Rattle.csdf_floor.specs.declared.ending.Ending.TheVariants.{Complete, Stopped, Starved, Dry}
+use Rattle.csdf_floor.specs.declared.outcome.Outcome.{Outcome}
 use Rattle.csdf_run.specs.declared.texts.Texts.{Texts}
 use Rattle.csdf_run.specs.declared.texts.TextsFault.{TextsFault}
 use Rattle.csdf_run.specs.declared.texts.TextsFault.TheVariants as fault
-use Rattle.csdf_run.specs.Journal.{program_for}
-use Rattle.csdf_run.specs.Outcome.{IsOutcome, sequential_list}
-use Rattle.csdf_run.specs.Report.{names_of, report_text}
-use Rattle.csdf_run.specs.Sequential.{IsSequential}
-use Rattle.csdf_run.specs.Work.{Work, feed_of, feeds_in, is_sink_kernel}
+use Rattle.csdf_floor.specs.Journal.{program_for}
+use Rattle.csdf_floor.specs.Outcome.{IsOutcome, sequential_list}
+use Rattle.csdf_floor.specs.Report.{names_of, report_text}
+use Rattle.csdf_floor.specs.Sequential.{IsSequential}
+use Rattle.csdf_floor.specs.Work.{Work, feed_of, feeds_in, is_sink_kernel}
 
 -- the contents of texts
 abbrev pub texts_in : List (Vec ℕ) → List (List ℕ)

@@ -1,11 +1,10 @@
 //! What the workers share.
 
 ghost use Rattle.std.specs.Prelude.{◌≡◌, IfOk};
-ghost use Rattle.csdf_run.specs.Floor.{IsReady};
+ghost use Rattle.csdf_floor.specs.Floor.{IsReady};
 
-use crate::fault::{DeliverFault, StartFault};
-use crate::floor::Floor;
 use crate::hints::Hints;
+use csdf_floor::{DeliverFault, Floor, StartFault};
 use csdf_graph::Kernel;
 use csdf_kernel::{Done, Job};
 use std::alloc::Global;

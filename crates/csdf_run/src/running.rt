@@ -1,21 +1,18 @@
 //! A run by worker threads.
 
 ghost use Rattle.std.specs.Prelude.{◌≡◌, ◌≤◌, ◌<◌, All, IfOk, IfSome};
-ghost use Rattle.csdf_run.specs.Journal.{program_for};
-ghost use Rattle.csdf_run.specs.Work.{AreFeeds, feeds_in};
-ghost use Rattle.csdf_run.specs.Outcome.{HasHonestJournal, EndsSettled, TakesInOrder, StaysWithinCapacities, LeavesClosedAlone};
-ghost use Rattle.csdf_run.specs.Outcome.{TellsSinks, TellsReport, TellsEnding, IsAsSequentialRun, CompletesWhereAmple};
+ghost use Rattle.csdf_floor.specs.Journal.{program_for};
+ghost use Rattle.csdf_floor.specs.Work.{AreFeeds, feeds_in};
+ghost use Rattle.csdf_floor.specs.Outcome.{HasHonestJournal, EndsSettled, TakesInOrder, StaysWithinCapacities, LeavesClosedAlone};
+ghost use Rattle.csdf_floor.specs.Outcome.{TellsSinks, TellsReport, TellsEnding, IsAsSequentialRun, CompletesWhereAmple};
 
-use crate::fault::RunFault;
-use crate::floor::Floor;
 use crate::gate::Gate;
 use crate::hall::Hall;
 use crate::hints::Hints;
-use crate::outcome::Outcome;
-use crate::settling::settle;
 use crate::worker::{Ended, work};
 use csdf_analysis::Accepted;
 use csdf_claims::{Board, Place};
+use csdf_floor::{Floor, Outcome, RunFault, settle};
 use std::alloc::{AllocError, Global};
 use std::sync::Wait;
 use std::thread;

@@ -2,12 +2,12 @@
 
 ghost use Rattle.std.specs.Prelude.{◌≡◌, ◌<◌, ◌≤◌, IfOk, IfSome};
 ghost use Rattle.csdf_claims.specs.Board.{Holds};
-ghost use Rattle.csdf_run.specs.Floor.{IsReady};
+ghost use Rattle.csdf_floor.specs.Floor.{IsReady};
 
-use crate::fault::{DeliverFault, RunFault, StartFault};
 use crate::gate::Gate;
 use crate::hall::Hall;
 use csdf_claims::{Board, Place};
+use csdf_floor::{DeliverFault, RunFault, StartFault};
 use csdf_kernel::{Job, eval};
 use std::alloc::Global;
 use std::sync::Wait;

@@ -2,7 +2,7 @@
 use Rattle.std.proofs.Common.{◌≡◌, ℕ, Bool, List, [], ◌∷◌, ◌++◌, Option, Some, None, true, false, codes, map, refl}
 use Rattle.clap.specs.Words.{Shape, Text, fault_of, takes}
 use Rattle.clap.proofs.OnLiterals.{clap_on_literals}
-use Rattle.csdf_tool.specs.declared.question.Question.TheVariants.{Check, Repetition, Schedule, Capacity, Dot}
+use Rattle.csdf_answers.specs.declared.question.Question.TheVariants.{Check, Repetition, Schedule, Capacity, Dot}
 use Rattle.csdf_tool.specs.CommandLine.{program, asked_by, asked_of, words_ask, Asked, Input, Moves, Ask, Explain, Run}
 
 abbrev on : Text → List Text

@@ -2,10 +2,10 @@
 use Rattle.std.proofs.Common.{◌≡◌, ◌≢◌, ℕ, List, Bool, Option, Some, None, arith, refl, sym, ap, ◌∙◌, inl, inr}
 use Rattle.std.specs.Prelude.{◌<◌, ◌⊎◌, Result, Ok, Err, IfErr, IfSome, OnOk, length}
 use Rattle.csdf_tool.specs.Ends.{Ended, EndsAs, EndsBy, IsFaultOfInput}
-use Rattle.csdf_tool.specs.Faults.{status_of}
-use Rattle.csdf_tool.specs.Session.{IsAnswer}
-use Rattle.csdf_tool.specs.declared.fault.ToolFault.{ToolFault}
-use Rattle.csdf_tool.specs.declared.fault.ToolFault.TheVariants as fault
+use Rattle.csdf_answers.specs.Faults.{status_of}
+use Rattle.csdf_answers.specs.Session.{IsAnswer}
+use Rattle.csdf_answers.specs.declared.fault.ToolFault.{ToolFault}
+use Rattle.csdf_answers.specs.declared.fault.ToolFault.TheVariants as fault
 
 -- ---- statuses
 

@@ -1,11 +1,4 @@
-pub mod NameLemmas
-pub mod TurnLemmas
-pub mod SessionLemmas
-pub mod AnswerLemmas
 pub mod CommandExamples
 pub mod CommandLemmas
-pub mod DotLemmas
 pub mod EndLemmas
-pub mod ExplainLemmas
-pub mod ToldLemmas
 pub mod RunLemmas

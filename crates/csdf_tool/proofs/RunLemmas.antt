@@ -7,14 +7,14 @@ use Rattle.csdf_graph.specs.Graph.{Actor, Graph, actor_view}
 use Rattle.csdf_graph.specs.GraphText.{IsGraphOf}
 use Rattle.csdf_graph.specs.declared.parts.Actor.{Actor as ActorCode}
 use Rattle.csdf_core.specs.Layout.{is_source_kernel}
-use Rattle.csdf_run.specs.Work.{is_sink_kernel}
-use Rattle.csdf_tool.specs.declared.fault.ToolFault.{ToolFault}
-use Rattle.csdf_tool.specs.declared.fault.ToolFault.TheVariants as fault
-use Rattle.csdf_tool.specs.declared.fault.Stream.TheVariants.{Output, File}
+use Rattle.csdf_floor.specs.Work.{is_sink_kernel}
+use Rattle.csdf_answers.specs.declared.fault.ToolFault.{ToolFault}
+use Rattle.csdf_answers.specs.declared.fault.ToolFault.TheVariants as fault
+use Rattle.csdf_answers.specs.declared.fault.Stream.TheVariants.{Output, File}
 use Rattle.csdf_tool.specs.declared.run_files.SinkFile.{SinkFile}
 use Rattle.csdf_tool.specs.CommandLine.{Order}
 use Rattle.csdf_tool.specs.Ends.{IsFaultOfFile}
-use Rattle.csdf_tool.specs.Faults.{status_of}
+use Rattle.csdf_answers.specs.Faults.{status_of}
 use Rattle.csdf_tool.specs.Running.{IsRunTold, IsUnread, IsUnreadOf, IsUnwritten, IsUnwrittenOf, RefusesRun, file_view, out_file, sink_files}
 
 -- ---- sources

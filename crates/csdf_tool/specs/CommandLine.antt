@@ -9,8 +9,8 @@ use Rattle.clap.specs.declared.builder.value_parser.ValueParser.TheVariants.{Uns
 use Rattle.csdf_tool.specs.declared.command.Request.{Request}
 use Rattle.csdf_tool.specs.declared.command.Request.TheVariants as request
 use Rattle.csdf_tool.specs.declared.order.RunOrder.{RunOrder}
-use Rattle.csdf_tool.specs.declared.question.Question.{Question}
-use Rattle.csdf_tool.specs.declared.question.Question.TheVariants.{Check, Repetition, Schedule, Capacity, Dot}
+use Rattle.csdf_answers.specs.declared.question.Question.{Question}
+use Rattle.csdf_answers.specs.declared.question.Question.TheVariants.{Check, Repetition, Schedule, Capacity, Dot}
 
 -- ---- the commands
 

@@ -4,11 +4,11 @@ use Rattle.std.specs.Io.KnownBytes.{Appends}
 use Rattle.clap.specs.Words.{Kinds, IsAmong}
 use Rattle.clap.specs.declared.error.kind.ErrorKind.{ErrorKind}
 use Rattle.clap.specs.declared.error.kind.ErrorKind.TheVariants.{DisplayHelp, DisplayVersion, OutOfMemory}
-use Rattle.csdf_tool.specs.declared.fault.ToolFault.{ToolFault}
-use Rattle.csdf_tool.specs.declared.fault.ToolFault.TheVariants.{TooLong, Memory}
-use Rattle.csdf_tool.specs.Faults.{fault_text, status_of}
-use Rattle.csdf_tool.specs.Printed.{newline}
-use Rattle.csdf_tool.specs.Session.{IsAnswer}
+use Rattle.csdf_answers.specs.declared.fault.ToolFault.{ToolFault}
+use Rattle.csdf_answers.specs.declared.fault.ToolFault.TheVariants.{TooLong, Memory}
+use Rattle.csdf_answers.specs.Faults.{fault_text, status_of}
+use Rattle.csdf_answers.specs.Printed.{newline}
+use Rattle.csdf_answers.specs.Session.{IsAnswer}
 
 -- the fault's line was put at the end of what a device has taken, where that is known, or the device failed
 abbrev pub TellsLine : ToolFault → Option (List ℕ) → Option (List ℕ) → Bool → Type 0

@@ -1,11 +1,3 @@
 pub mod CommandLine
-pub mod Described
-pub mod Drawing
 pub mod Ends
-pub mod Explained
-pub mod Faults
-pub mod Lines
-pub mod Printed
 pub mod Running
-pub mod Session
-pub mod Turns

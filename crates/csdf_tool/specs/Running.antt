@@ -7,21 +7,21 @@ use Rattle.csdf_graph.specs.declared.tokens.TokenFault.TheVariants as token
 use Rattle.csdf_graph.specs.Graph.{Actor, Graph}
 use Rattle.csdf_graph.specs.GraphText.{IsGraphOf}
 use Rattle.csdf_core.specs.Layout.{is_source_kernel}
-use Rattle.csdf_run.specs.declared.fault.RunFault.{RunFault}
-use Rattle.csdf_run.specs.declared.fault.RunFault.TheVariants as run
+use Rattle.csdf_floor.specs.declared.fault.RunFault.{RunFault}
+use Rattle.csdf_floor.specs.declared.fault.RunFault.TheVariants as run
 use Rattle.csdf_run.specs.declared.texts.Texts.{Texts}
 use Rattle.csdf_run.specs.declared.texts.TextsFault.{TextsFault}
 use Rattle.csdf_run.specs.declared.texts.TextsFault.TheVariants as texts
 use Rattle.csdf_run.specs.Texts.{IsRefusal, TellRun, TellSequentialRun}
-use Rattle.csdf_run.specs.Work.{is_sink_kernel}
-use Rattle.csdf_tool.specs.declared.fault.Stream.TheVariants.{File}
-use Rattle.csdf_tool.specs.declared.fault.ToolFault.{ToolFault}
-use Rattle.csdf_tool.specs.declared.fault.ToolFault.TheVariants.{TokenSyntax, TokenRange, TooManyTokens, Mixed, Worker, Device, Memory}
+use Rattle.csdf_floor.specs.Work.{is_sink_kernel}
+use Rattle.csdf_answers.specs.declared.fault.Stream.TheVariants.{File}
+use Rattle.csdf_answers.specs.declared.fault.ToolFault.{ToolFault}
+use Rattle.csdf_answers.specs.declared.fault.ToolFault.TheVariants.{TokenSyntax, TokenRange, TooManyTokens, Mixed, Worker, Device, Memory}
 use Rattle.csdf_tool.specs.declared.run_files.SinkFile.{SinkFile}
 use Rattle.csdf_tool.specs.CommandLine.{Order}
-use Rattle.csdf_tool.specs.Described.{actor_names}
-use Rattle.csdf_tool.specs.Faults.{accept_fault, fault_of}
-use Rattle.csdf_tool.specs.Printed.{name_at, names_of}
+use Rattle.csdf_answers.specs.Described.{actor_names}
+use Rattle.csdf_answers.specs.Faults.{accept_fault, fault_of}
+use Rattle.csdf_answers.specs.Printed.{name_at, names_of}
 
 -- ---- files
 

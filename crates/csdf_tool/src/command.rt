@@ -9,10 +9,10 @@ ghost use Rattle.csdf_tool.specs.CommandLine.{number_in, number_of, order_of, or
 
 use crate::help;
 use crate::order::RunOrder;
-use crate::question::Question;
 use clap::builder::ValueParser;
 use clap::error::ErrorKind;
 use clap::{Arg, ArgMatches, Command, Error};
+use csdf_answers::Question;
 use std::alloc::{AllocError, Global};
 
 /// What the program is asked to do.

@@ -2,10 +2,10 @@
 
 ghost use Rattle.std.specs.Prelude.{◌≡◌, ◌≢◌, true, IfErr, OnOk};
 ghost use Rattle.std.specs.Io.KnownBytes.{Appends};
-ghost use Rattle.csdf_tool.specs.Faults.{status_of};
+ghost use Rattle.csdf_answers.specs.Faults.{status_of};
 ghost use Rattle.csdf_tool.specs.Running.{IsUnread, IsUnwritten};
 
-use crate::fault::{Name, Stream, ToolFault, unread};
+use csdf_answers::{Name, Stream, ToolFault, unread};
 use csdf_graph::{FromReader, InputFault, Outlet, ToWriter, read_bytes, write_bytes};
 use std::alloc::{AllocError, Global};
 use std::fs;

@@ -3,27 +3,11 @@
 #![tactic(auto)]
 
 mod command;
-#[cfg(test)]
-mod command_tests;
-mod described;
-mod drawing;
-mod explained;
-mod explanation;
-mod fault;
 mod files;
 mod help;
-mod line;
 mod order;
-mod printed;
 mod program;
-mod question;
-mod replay;
 mod run_files;
-mod session;
-#[cfg(test)]
-mod tests;
-mod turns;
-mod words;
 
 use crate::program::run_words;
 use csdf_graph::{FromReader, ToWriter};

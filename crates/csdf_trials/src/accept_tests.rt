@@ -1,8 +1,7 @@
 ghost use Rattle.std.specs.Prelude.{◌<◌, length};
 
-use crate::analysis_tests::{
-    CHAIN, CONVERTER, DISAGREEING, TWO_PHASES, TWO_TOKENS, UNEVEN_PHASES, graph,
-};
+use crate::analysis_tests::{CONVERTER, TWO_PHASES, TWO_TOKENS, UNEVEN_PHASES, graph};
+use crate::shared::{CHAIN, DISAGREEING, STUCK_CYCLE, accepted_in};
 use csdf_analysis::{AcceptFault, Accepted, accept, capacities, raise, schedule};
 use std::alloc::{AllocError, Global};
 use std::test::Fail;
@@ -29,15 +28,6 @@ actor = [
 channel = [
   { name = "x", from = "a", to = "b", produce = [2], consume = [3], capacity = 5 },
   { name = "y", from = "b", to = "c", produce = [1], consume = [2] },
-]
-"#;
-
-/// A cycle with no token, and one with a token.
-pub(crate) const STUCK_CYCLE: &str =
-    r#"actor = [{ name = "a", kernel = "copy" }, { name = "b", kernel = "copy" }]
-channel = [
-  { name = "x", from = "a", to = "b", produce = [1], consume = [1] },
-  { name = "y", from = "b", to = "a", produce = [1], consume = [1] },
 ]
 "#;
 
@@ -92,13 +82,6 @@ channel = [
 ]
 "#;
 
-fn accepted(rt: &HostRuntime, text: &str) -> Result<Accepted, Fail> {
-    match accept(rt.alloc(), graph(rt, text)?) {
-        Ok(accepted) => Ok(accepted),
-        Err((_, fault)) => Err(Fail::from(fault)),
-    }
-}
-
 #[test]
 fn finds_the_least_capacities(rt: HostRuntime) -> Result<(), Fail> {
     for (text, capacities, cells) in [
@@ -113,7 +96,7 @@ fn finds_the_least_capacities(rt: HostRuntime) -> Result<(), Fail> {
         (LATE_SINK_GIVEN_SECOND, [1024, 2].as_slice(), 1026),
         (CONVERTER, [1, 4, 8, 14, 5].as_slice(), 32),
     ] {
-        let accepted = accepted(&rt, text)?;
+        let accepted = accepted_in(rt.alloc(), text)?;
         assert_eq!(rt; accepted.capacities(), capacities, "of {text}");
         assert_eq!(rt; accepted.cells(), cells, "of {text}");
     }
@@ -139,7 +122,7 @@ fn says_why_a_graph_is_refused(rt: HostRuntime) -> Result<(), Fail> {
 
 #[test]
 fn prints_the_schedule(rt: HostRuntime) -> Result<(), Fail> {
-    let chain = accepted(&rt, CHAIN)?;
+    let chain = accepted_in(rt.alloc(), CHAIN)?;
     assert_eq!(rt;
         schedule(rt.alloc(), &chain)?.as_slice(),
         [0, 0, 1, 0, 1, 2].as_slice()
@@ -166,7 +149,7 @@ fn raised(alloc: Global, accepted: &Accepted, c: u32) -> Result<(u32, u32), Allo
 
 #[test]
 fn raises_one_capacity_in_one_run(rt: HostRuntime) -> Result<(), Fail> {
-    let late_sink = accepted(&rt, LATE_SINK)?;
+    let late_sink = accepted_in(rt.alloc(), LATE_SINK)?;
     if !late_sink.capacities().is_empty() {
         assert_eq!(rt; raised(rt.alloc(), &late_sink, 0)?, (1024, 32));
     }

@@ -1,18 +1,7 @@
+use crate::shared::{CHAIN, DISAGREEING};
 use csdf_analysis::{AcceptFault, repetition};
 use csdf_graph::{Graph, read_graph};
 use std::test::Fail;
-
-/// A source that gives 2, a stage that takes 3 and gives 1, and a sink that takes 2.
-pub(crate) const CHAIN: &str = r#"actor = [
-  { name = "a", kernel = "source" },
-  { name = "b", kernel = "copy" },
-  { name = "c", kernel = "sink" },
-]
-channel = [
-  { name = "x", from = "a", to = "b", produce = [2], consume = [3] },
-  { name = "y", from = "b", to = "c", produce = [1], consume = [2] },
-]
-"#;
 
 pub(crate) const TWO_PHASES: &str = r#"actor = [
   { name = "a", kernel = "source", phases = 2 },
@@ -50,17 +39,6 @@ channel = [
   { name = "cd", from = "c", to = "d", produce = [2], consume = [7] },
   { name = "de", from = "d", to = "e", produce = [8], consume = [7] },
   { name = "ef", from = "e", to = "f", produce = [5], consume = [1] },
-]
-"#;
-
-/// Two channels that ask for different vectors.
-pub(crate) const DISAGREEING: &str = r#"actor = [
-  { name = "a", kernel = "source" },
-  { name = "b", kernel = "sink" },
-]
-channel = [
-  { name = "x", from = "a", to = "b", produce = [1], consume = [1] },
-  { name = "y", from = "a", to = "b", produce = [2], consume = [1] },
 ]
 "#;
 

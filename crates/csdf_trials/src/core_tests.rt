@@ -1,8 +1,9 @@
 ghost use Rattle.std.specs.Prelude.{◌≡◌, ◌≤◌, All, length, IfOk};
 
-use csdf_analysis::{Accepted, accept};
+use crate::shared::{CHAIN, accepted_in};
+use csdf_analysis::Accepted;
 use csdf_core::{Core, Move, Played, Reply, Setup, play};
-use csdf_graph::{Actor, Kernel, read_graph};
+use csdf_graph::{Actor, Kernel};
 use csdf_pool::Cells;
 use std::alloc::{AllocError, Global};
 use std::fmt::Write;
@@ -20,18 +21,6 @@ channel = [
 ]
 "#;
 
-/// A source that gives 2, a stage that takes 3 and gives 1, and a sink that takes 2.
-const CHAIN: &str = r#"actor = [
-  { name = "a", kernel = "source" },
-  { name = "b", kernel = "copy" },
-  { name = "c", kernel = "sink" },
-]
-channel = [
-  { name = "x", from = "a", to = "b", produce = [2], consume = [3] },
-  { name = "y", from = "b", to = "c", produce = [1], consume = [2] },
-]
-"#;
-
 /// What the core of the chain shows when the source has fired twice and written a third time, and
 /// the stage has fired once.
 const STATE: &str = r#"actor 0: 2 fired, Written, needs 0, gives 2
@@ -45,7 +34,7 @@ actor 64: needs 0
 "#;
 
 /// An actor that hands its one token to itself.
-const LOOP: &str = r#"actor = [{ name = "a", kernel = "copy" }]
+pub(crate) const LOOP: &str = r#"actor = [{ name = "a", kernel = "copy" }]
 channel = [
   { name = "s", from = "a", to = "a", produce = [1], consume = [1], initial = [1] },
 ]
@@ -96,14 +85,6 @@ pub(crate) fn moves_in(alloc: Global, script: &str) -> Result<Vec<Move>, Fail> {
         moves.push(move_in(alloc, line)?)?;
     }
     Ok(moves)
-}
-
-/// The graph of the file, which is accepted.
-pub(crate) fn accepted_in(alloc: Global, text: &str) -> Result<Accepted, Fail> {
-    match accept(alloc, read_graph(alloc, text.as_bytes())?) {
-        Ok(accepted) => Ok(accepted),
-        Err((_, fault)) => Err(fault.into()),
-    }
 }
 
 /// So many tokens for a source, and none for another actor.

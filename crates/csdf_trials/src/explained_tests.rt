@@ -1,4 +1,5 @@
-use csdf_graph::{explain_fault, read_graph};
+use csdf_answers::explain_fault;
+use csdf_graph::{read_graph, read_script};
 use std::alloc::{AllocError, Global};
 use std::test::*;
 
@@ -138,6 +139,47 @@ fn explains_refused_files(rt: HostRuntime) -> Result<(), Fail> {
         let text = PAIR.replacen(rt.alloc(), case.old, case.new, 1)?;
         let told = explained(rt.alloc(), text.as_bytes())?;
         assert_eq!(rt; told.as_str(), case.told, "{}", case.new);
+    }
+    Ok(())
+}
+
+/// A script's table, and the explanation.
+const SCRIPTS: [(&str, &str); 6] = [
+    (
+        "move = []",
+        "move: found a key that this table has not, wanted limit, supply, firings or moves\n",
+    ),
+    (
+        "name = \"x\"",
+        "name: found a key that this table has not, wanted limit, supply, firings or moves\n",
+    ),
+    (
+        "supply = \"2\"",
+        "supply: found a value of kind string, wanted an integer\n",
+    ),
+    (
+        "moves = [\"begin src\", 1]",
+        "moves: found an entry of kind integer, wanted an array of strings\n",
+    ),
+    (
+        "limit = 1000001",
+        "limit: found 1000001, wanted 0 to 1000000\n",
+    ),
+    (
+        "firings = -1",
+        "firings: found -1, wanted 0 to 1048576000\n",
+    ),
+];
+
+#[test]
+fn explains_refused_scripts(rt: HostRuntime) -> Result<(), Fail> {
+    for (table, wanted) in &SCRIPTS {
+        let text = format!(in rt.alloc(); "{PAIR}[script]\n{table}\n")?;
+        let Err(fault) = read_script(rt.alloc(), text.as_bytes()) else {
+            return Err(Fail::from("a script is taken"));
+        };
+        let told = explain_fault(rt.alloc(), text.as_bytes(), fault)?;
+        assert_eq!(rt; told.as_str(), *wanted);
     }
     Ok(())
 }

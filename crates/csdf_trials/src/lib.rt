@@ -1,5 +1,5 @@
-//! The libraries tried out: worked examples and runs, on their public calls alone. They are a crate of
-//! their own, since a crate with tests is proved twice.
+//! The graph, the analysis, the core and the answers tried out: worked examples, on their public calls
+//! alone. They are a crate of their own, since a crate with tests is proved twice.
 #![tactic(auto)]
 
 #[cfg(test)]
@@ -13,20 +13,16 @@ mod core_tests;
 #[cfg(test)]
 mod explained_tests;
 #[cfg(test)]
-mod gate_tests;
-#[cfg(test)]
 mod graph_tests;
 #[cfg(test)]
 mod memory_tests;
 #[cfg(test)]
-mod oracle_tests;
-#[cfg(test)]
 mod period_tests;
 #[cfg(test)]
-mod run_memory_tests;
+mod question_tests;
 #[cfg(test)]
-mod run_tests;
+mod script_tests;
+#[cfg(test)]
+mod shared;
 #[cfg(test)]
 mod stall_tests;
-#[cfg(test)]
-mod text_tests;

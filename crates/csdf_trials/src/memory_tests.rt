@@ -1,8 +1,9 @@
 //! Calls on graphs, and moves, that take memory, for `tests/memory/run`: it refuses them one allocation
 //! after another.
 
-use crate::analysis_tests::{CHAIN, graph};
-use crate::core_tests::{AMPLE, PAIR, accepted_in, moves_in, setup_of, shown, text_of};
+use crate::analysis_tests::graph;
+use crate::core_tests::{AMPLE, PAIR, moves_in, setup_of, shown, text_of};
+use crate::shared::{CHAIN, accepted_in};
 use csdf_analysis::{AcceptFault, Accepted, accept, capacities, repetition};
 use csdf_core::{Core, Move, Reply, play_on};
 use std::alloc::Global;

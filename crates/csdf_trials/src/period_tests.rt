@@ -1,7 +1,8 @@
 //! Printed schedules, played over and over.
-use csdf_analysis::{Accepted, accept, schedule};
+use crate::shared::accepted_in;
+use csdf_analysis::{Accepted, schedule};
 use csdf_core::{Core, Setup};
-use csdf_graph::{Kernel, read_graph};
+use csdf_graph::Kernel;
 use std::alloc::{AllocError, Global};
 use std::process::Abort;
 use std::test::Fail;
@@ -86,14 +87,6 @@ channel = [
   { name = "clean", from = "left", to = "line", produce = [1], consume = [1] },
 ]
 "#;
-
-/// The graph of the file, which is accepted.
-fn accepted_in(alloc: Global, text: &str) -> Result<Accepted, Fail> {
-    match accept(alloc, read_graph(alloc, text.as_bytes())?) {
-        Ok(accepted) => Ok(accepted),
-        Err((_, fault)) => Err(fault.into()),
-    }
-}
 
 /// A core with ample limits and files.
 fn core_of(rt: &impl Abort, alloc: Global, accepted: &Accepted) -> Result<Core, AllocError> {

@@ -1,5 +1,6 @@
-use crate::accept_tests::{STUCK_CYCLE, TIGHT_CHAIN};
-use crate::analysis_tests::{CHAIN, DISAGREEING, STEEP, graph};
+use crate::accept_tests::TIGHT_CHAIN;
+use crate::analysis_tests::{STEEP, graph};
+use crate::shared::{CHAIN, DISAGREEING, STUCK_CYCLE};
 use csdf_analysis::{Bounds, Ratio, Stall, Wait, demand_of, repetition, stall_of};
 use std::test::Fail;
 

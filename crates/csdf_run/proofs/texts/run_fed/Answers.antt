@@ -2,10 +2,10 @@ use Rattle.std.proofs.Common.{List, ap, ◌∙◌, subst}
 use Rattle.std.specs.Prelude.{ℤ}
 use Rattle.std.specs.Global.{Vec}
 use Rattle.csdf_graph.specs.Graph.{Graph}
-use Rattle.csdf_run.specs.Outcome.{IsOutcome}
-use Rattle.csdf_run.specs.Report.{names_of, report_text}
+use Rattle.csdf_floor.specs.Outcome.{IsOutcome}
+use Rattle.csdf_floor.specs.Report.{names_of, report_text}
 use Rattle.csdf_run.specs.Texts.{sink_texts, work_for}
-use Rattle.csdf_run.specs.Work.{Work, feeds_in}
+use Rattle.csdf_floor.specs.Work.{Work, feeds_in}
 use Rattle.csdf_run.proofs.texts.run_fed.Goals as goal
 
 pub returns : goal.returns

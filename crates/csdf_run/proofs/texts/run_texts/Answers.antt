@@ -1,5 +1,5 @@
 use Rattle.csdf_run.specs.Texts.{texts_in}
-use Rattle.csdf_run.specs.Work.{feeds_in}
+use Rattle.csdf_floor.specs.Work.{feeds_in}
 use Rattle.csdf_run.proofs.FeedTexts.{as_sequential, can_be_run}
 use Rattle.csdf_run.proofs.texts.run_texts.Goals as goal
 

@@ -1,8 +1,8 @@
 use Rattle.std.proofs.Common.{◌≡◌, Ok, Err, sym, ◌∙◌}
 use Rattle.csdf_graph.specs.declared.intake.InputFault.TheVariants as input
-use Rattle.csdf_tool.specs.declared.fault.ToolFault.TheVariants as fault
-use Rattle.csdf_tool.specs.declared.fault.Stream.TheVariants.{Input, Output}
-use Rattle.csdf_tool.proofs.AnswerLemmas.{refusal_by_file}
+use Rattle.csdf_answers.specs.declared.fault.ToolFault.TheVariants as fault
+use Rattle.csdf_answers.specs.declared.fault.Stream.TheVariants.{Input, Output}
+use Rattle.csdf_answers.proofs.AnswerLemmas.{refusal_by_file}
 use Rattle.csdf_tool.proofs.program.play_input.Goals as goal
 
 pub returns-in-Ok-clause-device : goal.returns-in-Ok-clause-device

@@ -1,7 +1,7 @@
 use Rattle.std.proofs.Common.{sym, subst, ◌∙◌}
 use Rattle.csdf_tool.specs.Running.{IsUnread}
 use Rattle.csdf_tool.proofs.RunLemmas.{unread_here}
-use Rattle.csdf_tool.proofs.ToldLemmas.{if_err_fault}
+use Rattle.csdf_answers.proofs.ToldLemmas.{if_err_fault}
 use Rattle.csdf_tool.proofs.run_files.feeds_in.Goals as goal
 
 pub returns-in_err-feed_bytes : goal.returns-in_err-feed_bytes

@@ -3,7 +3,7 @@ use Rattle.csdf_graph.specs.GraphText.{IsGraphOf}
 use Rattle.csdf_tool.specs.CommandLine.{order_view}
 use Rattle.csdf_tool.specs.Running.{IsUnreadOf}
 use Rattle.csdf_tool.proofs.RunLemmas.{not_memory, refused_by_feed, refused_by_texts}
-use Rattle.csdf_tool.proofs.ToldLemmas.{if_err_fault}
+use Rattle.csdf_answers.proofs.ToldLemmas.{if_err_fault}
 use Rattle.csdf_tool.proofs.run_files.ran_by.Goals as goal
 
 pub returns-in_err-feeds-clause-refused : goal.returns-in_err-feeds-clause-refused

@@ -1,8 +1,8 @@
 use Rattle.std.proofs.Common.{sym, ◌≡◌, ◌∙◌}
-use Rattle.csdf_tool.specs.declared.fault.ToolFault.TheVariants as fault
-use Rattle.csdf_tool.specs.declared.fault.Stream.TheVariants.{Output}
+use Rattle.csdf_answers.specs.declared.fault.ToolFault.TheVariants as fault
+use Rattle.csdf_answers.specs.declared.fault.Stream.TheVariants.{Output}
 use Rattle.csdf_tool.proofs.RunLemmas.{unwritten_of_ends}
-use Rattle.csdf_tool.proofs.ToldLemmas.{if_err_fault}
+use Rattle.csdf_answers.proofs.ToldLemmas.{if_err_fault}
 use Rattle.csdf_tool.proofs.run_files.run_files.Goals as goal
 
 pub returns-in_err-ran-clause-refused : goal.returns-in_err-ran-clause-refused

@@ -3,7 +3,7 @@ use Rattle.csdf_graph.specs.Graph.{actor_view}
 use Rattle.csdf_run.specs.Texts.{texts_in}
 use Rattle.csdf_tool.specs.Running.{file_view, sink_files}
 use Rattle.csdf_tool.proofs.RunLemmas.{unwritten_here}
-use Rattle.csdf_tool.proofs.ToldLemmas.{if_err_fault}
+use Rattle.csdf_answers.proofs.ToldLemmas.{if_err_fault}
 use Rattle.csdf_tool.proofs.run_files.write_sinks.Goals as goal
 
 pub returns-in_err-write_file : goal.returns-in_err-write_file

@@ -1,0 +1,7 @@
+pub mod NameLemmas
+pub mod TurnLemmas
+pub mod SessionLemmas
+pub mod AnswerLemmas
+pub mod DotLemmas
+pub mod ExplainLemmas
+pub mod ToldLemmas

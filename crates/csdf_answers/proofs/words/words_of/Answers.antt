@@ -1,0 +1,15 @@
+use Rattle.std.proofs.Common.{length, rules}
+use Rattle.std.proofs.lemmas.Iterator.Consumers.{YieldsList-at, YieldsList-from_filter, map_from_collect}
+use Rattle.std.proofs.lemmas.Iterator.Splits.{YieldsList-from_str_split}
+use Rattle.std.specs.Prelude.{nat_lt}
+use borrow.Author.Tests.{tests}
+use Rattle.csdf_answers.proofs.words.words_of.Goals as goal
+
+pub returns : goal.returns
+returns c =
+    map_from_collect _ c.collect.ensures.ran
+    (YieldsList-from_filter _ (λ word. nat_lt 0 (length word))
+    (YieldsList-at c.filter.ensures.source (YieldsList-from_str_split 32 c.args.line.now (search rules)
+    c.split.ensures.text c.split.ensures.has_more c.split.ensures.pattern))
+    c.filter.ensures.closure
+    (λ x b q k. search (rules, tests)))

@@ -1,0 +1,117 @@
+-- What the program tells of a graph file in answer to `csdf explain`: why it is refused, or that it is accepted.
+use Rattle.std.specs.Prelude.{◌≡◌, ◌⊎◌, ℕ, List, [], ◌++◌, Option, Some, None, Result, Ok, Err, MatchResult, codes, slice_get, slice_index, slice_index_or}
+use Rattle.std.specs.List.{enumerate_from, flat_map}
+use Rattle.std.specs.Fmt.{decimal}
+use Rattle.csdf_graph.specs.declared.fault.GraphFault.{GraphFault}
+use Rattle.csdf_graph.specs.Graph.{Channel, Graph}
+use Rattle.csdf_graph.specs.GraphText.{IsGraphOf}
+use Rattle.csdf_analysis.specs.declared.demand.Demand.{Demand}
+use Rattle.csdf_analysis.specs.declared.demand.Ratio.{Ratio}
+use Rattle.csdf_analysis.specs.declared.fault.AcceptFault.{AcceptFault}
+use Rattle.csdf_analysis.specs.declared.fault.AcceptFault.TheVariants as accept
+use Rattle.csdf_analysis.specs.declared.stall.Bounds.{Bounds}
+use Rattle.csdf_analysis.specs.declared.stall.Bounds.TheVariants as by
+use Rattle.csdf_analysis.specs.declared.stall.Stall.{Stall}
+use Rattle.csdf_analysis.specs.declared.stall.Wait.{Wait}
+use Rattle.csdf_analysis.specs.declared.stall.Wait.TheVariants as wait
+use Rattle.csdf_analysis.specs.Acceptance.{Accepted, IsAccepted, IsNotAccepted}
+use Rattle.csdf_analysis.specs.Demands.{IsDemand}
+use Rattle.csdf_analysis.specs.Repetition.{IsRepetition}
+use Rattle.csdf_analysis.specs.Stalling.{IsStall, bounds_for}
+use Rattle.csdf_answers.specs.declared.fault.ToolFault.{ToolFault}
+use Rattle.csdf_answers.specs.Described.{actor_names}
+use Rattle.csdf_answers.specs.Faults.{fault_of, fault_text}
+use Rattle.csdf_answers.specs.Printed.{newline, names_of, name_at}
+
+-- ---- texts
+
+abbrev pub accepted_text : List ℕ
+accepted_text = codes "accepted: a period completes, and can be repeated for ever\n"
+
+-- so many cycles of the one to so many of the other
+abbrev pub asked_text : List ℕ → List ℕ → Ratio → List ℕ
+asked_text from to r = codes " asks " ++ decimal r.from ++ codes " of " ++ from ++ codes " to " ++ decimal r.to ++ codes " of " ++ to
+
+-- what the channels before it ask
+abbrev pub ratio_text : Ratio → List ℕ
+ratio_text r = codes ", those before it " ++ (decimal r.from ++ (codes " to " ++ (decimal r.to ++ newline)))
+
+abbrev pub before_text : Option Ratio → List ℕ
+before_text None = codes ", and with those before it more than 1024 of some actor\n"
+before_text (Some r) = ratio_text r
+
+-- the line of a channel that is not balanced, by its name and those of its ends
+abbrev pub unbalanced_text : List ℕ → List ℕ → List ℕ → Demand → List ℕ
+unbalanced_text name from to d = codes "unbalanced: " ++ name ++ asked_text from to d.own ++ before_text d.before
+
+abbrev pub too_large_text : List ℕ → List ℕ
+too_large_text name = codes "too large: " ++ name ++ codes " is given more than 65535 tokens in a period, its first ones counted\n"
+
+-- what the matter is with a run that stands still under these capacities
+abbrev pub heading : Bounds → List ℕ
+heading by.Full = codes "deadlock: under full capacities no actor can fire any more, and the period is not complete\n"
+heading by.Given = codes "too tight: under the given capacities no actor can fire any more, and the period is not complete\n"
+
+-- the line of an actor that waits for tokens of a channel, and of one that waits for room in it
+abbrev pub tokens_line : List ℕ → List ℕ → ℕ → List ℕ
+tokens_line actor name holds = actor ++ codes " waits for tokens of " ++ name ++ codes ", which holds " ++ decimal holds ++ newline
+
+abbrev pub room_line : List ℕ → List ℕ → ℕ → ℕ → List ℕ
+room_line actor name holds most =
+    actor ++ (codes " waits for room in " ++ (name ++ (codes ", which holds " ++ (decimal holds ++ (codes " of " ++ (decimal most ++ newline))))))
+
+-- the line of an actor by its wait, the names of the channels, what they hold and their capacities
+abbrev pub wait_line : List (List ℕ) → List ℕ → List ℕ → List ℕ → Wait → List ℕ
+wait_line names held bounds actor (wait.Tokens c) = tokens_line actor (name_at names c) (slice_index held c)
+wait_line names held bounds actor (wait.Room c) = room_line actor (name_at names c) (slice_index held c) (slice_index bounds c)
+
+-- and none where it does not wait
+abbrev pub wait_text : List (List ℕ) → List ℕ → List ℕ → List ℕ → Option Wait → List ℕ
+wait_text names held bounds actor None = []
+wait_text names held bounds actor (Some w) = wait_line names held bounds actor w
+
+-- the lines of all actors in order
+abbrev pub wait_lines : List (List ℕ) → Stall → List (ℕ × List ℕ) → List ℕ
+wait_lines names s rows =
+    flat_map (λ row. wait_text names s.held.items s.bounds.items row.1 (slice_index_or s.waits.items row.0 None)) rows
+
+abbrev pub stall_text : Graph → Bounds → Stall → List ℕ
+stall_text g bounds s = heading bounds ++ wait_lines (names_of g.channels) s (enumerate_from 0 (actor_names g.actors))
+
+-- ---- explanations
+
+-- the channel of the number is told, with what it asks and what those before it ask
+abbrev pub TellsUnbalanced : Graph → ℕ → List ℕ → Type 0
+TellsUnbalanced g c text =
+    (channel : Channel) × (d : Demand) × (slice_get g.channels c ≡ Some channel) × IsDemand g.actors g.channels c d
+    × (text ≡ unbalanced_text (name_at (names_of g.channels) c) (name_at (actor_names g.actors) channel.from) (name_at (actor_names g.actors) channel.to) d)
+
+-- the actors that wait where a run stands still under the capacities are told
+abbrev pub TellsStall : Graph → Bounds → List ℕ → Type 0
+TellsStall g bounds text =
+    (r : List ℕ) × (q : List ℕ) × (s : Stall) × IsRepetition g.actors g.channels r q × IsStall g.channels q (bounds_for bounds q g.channels) s
+    × (text ≡ stall_text g bounds s)
+
+-- what is told of a graph for each reason to refuse it
+abbrev pub TellsRefusal : Graph → AcceptFault → List ℕ → Type 0
+TellsRefusal g (accept.Unbalanced c) text = TellsUnbalanced g c text
+TellsRefusal g (accept.TooLarge c) text = text ≡ too_large_text (name_at (names_of g.channels) c)
+TellsRefusal g accept.Deadlock text = TellsStall g by.Full text
+TellsRefusal g accept.TooTight text = TellsStall g by.Given text
+TellsRefusal g accept.Memory text = ⊥
+
+-- what is told of a graph: that it is accepted, or why it is not
+abbrev pub ExplainsGraph : Graph → List ℕ → Type 0
+ExplainsGraph g text =
+    ((a : Accepted) × IsAccepted a × (a.graph ≡ g) × (text ≡ accepted_text))
+    ⊎ ((refusal : AcceptFault) × IsNotAccepted g refusal × TellsRefusal g refusal text)
+
+-- what is told of a graph file that is refused: the line of its fault, and then what else there is to say of it
+abbrev pub ExplainsFault : GraphFault → List ℕ → Type 0
+ExplainsFault fault text = (more : List ℕ) × (text ≡ fault_text (fault_of fault) ++ newline ++ more)
+
+-- an answer to `csdf explain`, which is never a fault of the file
+abbrev pub IsExplained : List ℕ → Result (List ℕ) ToolFault → Type 0
+IsExplained bytes (Ok text) =
+    (graph : Result Graph GraphFault) × IsGraphOf bytes graph × MatchResult graph (λ g. ExplainsGraph g text) (λ fault. ExplainsFault fault text)
+IsExplained bytes (Err fault) = ⊥

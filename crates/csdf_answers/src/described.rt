@@ -1,0 +1,121 @@
+//! A question about a graph file, from its bytes to its answer.
+
+ghost use Rattle.std.specs.Prelude.{◌≡◌, ◌≢◌, ℕ, List, true, Ok, Err, string_bytes, IfErr, IfOk, OnOk};
+ghost use Rattle.std.specs.Io.KnownBytes.{Appends};
+ghost use Rattle.csdf_analysis.specs.Repetition.{IsRepetition};
+ghost use Rattle.csdf_answers.specs.Described.{RefusesRepetition, IsCheck, IsRepetitionTold, IsScheduleTold, IsCapacityTold, IsDotTold, IsTold, IsDescription};
+ghost use Rattle.csdf_answers.specs.Faults.{Tells};
+
+use crate::drawing::dot_text;
+use crate::fault::{Stream, ToolFault};
+use crate::question::{Question, capacity_text, check_text, repetition_text, schedule_text};
+use crate::session::{accept_fault, accepted_of};
+use csdf_analysis::{Vector, repetition};
+use csdf_graph::{Graph, Outlet, read_graph, write_bytes};
+use std::alloc::Global;
+
+/// The least repetition vector, or why there is none, as the program tells it.
+fn vector_of(alloc: Global, graph: &Graph) -> Result<Vector, ToolFault>
+    ensures vector { IfOk result (λ v. IsRepetition graph.now.actors graph.now.channels v.r.items v.q.items) }
+    ensures refused { IfErr result (λ fault. fault ≢ ToolFault.Memory → RefusesRepetition graph.now fault) }
+{
+    match repetition(alloc, graph) {
+        Ok(vector) => Ok(vector),
+        Err(fault) => Err(accept_fault(alloc, graph, fault)?),
+    }
+}
+
+/// That the graph has a least repetition vector, or why not.
+fn check_of(alloc: Global, graph: &Graph) -> Result<String, ToolFault>
+    ensures { Tells string_bytes result (IsCheck graph.now) }
+{
+    let _ = vector_of(alloc, graph)?;
+    let text = check_text(alloc, graph.actors().len(), graph.channels().len())?;
+    Ok(text)
+}
+
+/// The least repetition vector, or why there is none.
+fn repetition_of(alloc: Global, graph: &Graph) -> Result<String, ToolFault>
+    ensures { Tells string_bytes result (IsRepetitionTold graph.now) }
+{
+    let vector = vector_of(alloc, graph)?;
+    let text = repetition_text(alloc, graph.actors(), &vector)?;
+    Ok(text)
+}
+
+/// The schedule of a period, or why there is none.
+fn schedule_of(alloc: Global, graph: Graph) -> Result<String, ToolFault>
+    ensures { Tells string_bytes result (IsScheduleTold graph) }
+{
+    let accepted = accepted_of(alloc, graph)?;
+    let text = schedule_text(alloc, &accepted)?;
+    Ok(text)
+}
+
+/// The least capacities, or why there are none.
+fn capacity_of(alloc: Global, graph: Graph) -> Result<String, ToolFault>
+    ensures { Tells string_bytes result (IsCapacityTold graph) }
+{
+    let accepted = accepted_of(alloc, graph)?;
+    let text = capacity_text(alloc, &accepted)?;
+    Ok(text)
+}
+
+/// The drawing of the graph, or why it is not accepted.
+fn dot_of(alloc: Global, graph: Graph) -> Result<String, ToolFault>
+    ensures { Tells string_bytes result (IsDotTold graph) }
+{
+    let accepted = accepted_of(alloc, graph)?;
+    let text = dot_text(alloc, &accepted)?;
+    Ok(text)
+}
+
+/// The answer to a question about a graph, or why there is none.
+fn told(alloc: Global, question: Question, graph: Graph) -> Result<String, ToolFault>
+    ensures { Tells string_bytes result (IsTold question graph) }
+{
+    match question {
+        Question::Check => check_of(alloc, &graph),
+        Question::Repetition => repetition_of(alloc, &graph),
+        Question::Schedule => schedule_of(alloc, graph),
+        Question::Capacity => capacity_of(alloc, graph),
+        Question::Dot => dot_of(alloc, graph),
+    }
+}
+
+/// The answer to a question about a graph file, or its first fault.
+fn description_of(alloc: Global, question: Question, bytes: &[u8]) -> Result<String, ToolFault>
+    ensures { Tells string_bytes result (IsDescription question bytes.now) }
+{
+    let graph = read_graph(alloc, bytes)?;
+    told(alloc, question, graph)
+}
+
+/// Writes the answer to a question about the graph of a file.
+///
+/// The error is the first fault of [`read_graph`], then of [`repetition`] for
+/// [`Question::Check`] and [`Question::Repetition`] or of [`accept`](csdf_analysis::accept) for
+/// the others; then [`ToolFault::Device`] where the writer failed, and nothing was written but for
+/// that one. [`ToolFault::Memory`] may come in place of another answer, and says nothing of the
+/// file.
+pub fn describe<O: Outlet>(
+    alloc: Global,
+    question: Question,
+    bytes: &[u8],
+    writer: &mut O,
+) -> Result<(), ToolFault>
+    ensures written { OnOk result ((text : List ℕ) × IsDescription question bytes.now (Ok text)
+        × Appends (O.written writer.old) (O.written writer.new) text) }
+    ensures unmarked { OnOk result (O.failed writer.new ≡ O.failed writer.old) }
+    ensures refused { IfErr result (λ fault. fault ≢ ToolFault.Memory → fault ≢ ToolFault.Device Stream.Output
+        → IsDescription question bytes.now (Err fault)) }
+    ensures unwritten { IfErr result (λ fault. fault ≢ ToolFault.Device Stream.Output → writer.new ≡ writer.old) }
+    ensures failed { result ≡ Err (ToolFault.Device Stream.Output)
+        → ((text : List ℕ) × IsDescription question bytes.now (Ok text)) × (O.failed writer.new ≡ true) }
+{
+    let text = description_of(alloc, question, bytes)?;
+    match write_bytes(writer, text.as_bytes()) {
+        Ok(()) => Ok(()),
+        Err(_) => Err(ToolFault::Device(Stream::Output)),
+    }
+}

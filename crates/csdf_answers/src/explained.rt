@@ -1,0 +1,124 @@
+//! Why a graph file is refused, or that it is accepted: from its bytes to the explanation.
+
+ghost use Rattle.std.specs.Prelude.{◌≡◌, ◌≢◌, ◌⊎◌, ◌<◌, ◌++◌, ℕ, List, true, length, Ok, Err, string_bytes, IfErr, IfOk, OnOk};
+ghost use Rattle.std.specs.Io.KnownBytes.{Appends};
+ghost use Rattle.csdf_analysis.specs.Acceptance.{IsNotAccepted};
+ghost use Rattle.csdf_answers.specs.Explained.{ExplainsFault, ExplainsGraph, IsExplained, TellsRefusal, TellsStall, TellsUnbalanced, accepted_text};
+
+use crate::explanation::{heading, push_waits, too_large_text, unbalanced_text};
+use crate::fault::{Stream, ToolFault};
+use crate::misfits::explain_fault;
+use crate::printed::name_at;
+use crate::question::actor_name;
+use csdf_analysis::{AcceptFault, Bounds, accept, demand_of, repetition, stall_of};
+use csdf_graph::{Graph, GraphFault, Outlet, read_graph, write_bytes};
+use std::alloc::Global;
+
+/// What the channel asks of its two actors, and what those before it ask.
+fn tell_unbalanced(alloc: Global, graph: &Graph, number: u32) -> Result<String, ToolFault>
+    requires { number < length graph.now.channels }
+    ensures told { IfOk result (λ text. TellsUnbalanced graph.now number (string_bytes text)) }
+    ensures memory { IfErr result (λ fault. fault ≡ ToolFault.Memory) }
+{
+    let Ok(demand) = demand_of(alloc, graph, number) else {
+        return Err(ToolFault::Memory);
+    };
+    let channels = graph.channels();
+    let channel = &channels[number as usize];
+    let from = actor_name(graph.actors(), channel.from);
+    let to = actor_name(graph.actors(), channel.to);
+    let text = unbalanced_text(alloc, name_at(channels, number), from, to, demand)?;
+    Ok(text)
+}
+
+/// The actors that wait where a run stands still under these capacities.
+fn tell_stall(alloc: Global, graph: &Graph, bounds: Bounds) -> Result<String, ToolFault>
+    ensures told { IfOk result (λ text. TellsStall graph.now bounds (string_bytes text)) }
+    ensures memory { IfErr result (λ fault. fault ≡ ToolFault.Memory) }
+{
+    let Ok(vector) = repetition(alloc, graph) else {
+        return Err(ToolFault::Memory);
+    };
+    let stall = stall_of(alloc, graph, &vector, bounds)?;
+    let mut text = String::from_str(alloc, heading(bounds))?;
+    push_waits(&mut text, graph.actors(), graph.channels(), &stall)?;
+    Ok(text)
+}
+
+/// Why the graph is not accepted.
+fn tell_refusal(alloc: Global, graph: &Graph, fault: AcceptFault) -> Result<String, ToolFault>
+    requires { IsNotAccepted graph.now fault }
+    ensures told { IfOk result (λ text. TellsRefusal graph.now fault (string_bytes text)) }
+    ensures memory { IfErr result (λ fault. fault ≡ ToolFault.Memory) }
+{
+    match fault {
+        AcceptFault::Unbalanced(number) => tell_unbalanced(alloc, graph, number),
+        AcceptFault::TooLarge(number) => {
+            let text = too_large_text(alloc, name_at(graph.channels(), number))?;
+            Ok(text)
+        }
+        AcceptFault::Deadlock => tell_stall(alloc, graph, Bounds::Full),
+        AcceptFault::TooTight => tell_stall(alloc, graph, Bounds::Given),
+        AcceptFault::Memory => Err(ToolFault::Memory),
+    }
+}
+
+/// That the graph is accepted, or why not.
+fn tell_graph(alloc: Global, graph: Graph) -> Result<String, ToolFault>
+    ensures told { IfOk result (λ text. ExplainsGraph graph (string_bytes text)) }
+    ensures memory { IfErr result (λ fault. fault ≡ ToolFault.Memory) }
+{
+    match accept(alloc, graph) {
+        Ok(_) => {
+            let text = String::from_str(
+                alloc,
+                "accepted: a period completes, and can be repeated for ever\n",
+            )?;
+            Ok(text)
+        }
+        Err((graph, fault)) => tell_refusal(alloc, &graph, fault),
+    }
+}
+
+/// The line of a fault of a graph file, and what else there is to say of it.
+fn tell_fault(alloc: Global, bytes: &[u8], fault: GraphFault) -> Result<String, ToolFault>
+    ensures told { IfOk result (λ text. ExplainsFault fault (string_bytes text)) }
+    ensures memory { IfErr result (λ fault. fault ≡ ToolFault.Memory) }
+{
+    let more = explain_fault(alloc, bytes, fault)?;
+    let fault = ToolFault::from(fault);
+    let mut text = format!(in alloc; "{fault}\n")?;
+    text.push_str(more.as_str())?;
+    Ok(text)
+}
+
+/// The explanation of a graph file.
+fn explanation_of(alloc: Global, bytes: &[u8]) -> Result<String, ToolFault>
+    ensures told { IfOk result (λ text. IsExplained bytes.now (Ok (string_bytes text))) }
+    ensures memory { IfErr result (λ fault. fault ≡ ToolFault.Memory) }
+{
+    match read_graph(alloc, bytes) {
+        Ok(graph) => tell_graph(alloc, graph),
+        Err(GraphFault::Memory) => Err(ToolFault::Memory),
+        Err(fault) => tell_fault(alloc, bytes, fault),
+    }
+}
+
+/// Writes why the graph of a file is refused, or that it is accepted.
+///
+/// The error is [`ToolFault::Device`] where the writer failed, or [`ToolFault::Memory`], and
+/// nothing was written but for the first.
+pub fn explain<O: Outlet>(alloc: Global, bytes: &[u8], writer: &mut O) -> Result<(), ToolFault>
+    ensures written { OnOk result ((text : List ℕ) × IsExplained bytes.now (Ok text) × Appends (O.written writer.old) (O.written writer.new) text) }
+    ensures unmarked { OnOk result (O.failed writer.new ≡ O.failed writer.old) }
+    ensures refused { IfErr result (λ fault. (fault ≡ ToolFault.Memory) ⊎ (fault ≡ ToolFault.Device Stream.Output)) }
+    ensures unwritten { IfErr result (λ fault. fault ≢ ToolFault.Device Stream.Output → writer.new ≡ writer.old) }
+    ensures failed { result ≡ Err (ToolFault.Device Stream.Output)
+        → ((text : List ℕ) × IsExplained bytes.now (Ok text)) × (O.failed writer.new ≡ true) }
+{
+    let text = explanation_of(alloc, bytes)?;
+    match write_bytes(writer, text.as_bytes()) {
+        Ok(()) => Ok(()),
+        Err(_) => Err(ToolFault::Device(Stream::Output)),
+    }
+}

@@ -1,0 +1,25 @@
+//! What the program `csdf` answers, from the bytes of a graph file to the text: the replies to the
+//! moves of a script, the answers to questions about the graph, and why a graph file is refused.
+#![tactic(auto)]
+
+mod described;
+mod drawing;
+mod explained;
+mod explanation;
+mod fault;
+mod line;
+mod misfits;
+mod printed;
+mod question;
+mod replay;
+mod session;
+mod turns;
+mod words;
+
+pub use described::describe;
+pub use explained::explain;
+pub use fault::{Name, Stream, ToolFault, unread};
+pub use misfits::explain_fault;
+pub use question::{Question, actor_name};
+pub use replay::play_script;
+pub use session::accept_fault;

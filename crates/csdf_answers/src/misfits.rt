@@ -1,0 +1,114 @@
+//! Why a graph file is refused, in words for those who wrote it.
+
+mod joined;
+mod keys;
+mod misfit;
+mod names;
+mod numbers;
+mod ports;
+mod rates;
+
+use crate::misfits::joined::push_unjoined;
+use crate::misfits::keys::shape_misfit;
+use crate::misfits::misfit::{Misfit, table_at};
+use crate::misfits::names::{end_misfit, name_misfit, name_of};
+use crate::misfits::numbers::range_misfit;
+use crate::misfits::ports::ports_misfit;
+use crate::misfits::rates::{length_misfit, zero_misfit};
+use csdf_graph::{At, GraphFault, is_name};
+use std::alloc::{AllocError, Global};
+use toml::Table;
+
+/// The place of a fault, where it has one.
+fn place_of(fault: GraphFault) -> At {
+    match fault {
+        GraphFault::Shape(at) | GraphFault::Name(at) | GraphFault::Range(at) => at,
+        GraphFault::UnknownActor(number)
+        | GraphFault::PhaseLength(number)
+        | GraphFault::ZeroRate(number) => At::Channel(number),
+        GraphFault::KernelPorts(number) => At::Actor(number),
+        GraphFault::NotToml | GraphFault::NotConnected | GraphFault::Memory => At::File,
+    }
+}
+
+/// The key that a fault is about, where it is about one.
+fn misfit_of(file: &Table, fault: GraphFault) -> Option<Misfit<'_>> {
+    match fault {
+        GraphFault::Shape(at) => shape_misfit(file, at),
+        GraphFault::Name(at) => name_misfit(file, at),
+        GraphFault::Range(at) => range_misfit(file, at),
+        GraphFault::UnknownActor(number) => end_misfit(file, number),
+        GraphFault::PhaseLength(number) => length_misfit(file, number),
+        GraphFault::ZeroRate(number) => zero_misfit(file, number),
+        GraphFault::KernelPorts(number) => ports_misfit(file, number),
+        GraphFault::NotToml | GraphFault::NotConnected | GraphFault::Memory => None,
+    }
+}
+
+/// Appends the name of the actor or channel at a fault's place, where it has one.
+fn push_name(text: &mut String, file: &Table, place: At) -> Result<(), AllocError> {
+    let is_named = matches!(place, At::Actor(_) | At::Channel(_));
+    match name_of(table_at(file, place)) {
+        Some(name) if is_named && is_name(name) => write!(text, "{place} is {name}\n"),
+        _ => Ok(()),
+    }
+}
+
+/// Appends what is wrong at the place of a fault.
+fn push_place(text: &mut String, file: &Table, fault: GraphFault) -> Result<(), AllocError> {
+    push_name(text, file, place_of(fault))?;
+    match misfit_of(file, fault) {
+        Some(misfit) => write!(text, "{misfit}\n"),
+        None => Ok(()),
+    }
+}
+
+/// The bytes of the line in which this place is.
+fn line_at(bytes: &[u8], place: usize) -> &[u8] {
+    let (before, after) = bytes.split_at(place.min(bytes.len()));
+    let start = match before.iter().rposition(|byte| *byte == b'\n') {
+        Some(newline) => newline + 1,
+        None => 0,
+    };
+    let end = match after.iter().position(|byte| *byte == b'\n') {
+        Some(newline) => before.len() + newline,
+        None => bytes.len(),
+    };
+    &bytes[start..end]
+}
+
+/// Where the bytes are no TOML: what `toml` says, and the line.
+fn not_toml(alloc: Global, bytes: &[u8], error: &toml::de::Error) -> Result<String, AllocError> {
+    let mut text = String::new(alloc);
+    write!(text, "{error}")?;
+    let place = match error.span() {
+        Some(span) => span.start,
+        None => 0,
+    };
+    match str::from_utf8(line_at(bytes, place)) {
+        Ok(line) if !line.is_empty() => write!(text, "{line}\n")?,
+        _ => (),
+    }
+    Ok(text)
+}
+
+/// What there is to say of a fault with which [`read_graph`](csdf_graph::read_graph) or
+/// [`read_script`](csdf_graph::read_script) refuses a graph file: the name of the table, the key,
+/// what was found there and what is wanted; for a text that is not TOML its line and column, and the
+/// line itself.
+///
+/// The error is want of memory.
+pub fn explain_fault(alloc: Global, bytes: &[u8], fault: GraphFault) -> Result<String, AllocError> {
+    match toml::table_from_slice(alloc, bytes) {
+        Ok(file) => {
+            let mut text = String::new(alloc);
+            push_place(&mut text, &file, fault)?;
+            if fault == GraphFault::NotConnected {
+                push_unjoined(alloc, &mut text, &file)?;
+            }
+            Ok(text)
+        }
+        Err(error) if error.is_memory() => Err(AllocError),
+        Err(error) => not_toml(alloc, bytes, &error),
+    }
+}

@@ -1,0 +1,100 @@
+//! A key whose value does not fit, in words.
+
+use csdf_graph::At;
+use std::fmt;
+use toml::{Table, Value};
+
+/// What stands at a key.
+#[derive(Clone, Copy, Debug)]
+pub(crate) enum Found<'a> {
+    Nothing,
+    Unlisted,
+    /// A value of this kind.
+    Kind(&'static str),
+    /// An array with an entry of this kind.
+    Entry(&'static str),
+    Number(i64),
+    Text(&'a str),
+    /// An array of so many entries.
+    Entries(usize),
+    Zeros,
+    /// So many inputs and outputs.
+    Ports(usize, usize),
+}
+
+impl fmt::Display for Found<'_> {
+    fn fmt<W: fmt::Write>(&self, f: &mut fmt::Formatter<W>) -> fmt::Result {
+        match self {
+            Found::Nothing => write!(f, "nothing"),
+            Found::Unlisted => write!(f, "a key that this table has not"),
+            Found::Kind(kind) => write!(f, "a value of kind {kind}"),
+            Found::Entry(kind) => write!(f, "an entry of kind {kind}"),
+            Found::Number(number) => write!(f, "{number}"),
+            Found::Text(text) => write!(f, "{text:?}"),
+            Found::Entries(count) => write!(f, "{count} entries"),
+            Found::Zeros => write!(f, "zeros alone"),
+            Found::Ports(inputs, outputs) => { write!(f, "{inputs} inputs and {outputs} outputs") }
+        }
+    }
+}
+
+/// What is wanted at a key.
+#[derive(Clone, Copy, Debug)]
+pub(crate) enum Wanted<'a> {
+    Words(&'static str),
+    /// A number from one to another.
+    Number(i64, i64),
+    /// So many rates, one for each phase of the actor with this name.
+    Rates(i64, &'a str),
+}
+
+impl fmt::Display for Wanted<'_> {
+    fn fmt<W: fmt::Write>(&self, f: &mut fmt::Formatter<W>) -> fmt::Result {
+        match self {
+            Wanted::Words(words) => write!(f, "{words}"),
+            Wanted::Number(least, most) => write!(f, "{least} to {most}"),
+            Wanted::Rates(count, actor) => write!(f, "{count}, one for each phase of {actor}"),
+        }
+    }
+}
+
+/// A key, what stands there, and what is wanted.
+#[derive(Clone, Copy, Debug)]
+pub(crate) struct Misfit<'a> {
+    pub(crate) key: &'a str,
+    pub(crate) found: Found<'a>,
+    pub(crate) wanted: Wanted<'a>,
+}
+
+impl fmt::Display for Misfit<'_> {
+    fn fmt<W: fmt::Write>(&self, f: &mut fmt::Formatter<W>) -> fmt::Result {
+        write!(
+            f,
+            "{}: found {}, wanted {}",
+            self.key, self.found, self.wanted
+        )
+    }
+}
+
+/// The table of a list with this number.
+fn listed_at<'a>(file: &'a Table, list: &str, number: u32) -> Option<&'a Table> {
+    file.get(list)?.as_array()?.get(number as usize)?.as_table()
+}
+
+/// The table at a place.
+pub(crate) fn table_at(file: &Table, at: At) -> Option<&Table> {
+    match at {
+        At::File => Some(file),
+        At::Actor(number) => listed_at(file, "actor", number),
+        At::Channel(number) => listed_at(file, "channel", number),
+        At::Script => file.get("script")?.as_table(),
+    }
+}
+
+/// The entries of the array at a key, none where there is no array.
+pub(crate) fn entries_at<'a>(table: &'a Table, key: &str) -> &'a [Value] {
+    match table.get(key) {
+        Some(Value::Array(entries)) => entries.as_slice(),
+        _ => &[],
+    }
+}

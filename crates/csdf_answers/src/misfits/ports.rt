@@ -1,0 +1,43 @@
+//! Kernels without the channels that they ask.
+
+use crate::misfits::misfit::{Found, Misfit, Wanted, entries_at, table_at};
+use crate::misfits::names::name_of;
+use csdf_graph::At;
+use toml::{Table, Value};
+
+/// Whether a channel has the actor with this name at this end.
+fn is_at(channel: &Value, end: &str, actor: &str) -> bool {
+    match channel.get(end) {
+        Some(name) => name.as_str() == Some(actor),
+        None => false,
+    }
+}
+
+/// How many channels have this actor at this end.
+fn count_at(file: &Table, end: &str, actor: &str) -> usize {
+    entries_at(file, "channel")
+        .iter()
+        .filter(|channel| is_at(*channel, end, actor))
+        .count()
+}
+
+/// What a kernel asks, in words.
+fn asked_of(kernel: &str) -> &'static str {
+    match kernel {
+        "source" => "no input and at least one output, as a source has",
+        "sink" => "at least one input and no output, as a sink has",
+        _ => "at least one of each",
+    }
+}
+
+/// An actor that has not the channels that its kernel asks.
+pub(crate) fn ports_misfit(file: &Table, number: u32) -> Option<Misfit<'_>> {
+    let actor = table_at(file, At::Actor(number))?;
+    let name = name_of(Some(actor))?;
+    let kernel = actor.get("kernel")?.as_str()?;
+    Some(Misfit {
+        key: "kernel",
+        found: Found::Ports(count_at(file, "to", name), count_at(file, "from", name)),
+        wanted: Wanted::Words(asked_of(kernel)),
+    })
+}

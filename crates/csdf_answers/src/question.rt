@@ -1,0 +1,123 @@
+//! Questions about a graph, and the text of their answers.
+
+ghost use Rattle.std.specs.Prelude.{◌≡◌, ◌++◌, length, map, string_bytes, IfOk, OnOk};
+ghost use Rattle.std.specs.List.{enumerate_from};
+ghost use Rattle.csdf_graph.specs.Graph.{actor_view, channel_view};
+ghost use Rattle.csdf_answers.specs.Described.{actor_names, check_text, repetition_text, schedule_text, capacity_lines, capacity_text, TellsSchedule};
+ghost use Rattle.csdf_answers.specs.Printed.{names_of, name_at};
+
+use csdf_analysis::{Accepted, Vector, schedule};
+use csdf_graph::{Actor, Channel};
+use std::alloc::{AllocError, Global};
+
+/// What is asked about a graph.
+#[derive(Clone, Copy, Debug, PartialEq, Eq)]
+pub enum Question {
+    /// Whether it has a least repetition vector.
+    Check,
+    /// Its least repetition vector.
+    Repetition,
+    /// The order in which the actors fire in a period.
+    Schedule,
+    /// The least capacities of its channels.
+    Capacity,
+    /// A drawing of it, in the language of Graphviz.
+    Dot,
+}
+
+/// How many actors and channels a consistent graph has.
+pub(crate) fn check_text(
+    alloc: Global,
+    actors: usize,
+    channels: usize,
+) -> Result<String, AllocError>
+    ensures { IfOk result (λ text. string_bytes text ≡ check_text actors channels) }
+{
+    let mut text = String::new(alloc);
+    write!(text, "consistent: {actors} actors, {channels} channels\n")?;
+    Ok(text)
+}
+
+/// A line for each actor: its name, its cycles and its firings in a period.
+pub(crate) fn repetition_text(
+    alloc: Global,
+    actors: &[Actor],
+    vector: &Vector,
+) -> Result<String, AllocError>
+    requires cycles { length vector.now.r.items ≡ length actors.now }
+    requires firings { length vector.now.q.items ≡ length actors.now }
+    ensures { IfOk result (λ text. string_bytes text ≡ repetition_text vector.now.r.items vector.now.q.items
+        (enumerate_from 0 (actor_names (map actor_view actors.now)))) }
+{
+    let mut text = String::new(alloc);
+    for (number, actor) in actors.iter().enumerate() {
+        let name = actor.name.as_str();
+        let cycles = vector.r[number];
+        let firings = vector.q[number];
+        write!(text, "{name} {cycles} {firings}\n")?;
+    }
+    Ok(text)
+}
+
+/// The name of the actor with this number; the empty text where there is none.
+pub fn actor_name(actors: &[Actor], number: u32) -> &str
+    ensures { result.now ≡ name_at (actor_names (map actor_view actors.now)) number }
+{
+    match actors.get(number as usize) {
+        Some(actor) => actor.name.as_str(),
+        None => "",
+    }
+}
+
+/// A line for each firing: its actor's name.
+fn firings_text(alloc: Global, actors: &[Actor], firings: &[u32]) -> Result<String, AllocError>
+    ensures { IfOk result (λ text. string_bytes text ≡ schedule_text (actor_names (map actor_view actors.now)) firings.now) }
+{
+    let mut text = String::new(alloc);
+    for actor in firings {
+        let name = actor_name(actors, *actor);
+        write!(text, "{name}\n")?;
+    }
+    Ok(text)
+}
+
+/// A line for each firing of a period: its actor's name.
+pub(crate) fn schedule_text(alloc: Global, accepted: &Accepted) -> Result<String, AllocError>
+    ensures { IfOk result (λ text. TellsSchedule accepted.now (string_bytes text)) }
+{
+    let firings = schedule(alloc, accepted)?;
+    firings_text(alloc, accepted.graph().actors(), &firings)
+}
+
+/// Appends a line for each channel: its name and its capacity.
+fn push_capacities(
+    text: &mut String,
+    channels: &[Channel],
+    capacities: &[u32],
+) -> Result<(), AllocError>
+    requires { length capacities.now ≡ length channels.now }
+    ensures { OnOk result (string_bytes text.new ≡ string_bytes text.old ++ capacity_lines capacities.now
+        (enumerate_from 0 (names_of (map channel_view channels.now)))) }
+{
+    for (number, channel) in channels.iter().enumerate() {
+        let name = channel.name.as_str();
+        let capacity = capacities[number];
+        write!(text, "{name} {capacity}\n")?;
+    }
+    Ok(())
+}
+
+/// A line for each channel, and the number of cells that all share.
+pub(crate) fn capacity_text(alloc: Global, accepted: &Accepted) -> Result<String, AllocError>
+    ensures { IfOk result (λ text. string_bytes text ≡ capacity_text accepted.now) }
+{
+    let mut text = String::new(alloc);
+    push_capacities(
+        &mut text,
+        accepted.graph().channels(),
+        accepted.capacities(),
+    )?;
+    let cells = accepted.cells();
+    write!(text, "cells {cells}\n")?;
+    Ok(text)
+}

@@ -1,0 +1,228 @@
+-- What is run, as the fields of its lists show it.
+use Rattle.std.proofs.Common.{◌≡◌, ℕ, zero, suc, ◌+◌, ◌*◌, ◌<◌, ◌≤◌, ◌==◌, cond, Bool, true, false, List, [], ◌∷◌, length, map, filter, get_or, take, refl, ap}
+use Rattle.std.proofs.Common.{sym, subst, ◌∙◌, arith, None, mul-le-mul, inl, inr, ◌-◌, set, length-set, Option}
+use Rattle.std.specs.Prelude.{All, ℤ, vec_len, vec_capacity, Result, Ok, Err, OnOk, is_ok}
+use Rattle.std.specs.List.{zip}
+use Rattle.std.specs.Global.{Vec}
+use Rattle.std.proofs.lemmas.List.{length-map, get_or-map, get_or-set_same, get_or_past}
+use Rattle.std.proofs.lemmas.List.Elements.{All-get_or, All-from_get_or, All-from_recursion}
+use Rattle.csdf_graph.specs.declared.parts.Kernel.{Kernel}
+use Rattle.csdf_graph.specs.declared.parts.Kernel.TheVariants as kernel
+use Rattle.csdf_graph.specs.declared.parts.Actor.{Actor as ActorCode}
+use Rattle.csdf_graph.specs.Graph as graph
+use Rattle.csdf_graph.specs.Graph.{Actor, Graph, actor_view, numbers_from, outputs_of}
+use Rattle.csdf_graph.specs.Rates.{rate, produced, consumed, production}
+use Rattle.csdf_graph.specs.WellFormed.{IsWellFormed, IsActor, IsChannel, IsKernel}
+use Rattle.csdf_analysis.specs.Acceptance.{Accepted, IsAccepted}
+use Rattle.csdf_analysis.specs.Repetition.{IsRepetition}
+use Rattle.csdf_analysis.proofs.BoundLemmas.{firing_fits, phases_within, total_within}
+use Rattle.csdf_kernel.specs.Value.{HasFilterInRange}
+use Rattle.csdf_core.specs.Layout.{is_source_kernel, with_capacity}
+use Rattle.csdf_core.specs.Plan.{Channel, Plan, gives_of}
+use Rattle.csdf_core.specs.Step.{producer}
+use Rattle.csdf_core.specs.Playable.{IsPlayable}
+use Rattle.csdf_core.proofs.Setups.{playable_setup}
+use Rattle.csdf_core.proofs.LayoutLemmas.{length-capacities, seen_at, rate_small}
+use Rattle.csdf_floor.specs.Journal.{output_counts, program_for}
+use Rattle.csdf_floor.specs.Inside.{consumed_at, consumer, produced_at, production_at}
+use Rattle.std.proofs.lemmas.Bool.Decides.{eqb_tells, leb_tells}
+use Rattle.csdf_floor.specs.Work.{AreFeeds, IsFeed, feed_of, Work, IsWork, program, feeds_in}
+use Rattle.csdf_floor.proofs.Graphs.{counts_of_graph}
+
+-- ---- kernels
+
+pub kernel_at : (actors : List ActorCode) (rows : List Actor) (a : ℕ) (x : ActorCode) → map actor_view actors ≡ rows → a < length rows → x ≡ get_or actors a x
+    → x.kernel ≡ get_or (map (λ (row : Actor). row.kernel) rows) a kernel.Sink
+kernel_at actors rows a x same lt is =
+    let len : length actors ≡ length rows = sym (length-map actors actor_view) ∙ ap length same in
+    seen_at actor_view (λ (row : Actor). row.kernel) actors rows same a x kernel.Sink (omega arith) is
+
+filter_fits : (k : Kernel) → IsKernel k → HasFilterInRange k
+filter_fits kernel.Source is = tt
+filter_fits kernel.Sink is = tt
+filter_fits kernel.Copy is = tt
+filter_fits kernel.Sum is = tt
+filter_fits (kernel.Fir weights taps shift) is = (is.few_taps, is.low_shift)
+
+pub in_range : (g : Graph) (a : ℕ) (k : Kernel) → IsWellFormed g → a < length g.actors → k ≡ get_or (map (λ (row : Actor). row.kernel) g.actors) a kernel.Sink
+    → HasFilterInRange k
+in_range g a k whole lt is =
+    let row : Actor = record { name = []; kernel = kernel.Sink; phases = 1 } in
+    let own : IsActor (get_or g.actors a row) = All-get_or IsActor g.actors a row lt whole.fitting.actors in
+    subst HasFilterInRange (sym (is ∙ get_or-map (λ (r : Actor). r.kernel) g.actors a row kernel.Sink lt))
+    (filter_fits (get_or g.actors a row).kernel own.kernel)
+
+-- ---- limits
+
+pub firings_small : (g : Graph) (r q : List ℕ) → IsWellFormed g → IsRepetition g.actors g.channels r q → All (λ n. n ≤ 16384) q
+firings_small g r q whole is = All-from_get_or (λ n. n ≤ 16384) q 0 (λ a lt.
+    let len = is.firings.each_actor in
+    let rl = is.least.vector.each_actor in
+    let small = All-get_or (λ n. n ≤ 1024) r a 0 (omega arith) is.small in
+    subst (λ n. n ≤ 16384) (sym (is.firings.firings a lt)) (firing_fits _ (get_or r a 0) (phases_within g.actors a whole.fitting.actors) small))
+
+pub limit_fits : (periods q : ℕ) → periods ≤ 1000 → q ≤ 16384 → periods * q ≤ 16384000
+limit_fits periods q few small = let most : periods * q ≤ 1000 * 16384 = mul-le-mul few small in omega arith
+
+pub playable_program : (a : Accepted) (feeds : List (List ℤ)) (periods : ℕ) (firings : Option ℕ) → IsAccepted a → periods ≤ 1000
+    → IsPlayable (program_for a feeds periods firings).plan
+playable_program a feeds periods firings ok few =
+    let each = firings_small a.graph a.r a.q ok.well_formed ok.repetition in
+    let len : length (map (λ q. periods * q) a.q) ≡ length a.graph.actors = length-map a.q (λ q. periods * q) ∙ ok.repetition.firings.each_actor in
+    playable_setup a (map (λ q. periods * q) a.q) (map length feeds) firings ok len (All-from_get_or (λ n. n ≤ 16384000) (map (λ q. periods * q) a.q) 0 (λ i lt.
+    let count = length-map a.q (λ q. periods * q) in
+    let there : i < length a.q = omega arith in
+    subst (λ n. n ≤ 16384000) (sym (get_or-map (λ q. periods * q) a.q i 0 0 there))
+    (limit_fits periods (get_or a.q i 0) few (All-get_or (λ n. n ≤ 16384) a.q i 0 there each))))
+
+-- ---- counts
+
+-- the elements at the numbers of those that pass
+numbers_map : {A K : Type 0} (f : ℕ → K) (h : A → K) (test : A → Bool) (i : ℕ) (xs : List A) (d : A) → ((j : ℕ) → j < length xs → f (i + j) ≡ h (get_or xs j d))
+    → map f (numbers_from i test xs) ≡ map h (filter test xs)
+numbers_map f h test i [] d at = refl
+numbers_map {A = A} {K = K} f h test i (x ∷ xs) d at =
+    let here : f i ≡ h x = (let e : i + 0 ≡ i = omega arith in ap f (sym e) ∙ at 0 (omega arith)) in
+    let rest : map f (numbers_from (suc i) test xs) ≡ map h (filter test xs) =
+    numbers_map f h test (suc i) xs d (λ j lt. (let e : suc i + j ≡ i + suc j = omega arith in ap f e ∙ at (suc j) (omega arith))) in
+    by (test x) here rest
+  where
+    by : (b : Bool) → f i ≡ h x → map f (numbers_from (suc i) test xs) ≡ map h (filter test xs)
+        → map f (cond b (i ∷ numbers_from (suc i) test xs) (numbers_from (suc i) test xs)) ≡ map h (cond b (x ∷ filter test xs) (filter test xs))
+    by true here rest = cc
+    by false here rest = rest
+
+pub productions : (a k : ℕ) (gs : List graph.Channel)
+    → map (production_at gs k) (outputs_of gs a) ≡ map (λ (g : graph.Channel). production g k) (filter (λ (g : graph.Channel). g.from == a) gs)
+productions a k gs =
+    let d : graph.Channel = record { name = []; from = 0; to = 0; produce = []; consume = []; initial = []; capacity = None } in
+    numbers_map (production_at gs k) (λ (g : graph.Channel). production g k) (λ (g : graph.Channel). g.from == a) 0 gs d
+    (λ j lt. (let e : 0 + j ≡ j = omega arith in ap (production_at gs k) e ∙ get_or-map (λ (g : graph.Channel). production g k) gs j d 0 lt))
+
+pub productions_of : (a k : ℕ) (gs : List graph.Channel) (outputs : List ℕ) → outputs ≡ outputs_of gs a
+    → map (production_at gs k) outputs ≡ map (λ (g : graph.Channel). production g k) (filter (λ (g : graph.Channel). g.from == a) gs)
+productions_of a k gs outputs is = ap (map (production_at gs k)) is ∙ productions a k gs
+
+-- the counts of a job are those of its firing
+pub counts_are : (w : Work) (a k : ℕ) → IsWork w → map (λ (g : graph.Channel). production g k)
+    (filter (λ (g : graph.Channel). g.from == a) w.accepted.graph.channels) ≡ output_counts (program w) a k
+counts_are w a k is = sym (counts_of_graph a k w.accepted.graph.channels w.accepted.capacities is.accepted.least.completes.each_channel)
+
+-- each is at most 64
+pub production_small : (gs : List graph.Channel) (actors : List Actor) (k c : ℕ) → All (IsChannel actors) gs → c < length gs → production_at gs k c ≤ 64
+production_small gs actors k c all lt =
+    let d : graph.Channel = record { name = []; from = 0; to = 0; produce = []; consume = []; initial = []; capacity = None } in
+    let own : IsChannel actors (get_or gs c d) = All-get_or (IsChannel actors) gs c d lt all in
+    subst (λ n. n ≤ 64) (sym (get_or-map (λ (g : graph.Channel). production g k) gs c d 0 lt)) (rate_small _ k own.produce.small)
+
+-- so many firings move at most 64 tokens each
+pub produced_small : (gs : List graph.Channel) (actors : List Actor) (n c : ℕ) → All (IsChannel actors) gs → c < length gs → produced_at gs n c ≤ n * 64
+produced_small gs actors n c all lt =
+    let d : graph.Channel = record { name = []; from = 0; to = 0; produce = []; consume = []; initial = []; capacity = None } in
+    let own : IsChannel actors (get_or gs c d) = All-get_or (IsChannel actors) gs c d lt all in
+    subst (λ m. m ≤ n * 64) (sym (get_or-map (λ (g : graph.Channel). produced g n) gs c d 0 lt)) (total_within _ n own.produce.small)
+
+pub consumed_small : (gs : List graph.Channel) (actors : List Actor) (n c : ℕ) → All (IsChannel actors) gs → c < length gs → consumed_at gs n c ≤ n * 64
+consumed_small gs actors n c all lt =
+    let d : graph.Channel = record { name = []; from = 0; to = 0; produce = []; consume = []; initial = []; capacity = None } in
+    let own : IsChannel actors (get_or gs c d) = All-get_or (IsChannel actors) gs c d lt all in
+    subst (λ m. m ≤ n * 64) (sym (get_or-map (λ (g : graph.Channel). consumed g n) gs c d 0 lt)) (total_within _ n own.consume.small)
+
+-- the capacity of a channel of a plan
+pub capacities_are : (gs : List graph.Channel) (capacities : List ℕ) → length capacities ≡ length gs
+    → map (λ (e : Channel). e.capacity) (map with_capacity (zip gs capacities)) ≡ capacities
+capacities_are [] [] each = refl
+capacities_are [] (n ∷ capacities) each = absurd (omega arith)
+capacities_are (g ∷ gs) [] each = absurd (omega arith)
+capacities_are (g ∷ gs) (n ∷ capacities) each = ap (λ (ns : List ℕ). n ∷ ns) (capacities_are gs capacities (omega arith))
+
+-- the contents of one of the vectors
+pub feed_short : (feeds : List (Vec ℤ)) (n i : ℕ) (x : Vec ℤ) → All (λ feed. length feed ≤ n) (feeds_in feeds) → i < length feeds → x ≡ get_or feeds i x
+    → length x.items ≤ n
+feed_short feeds n i x all lt is =
+    let len : length (feeds_in feeds) ≡ length feeds = length-map feeds (λ (v : Vec ℤ). v.items) in
+    subst (λ (l : List ℤ). length l ≤ n) (get_or-map (λ (v : Vec ℤ). v.items) feeds i x [] lt
+    ∙ ap (λ (v : Vec ℤ). v.items) (sym is)) (All-get_or (λ feed. length feed ≤ n) (feeds_in feeds) i [] (omega arith) all)
+
+pub item_at : (lists : List (Vec ℤ)) (i : ℕ) (x : Vec ℤ) → i < length lists → x ≡ get_or lists i x → x.items ≡ get_or (feeds_in lists) i []
+item_at lists i x lt is = ap (λ (v : Vec ℤ). v.items) is ∙ sym (get_or-map (λ (v : Vec ℤ). v.items) lists i x [] lt)
+
+-- the room of the one that was changed
+pub room_at : (lists : List (Vec ℤ)) (i : ℕ) (x : Vec ℤ) (more : ℕ) → i < length lists → vec_len x + more ≤ vec_capacity x
+    → more ≤ get_or (map (λ (v : Vec ℤ). vec_capacity v - vec_len v) (set lists i x)) i 0
+room_at lists i x more lt le =
+    let len = length-set lists i x in
+    let is : get_or (map (λ (v : Vec ℤ). vec_capacity v - vec_len v) (set lists i x)) i 0 ≡ vec_capacity x - vec_len x =
+    get_or-map (λ (v : Vec ℤ). vec_capacity v - vec_len v) (set lists i x) i x 0 (omega (arith, len))
+    ∙ ap (λ (v : Vec ℤ). vec_capacity v - vec_len v) (get_or-set_same lists i x x lt) in
+    omega (arith, is)
+
+pub source_at : (rows : List Actor) (a : ℕ) → a < length rows
+    → is_source_kernel (get_or (map (λ (row : Actor). row.kernel) rows) a kernel.Sink) ≡ get_or (map (λ (row : Actor). is_source_kernel row.kernel) rows) a
+    false
+source_at [] a lt = absurd (omega arith)
+source_at (row ∷ rows) zero lt = refl
+source_at (row ∷ rows) (suc a) lt = source_at rows a (omega arith)
+
+-- a buffer that was made so long
+pub buffer_fits : {E : Type 0} (r : Result (Unit {0}) E) (lists : List (Vec ℤ)) (a n m : ℕ) (x : Vec ℤ) → a < length lists → vec_len x ≡ cond (is_ok r) n m
+    → length x.items ≡ vec_len x → OnOk r (length (get_or (feeds_in (set lists a x)) a []) ≡ n)
+buffer_fits (Ok u) lists a n m x lt len whole =
+    let long = length-set lists a x in
+    ap length (get_or-map (λ (v : Vec ℤ). v.items) (set lists a x) a x [] (omega (arith, long)) ∙ ap (λ (v : Vec ℤ). v.items) (get_or-set_same lists a x x lt))
+    ∙ whole ∙ len
+buffer_fits (Err e) lists a n m x lt len whole = tt
+
+-- the ends of a channel are there
+pub ends_there : (w : Work) (c : ℕ) (d : Channel) → IsWork w → c < length (program w).plan.channels
+    → ((get_or (program w).plan.channels c d).from < length (program w).plan.sources)
+    × ((get_or (program w).plan.channels c d).to < length (program w).plan.sources)
+ends_there w c d is lt =
+    let playable : IsPlayable (program w).plan = playable_program w.accepted w.feeds w.periods w.firings is.accepted is.few_periods in
+    All-get_or (λ (e : Channel). (e.from < length (program w).plan.sources) × (e.to < length (program w).plan.sources)) (program w).plan.channels c d lt
+    (All-from_recursion (λ (e : Channel). (e.from < length (program w).plan.sources) × (e.to < length (program w).plan.sources)) (program w).plan.channels
+    playable.ends)
+
+pub consumer_there : (w : Work) (c : ℕ) → IsWork w → c < length (program w).plan.channels → consumer (program w).plan c < length (program w).plan.sources
+consumer_there w c is lt =
+    let d : Channel = record { from = 0; to = 0; produce = []; consume = []; initial = []; capacity = 0 } in
+    subst (λ n. n < length (program w).plan.sources) (sym (get_or-map (λ (e : Channel). e.to) (program w).plan.channels c d 0 lt)) (ends_there w c d is lt).1
+
+-- the producer of a channel is there
+pub producer_there : (w : Work) (c : ℕ) → IsWork w → c < length (program w).plan.channels → producer (program w).plan c < length (program w).plan.sources
+producer_there w c is lt =
+    let d : Channel = record { from = 0; to = 0; produce = []; consume = []; initial = []; capacity = 0 } in
+    subst (λ n. n < length (program w).plan.sources) (sym (get_or-map (λ (e : Channel). e.from) (program w).plan.channels c d 0 lt)) (ends_there w c d is lt).0
+
+-- the channels of a plan are those of its graph
+pub in_graph : (w : Work) (plan : Plan) (c : ℕ) → IsWork w → plan ≡ (program w).plan → c < length plan.channels → c < length w.accepted.graph.channels
+in_graph w plan c is same lt =
+    omega (
+      arith,
+      lt,
+      ap (λ (u : Plan). length u.channels) same,
+      length-capacities w.accepted.graph.channels w.accepted.capacities is.accepted.least.completes.each_channel,
+    )
+
+-- lists that can be feeds, one after the other
+pub feeds_are : (g : Graph) (feeds : List (Vec ℤ)) → length feeds ≡ length g.actors → ((a : ℕ) → a < length feeds → IsFeed g a (feed_of (feeds_in feeds) a))
+    → AreFeeds g (feeds_in feeds)
+feeds_are g feeds each own =
+    let len : length (feeds_in feeds) ≡ length feeds = length-map feeds (λ (v : Vec ℤ). v.items) in
+    record {
+      each_actor = len ∙ each;
+      short = All-from_get_or (λ feed. length feed ≤ 1000000) (feeds_in feeds) [] (λ i lt. (own i (omega arith)).few);
+      only_sources = λ a none. elim (leb_tells (length feeds) a) [
+        | inl past ↦ get_or_past (feeds_in feeds) a [] (let le = past.1 in omega arith)
+        | inr there ↦ (own a there.1).only_source none
+      ];
+    }
+
+-- a feed of a source, one of them
+pub feed_next : (g : Graph) (feeds : List (Vec ℤ)) (i a : ℕ) (x : Vec ℤ) (tokens : List ℤ) → x ≡ get_or feeds i x → i < length feeds → tokens ≡ x.items
+    → IsFeed g i tokens
+    → ((b : ℕ) → b < i → IsFeed g b (feed_of (feeds_in feeds) b)) → a < i + 1 → IsFeed g a (feed_of (feeds_in feeds) a)
+feed_next g feeds i a x tokens is there same own before lt = elim (eqb_tells a i) [
+  | inl here ↦ subst (λ b. IsFeed g b (feed_of (feeds_in feeds) b)) (sym here.1) (subst (IsFeed g i) (same ∙ item_at feeds i x there is) own)
+  | inr other ↦ before a (let ne = other.1 in omega arith)
+]

@@ -1,0 +1,29 @@
+use Rattle.std.proofs.Common.{◌≡◌, ◌<◌, length, ap, sym, subst, ◌∙◌, arith}
+use Rattle.csdf_core.specs.Plan.{Plan}
+use Rattle.csdf_core.specs.Step.{producer}
+use Rattle.csdf_core.proofs.LayoutLemmas.{length-capacities}
+use Rattle.csdf_floor.specs.Work.{program}
+use Rattle.csdf_floor.proofs.Works.{producer_there}
+use Rattle.csdf_floor.proofs.book.Book.close_if_due.Goals as goal
+
+pub producer-producer-requires : goal.producer-producer-requires
+producer-producer-requires c =
+    let there = rw (← c.self.view_is) at c.requires.exists in
+    omega (
+      arith,
+      there,
+      ap (λ (u : Plan). length u.channels) c.self.invariant.kept.plan,
+      length-capacities c.self.inside.work.accepted.graph.channels c.self.inside.work.accepted.capacities
+          c.self.invariant.work.accepted.least.completes.each_channel,
+    )
+
+pub is_over-requires : goal.is_over-requires
+is_over-requires c =
+    let there : c.args.channel < length (program c.self.inside.work).plan.channels =
+    subst (λ (u : Plan). c.args.channel < length u.channels) c.self.invariant.kept.plan (rw (← c.self.view_is) at c.requires.exists) in
+    omega (
+      arith,
+      c.producer-producer.ensures,
+      producer_there c.self.inside.work c.args.channel c.self.invariant.work there,
+      ap (λ (u : Plan). length u.sources) c.self.invariant.kept.plan,
+    )

@@ -1,0 +1,46 @@
+use Rattle.std.proofs.Common.{◌≡◌, ◌<◌, ◌++◌, [], length, get_or, set, cond, ap, ◌∙◌, arith, Bool}
+use Rattle.std.proofs.lemmas.List.{length-map}
+use Rattle.csdf_core.specs.declared.moves.Move.TheVariants as code
+use Rattle.csdf_floor.proofs.Books.{book_fetch, fetch_length, fetch_tokens, next_is, sinks_each, sinks_after, read_there}
+use Rattle.csdf_floor.proofs.book.Book.read.Goals as goal
+use Rattle.csdf_floor.proofs.book.Book.read.Goals.{After-append_where}
+
+pub append_where-requires-clause-exists : goal.append_where-requires-clause-exists
+append_where-requires-clause-exists c = omega (
+  arith,
+  sinks_each _ _ _ _ _ c.self.invariant,
+  read_there c.self.inside.core.plan c.self.inside.core.now c.args.actor (rw (← c.self.view_is) at c.requires.accepted),
+)
+
+-- what the sinks took
+module _ (c : After-append_where) where
+  took : c.append_where.new.self.lists ≡ sinks_after c.self.inside.work c.self.inside.sinks.lists c.args.actor c.read.new.into.items
+  took =
+      c.append_where.ensures
+      ∙ ap (λ (b : Bool). cond b (set c.self.inside.sinks.lists c.args.actor (get_or c.self.inside.sinks.lists c.args.actor [] ++ c.deref.result.now))
+      c.self.inside.sinks.lists) c.is_sink-is_sink.ensures
+      ∙ ap (sinks_after c.self.inside.work c.self.inside.sinks.lists c.args.actor) c.deref.ensures.value
+
+pub invariant_of-self : goal.invariant_of-self
+invariant_of-self c =
+    book_fetch c.self.inside.work c.self.inside.core c.read.new.core c.self.inside.moves.items c.push_reserved.new.self.items c.self.inside.sinks.lists
+    c.append_where.new.self.lists c.self.inside.reads.items c.read.new.into c.args.actor
+    (rw (← c.self.view_is) at c.requires.accepted) c.self.invariant c.read.ensures.step c.push_reserved.ensures.items
+    (took (goal.at.invariant_of-self c).After-append_where)
+
+pub returns : goal.returns
+returns c =
+    let there = read_there c.self.inside.core.plan c.self.inside.core.now c.args.actor (rw (← c.self.view_is) at c.requires.accepted) in
+    let lt : c.args.actor < length c.self.inside.reads.items =
+    omega (arith, there, c.self.invariant.each_actor, length-map c.self.inside.reads.items (λ v. v.items)) in
+    record {
+      next = rw (← c.self.view_is) (next_is _ _ _ c.self.inside.moves c.push_reserved.new.self (code.Read c.args.actor) _ _ _ _ _ c.self.invariant
+          c.read.ensures.step c.push_reserved.ensures.items c.push_reserved.ensures.len c.push_reserved.ensures.capacity
+          (rw (← c.self.view_is) at c.requires.room));
+      buffer = rw (← c.self.view_is) (fetch_length c.self.inside.reads.items c.index_mut-buffer.result.now c.read.new.into c.args.actor lt
+          c.index_mut-buffer.ensures.value c.read.ensures.whole);
+      tokens = fetch_tokens c.self.inside.work c.self.inside.core c.read.new.core c.self.inside.moves.items c.push_reserved.new.self.items
+          c.self.inside.sinks.lists c.append_where.new.self.lists c.self.inside.reads.items c.read.new.into c.args.actor
+          (rw (← c.self.view_is) at c.requires.accepted) c.self.invariant c.read.ensures.step c.push_reserved.ensures.items
+          (took (goal.at.returns c).After-append_where);
+    }

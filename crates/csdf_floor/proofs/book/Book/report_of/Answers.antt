@@ -1,0 +1,67 @@
+use Rattle.std.proofs.Common.{◌≡◌, ℕ, ◌<◌, List, length, get_or, ap, sym, subst, ◌∙◌, arith}
+use Rattle.csdf_core.specs.declared.stage.Stage.TheVariants.{Idle}
+use Rattle.csdf_core.specs.Headline.{capacity_of}
+use Rattle.csdf_core.specs.Plan.{Plan}
+use Rattle.csdf_core.specs.State.{Present}
+use Rattle.csdf_core.specs.Step.{count, is_open, producer, stage}
+use Rattle.csdf_core.specs.Streams.{length_of, peak_of}
+use Rattle.csdf_core.proofs.Peaks.{peaks_from_opening}
+use Rattle.csdf_floor.specs.Inside.{BookView, IsBook, consumer, put_into, taken_out_of}
+use Rattle.csdf_floor.specs.Outcome.{report_of}
+use Rattle.csdf_floor.specs.Work.{program}
+use Rattle.csdf_floor.specs.declared.outcome.ChannelReport.{ChannelReport}
+use Rattle.csdf_floor.proofs.Reports.{as_told}
+use Rattle.csdf_floor.proofs.Works.{consumer_there, in_graph, producer_there}
+use Rattle.csdf_floor.proofs.book.Book.report_of.Goals as goal
+
+pub producer-requires : goal.producer-requires
+producer-requires c = in_graph c.self.inside.work c.self.inside.core.plan c.args.channel c.self.invariant.work c.self.invariant.kept.plan
+    (rw (← c.self.view_is) at c.requires.exists)
+
+pub fired-written-requires : goal.fired-written-requires
+fired-written-requires c =
+    let there : c.args.channel < length (program c.self.inside.work).plan.channels =
+    subst (λ (u : Plan). c.args.channel < length u.channels) c.self.invariant.kept.plan (rw (← c.self.view_is) at c.requires.exists) in
+    omega (
+      arith,
+      c.producer.ensures,
+      producer_there c.self.inside.work c.args.channel c.self.invariant.work there,
+      ap (λ (u : Plan). length u.sources) c.self.invariant.kept.plan,
+    )
+
+pub consumer-requires : goal.consumer-requires
+consumer-requires c = in_graph c.self.inside.work c.self.inside.core.plan c.args.channel c.self.invariant.work c.self.invariant.kept.plan
+    (rw (← c.self.view_is) at c.requires.exists)
+
+pub fired-taken-requires : goal.fired-taken-requires
+fired-taken-requires c =
+    let there : c.args.channel < length (program c.self.inside.work).plan.channels =
+    subst (λ (u : Plan). c.args.channel < length u.channels) c.self.invariant.kept.plan (rw (← c.self.view_is) at c.requires.exists) in
+    omega (
+      arith,
+      c.consumer.ensures,
+      consumer_there c.self.inside.work c.args.channel c.self.invariant.work there,
+      ap (λ (u : Plan). length u.sources) c.self.invariant.kept.plan,
+    )
+
+pub produced-requires-clause-exists : goal.produced-requires-clause-exists
+produced-requires-clause-exists c = in_graph c.self.inside.work c.self.inside.core.plan c.args.channel c.self.invariant.work c.self.invariant.kept.plan
+    (rw (← c.self.view_is) at c.requires.exists)
+
+pub consumed-requires-clause-exists : goal.consumed-requires-clause-exists
+consumed-requires-clause-exists c = in_graph c.self.inside.work c.self.inside.core.plan c.args.channel c.self.invariant.work c.self.invariant.kept.plan
+    (rw (← c.self.view_is) at c.requires.exists)
+
+pub capacity-requires : goal.capacity-requires
+capacity-requires c = in_graph c.self.inside.work c.self.inside.core.plan c.args.channel c.self.invariant.work c.self.invariant.kept.plan
+    (rw (← c.self.view_is) at c.requires.exists)
+
+pub returns : goal.returns
+returns c =
+    rw (← c.self.view_is)
+    (as_told _ _ c.self.invariant (rw (← c.self.view_is) at c.requires.idle) c.args.channel (rw (← c.self.view_is) at c.requires.exists) _
+    (c.produced.ensures ∙ ap (λ n. put_into (program c.self.inside.work).plan n c.args.channel) (c.fired-written.ensures.value
+    ∙ ap (count c.self.inside.core.now) c.producer.ensures))
+    (c.consumed.ensures ∙ ap (λ n. taken_out_of (program c.self.inside.work).plan n c.args.channel) (c.fired-taken.ensures.value
+    ∙ ap (count c.self.inside.core.now) c.consumer.ensures))
+    c.len.ensures c.peak.ensures c.capacity.ensures c.is_open.ensures)

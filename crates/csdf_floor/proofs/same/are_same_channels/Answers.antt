@@ -1,0 +1,19 @@
+use Rattle.std.proofs.Common.{◌≡◌, ◌<◌, length, refl, arith}
+use Rattle.csdf_graph.specs.Graph.{channel_view}
+use Rattle.csdf_floor.proofs.Sames.{same_more, same_item}
+use Rattle.csdf_floor.proofs.same.are_same_channels.Goals as goal
+
+pub returns-then-not-is_same_channel : goal.returns-then-not-is_same_channel
+returns-then-not-is_same_channel c =
+    let there : c.loop-i.i < length c.args.right.now = omega (arith, c.if-left-right.false, c.loop-i-test.true) in (
+      λ e. absurd (cc),
+      λ same. c.if-not-is_same_channel.ensures.1
+          (same_item channel_view c.args.left.now c.args.right.now c.loop-i.i c.index-left-i.result c.index-right-i.result c.loop-i-test.true there
+          c.index-left-i.is c.index-right-i.is same),
+    )
+
+pub loop-i-preserved : goal.loop-i-preserved
+loop-i-preserved c =
+    let each : length c.args.left.now ≡ length c.args.right.now = omega (arith, c.if-left-right.false) in
+    same_more channel_view c.args.left.now c.args.right.now c.loop-i.i c.index-left-i.result c.index-right-i.result c.loop-i-test.true each c.index-left-i.is
+    c.index-right-i.is c.loop-i.invariant (c.if-not-is_same_channel.ensures.0 refl)

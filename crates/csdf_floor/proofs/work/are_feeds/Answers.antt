@@ -1,0 +1,17 @@
+use Rattle.std.proofs.Common.{◌≡◌, ◌≤◌, length, ap, sym, refl, ◌∙◌, arith}
+use Rattle.std.proofs.lemmas.List.{length-map}
+use Rattle.csdf_graph.specs.Graph.{actor_view}
+use Rattle.csdf_floor.proofs.Works.{feed_next, feeds_are}
+use Rattle.csdf_floor.proofs.work.are_feeds.Goals as goal
+
+pub loop-actor-preserved : goal.loop-actor-preserved
+loop-actor-preserved c = λ a lt.
+    feed_next c.args.graph.now c.args.feeds.now c.loop-actor.actor a c.index-feeds-actor.result c.deref.result.now c.index-feeds-actor.is c.loop-actor-test.true
+    c.deref.ensures.value (c.if-not-is_feed.ensures.0 refl) c.loop-actor.invariant lt
+
+pub returns : goal.returns
+returns c = (
+  λ e. feeds_are c.args.graph.now c.args.feeds.now (c.if-feeds-actors.false ∙ sym (length-map c.actors.result.now actor_view)
+      ∙ ap length c.actors.ensures.value) (λ a lt. c.loop-actor.invariant a (omega (arith, lt, c.loop-actor-test.false))),
+  λ same. refl,
+)

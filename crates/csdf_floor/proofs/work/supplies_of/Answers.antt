@@ -1,0 +1,11 @@
+use Rattle.std.proofs.Common.{◌≡◌, arith}
+use Rattle.csdf_floor.proofs.Works.{feed_short}
+use Rattle.csdf_floor.proofs.work.supplies_of.Goals as goal
+
+pub overflow_cast-len : goal.overflow_cast-len
+overflow_cast-len c = omega (
+  arith,
+  c.len.ensures,
+  feed_short c.args.feeds.now 1000000 c.loop-feed.feed-index c.feed-item.result c.requires c.loop-feed-test.true c.feed-item.is,
+  c.feed-item.result.ok.0,
+)

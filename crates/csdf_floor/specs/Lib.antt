@@ -1,0 +1,10 @@
+pub mod Journal
+pub mod Sequential
+pub mod Laws
+pub mod Endings
+pub mod Work
+pub mod Floor
+pub mod Inside
+pub mod Outcome
+pub mod Report
+pub mod Periods

@@ -1,0 +1,495 @@
+//! A core, and the moves that brought it where it is.
+
+ghost use Rattle.std.specs.Prelude.{ℕ, ◌≡◌, ◌≢◌, ◌↔◌, IsTrue, All, ◌+◌, ◌<◌, ◌≤◌, [], ◌∷◌, None, true, false, pos, IfOk, OnOk, length, map};
+ghost use Rattle.std.specs.Prelude.{replicate, slice_range, suc, slice_index, slice_index_or};
+ghost use Rattle.std.specs.List.{range_with_len};
+ghost use Rattle.csdf_graph.specs.declared.parts.Kernel.TheVariants.{Sink};
+ghost use Rattle.csdf_core.specs.declared.stage.Stage.TheVariants.{Idle, Begun, Fetched, Written};
+ghost use Rattle.csdf_core.specs.Moves.{Begin, Read, Write, Finish, Close, move_of};
+ghost use Rattle.csdf_core.specs.Plan.{Channel as ChannelModel};
+ghost use Rattle.csdf_core.specs.Ports.{outputs_at};
+ghost use Rattle.csdf_core.specs.Rows.{need};
+ghost use Rattle.csdf_core.specs.Shows.{Shows};
+ghost use Rattle.csdf_core.specs.State.{opening, present};
+ghost use Rattle.csdf_core.specs.Step.{count, given, stage, refusal, is_over, producer};
+ghost use Rattle.csdf_kernel.specs.Value.{HasFilterInRange};
+ghost use Rattle.csdf_floor.specs.Journal.{IsHonest, inputs, output_counts, value, reads_of, state_of};
+ghost use Rattle.csdf_floor.specs.Work.{program, feed_of, feeds_in, is_sink_kernel};
+ghost use Rattle.csdf_floor.specs.Floor.{IsUnderWay, task_of};
+ghost use Rattle.csdf_floor.specs.Outcome.{report_of, report_on};
+ghost use Rattle.csdf_floor.specs.Inside.{AreClosed, HasGiven, HasRoom, HasTaken, IsBook, IsNext, is_due};
+
+use crate::certain;
+use crate::jobs::{blank, refill};
+use crate::lists::Lists;
+use crate::outcome::ChannelReport;
+use crate::same::{are_same_tokens, is_same_kernel};
+use crate::work::Work;
+use csdf_core::{Core, Move, Stage};
+use csdf_graph::Kernel;
+use csdf_kernel::{Counts, Inputs, Job};
+use std::alloc::{AllocError, Global};
+use std::marker::Model;
+
+/// What is run, its core, the moves that brought the core where it is, and what the sinks took.
+#[derive(Drop)]
+pub(crate) struct Book {
+    work: Work,
+    core: Core,
+    moves: Vec<Move>,
+    sinks: Lists,
+    reads: Vec<Vec<i32>>,
+}
+
+impl Model for Book {
+    ghost use Rattle.std.specs.Prelude.{map, ◌-◌, vec_capacity, vec_len};
+    ghost use Rattle.csdf_core.specs.Moves.{move_of};
+    ghost use Rattle.csdf_floor.specs.Work.{feeds_in};
+    ghost use Rattle.csdf_floor.specs.Inside.{BookView, IsBook};
+
+    ghost Value = { BookView };
+
+    ghost view = { λ b. record {
+      shown = record { work = b.work; core = b.core; journal = map move_of b.moves.items; sinks = b.sinks.lists };
+      room = vec_capacity b.moves - vec_len b.moves;
+      rooms = b.sinks.rooms;
+      reads = feeds_in b.reads.items;
+    } };
+
+    ghost invariant = { λ b. IsBook (record { work = b.work; core = b.core; journal = map move_of b.moves.items; sinks = b.sinks.lists })
+        (feeds_in b.reads.items) };
+}
+
+/// As many empty buffers.
+fn no_reads(alloc: Global, actors: u32) -> Result<Vec<Vec<i32>>, AllocError>
+    ensures { IfOk result (λ reads. length reads.items ≡ actors) }
+{
+    let mut reads = Vec::new(alloc);
+    for _ in 0..actors {
+        reads.push(Vec::new(alloc))?;
+    }
+    Ok(reads)
+}
+
+/// A list for each sink, and as many empty buffers.
+fn blank_rows(alloc: Global, actors: u32) -> Result<(Lists, Vec<Vec<i32>>), AllocError>
+    ensures sinks { IfOk result (λ rows. rows.0.lists ≡ replicate actors []) }
+    ensures reads { IfOk result (λ rows. length rows.1.items ≡ actors) }
+{
+    let sinks = Lists::new(alloc, actors)?;
+    let reads = no_reads(alloc, actors)?;
+    Ok((sinks, reads))
+}
+
+/// A core of what is run that has not moved.
+fn core_of(alloc: Global, work: &Work) -> Result<Core, AllocError>
+    ensures plan { IfOk result (λ core. core.plan ≡ (program work.now).plan) }
+    ensures opening { IfOk result (λ core. Shows core (opening core.plan)) }
+    ensures peaks { IfOk result (λ core. core.peaks ≡ map length (map (λ (c : ChannelModel). c.initial) core.plan.channels)) }
+{
+    let setup = work.setup(alloc)?;
+    Core::new(alloc, setup)
+}
+
+impl Book {
+    /// The book of a core that has not moved.
+    pub(crate) fn open(alloc: Global, work: Work) -> Result<Book, AllocError>
+        ensures work { IfOk result (λ book. book.shown.work ≡ work) }
+        ensures journal { IfOk result (λ book. book.shown.journal ≡ []) }
+        ensures opening { IfOk result (λ book. book.shown.core.now ≡ present (opening book.shown.core.plan)) }
+    {
+        let core = core_of(alloc, &work)?;
+        let (sinks, reads) = blank_rows(alloc, core.actors())?;
+        Ok(Book {
+            work,
+            core,
+            moves: Vec::new(alloc),
+            sinks,
+            reads,
+        })
+    }
+
+    /// What is run.
+    pub(crate) fn work(&self) -> &Work
+        ensures { result.now ≡ self.now.shown.work }
+    {
+        &self.work
+    }
+
+    /// The core.
+    pub(crate) fn core(&self) -> &Core
+        ensures value { result.now ≡ self.now.shown.core }
+        ensures book { IsBook self.now.shown self.now.reads }
+    {
+        &self.core
+    }
+
+    /// The moves, in order.
+    pub(crate) fn journal(&self) -> &[Move]
+        ensures value { map move_of result.now ≡ self.now.shown.journal }
+        ensures honest { IsHonest (program self.now.shown.work) self.now.shown.journal }
+    {
+        &self.moves
+    }
+
+    /// What each sink took.
+    pub(crate) fn sinks(&self) -> &[Vec<i32>]
+        ensures { feeds_in result.now ≡ self.now.shown.sinks }
+    {
+        self.sinks.lists()
+    }
+
+    /// Makes room for so many moves more.
+    pub(crate) fn reserve(&mut self, more: usize) -> Result<(), AllocError>
+        ensures shown { self.new.shown ≡ self.old.shown }
+        ensures rooms { self.new.rooms ≡ self.old.rooms }
+        ensures reads { self.new.reads ≡ self.old.reads }
+        ensures room { OnOk result (more ≤ self.new.room) }
+    {
+        self.moves.reserve(more)
+    }
+
+    /// Makes the buffer of the actor, which is idle, as long as its next firing needs.
+    fn fit_buffer(&mut self, actor: u32) -> Result<(), AllocError>
+        requires exists { actor < length self.old.shown.core.plan.sources }
+        requires idle { stage self.old.shown.core.now actor ≡ Idle }
+        ensures shown { self.new.shown ≡ self.old.shown }
+        ensures rooms { self.new.rooms ≡ self.old.rooms }
+        ensures room { self.new.room ≡ self.old.room }
+        ensures buffer { OnOk result (length (slice_index_or self.new.reads actor [])
+            ≡ need actor (count self.old.shown.core.now actor) self.old.shown.core.plan.channels) }
+    {
+        let need = self.core.need(actor);
+        self.reads[actor as usize].resize(need, 0)
+    }
+
+    /// Makes room in the actor's list, where it is a sink, for what its next firing needs.
+    fn reserve_sink(&mut self, actor: u32) -> Result<(), AllocError>
+        requires { actor < length self.old.shown.core.plan.sources }
+        ensures shown { self.new.shown ≡ self.old.shown }
+        ensures reads { self.new.reads ≡ self.old.reads }
+        ensures room { self.new.room ≡ self.old.room }
+        ensures sink { OnOk result (is_sink_kernel (slice_index_or (program self.old.shown.work).kernels actor Sink) ≡ true
+            → need actor (count self.old.shown.core.now actor) self.old.shown.core.plan.channels ≤ slice_index self.new.rooms actor) }
+    {
+        if !self.work.is_sink(actor) {
+            return Ok(());
+        }
+        let need = self.core.need(actor);
+        self.sinks.reserve(actor, need)
+    }
+
+    /// Makes room for all that the actor's next firing begins with.
+    pub(crate) fn make_room(&mut self, actor: u32) -> Result<(), AllocError>
+        requires exists { actor < length self.old.shown.core.plan.sources }
+        requires idle { stage self.old.shown.core.now actor ≡ Idle }
+        ensures shown { self.new.shown ≡ self.old.shown }
+        ensures room { OnOk result (HasRoom self.new actor) }
+    {
+        self.fit_buffer(actor)?;
+        self.reserve_sink(actor)?;
+        self.reserve(2)
+    }
+
+    /// Begins the actor's next firing, which may begin, and takes its tokens.
+    pub(crate) fn take(&mut self, actor: u32)
+        requires room { HasRoom self.old actor }
+        requires accepted { refusal self.old.shown.core.plan self.old.shown.core.now (Begin actor) ≡ None }
+        ensures { HasTaken self.old self.new actor }
+    {
+        let _ = &self.work;
+        self.begin(actor);
+        self.read(actor);
+    }
+
+    /// Begins the actor's next firing, which may begin.
+    fn begin(&mut self, actor: u32)
+        requires room { 0 < self.old.room }
+        requires accepted { refusal self.old.shown.core.plan self.old.shown.core.now (Begin actor) ≡ None }
+        ensures next { IsNext self.old self.new (Begin actor) }
+        ensures rooms { self.new.rooms ≡ self.old.rooms }
+        ensures reads { self.new.reads ≡ self.old.reads }
+    {
+        self.core.begin_tested(actor);
+        self.moves.push_reserved(Move::Begin(actor));
+    }
+
+    /// Takes the tokens of the actor's firing, which has begun, into the actor's buffer.
+    fn read(&mut self, actor: u32)
+        requires room { 0 < self.old.room }
+        requires accepted { refusal self.old.shown.core.plan self.old.shown.core.now (Read actor) ≡ None }
+        requires buffer { length (slice_index_or self.old.reads actor []) ≡ need actor (count self.old.shown.core.now actor) self.old.shown.core.plan.channels }
+        requires sink { is_sink_kernel (slice_index_or (program self.old.shown.work).kernels actor Sink) ≡ true
+            → need actor (count self.old.shown.core.now actor) self.old.shown.core.plan.channels ≤ slice_index self.old.rooms actor }
+        ensures next { IsNext self.old self.new (Read actor) }
+        ensures buffer { length (slice_index_or self.new.reads actor []) ≡ length (slice_index_or self.old.reads actor []) }
+        ensures tokens { slice_index_or self.new.reads actor [] ≡ slice_index_or (reads_of (program self.new.shown.work) self.new.shown.journal) actor [] }
+    {
+        let buffer = &mut self.reads[actor as usize];
+        certain::read(&mut self.core, actor, buffer);
+        let is_sink = self.work.is_sink(actor);
+        self.sinks.append_where(is_sink, actor, buffer);
+        self.moves.push_reserved(Move::Read(actor));
+    }
+
+    /// Writes the value of the actor's firing, which has read.
+    pub(crate) fn write(&mut self, actor: u32, tokens: Vec<i32>)
+        requires room { 0 < self.old.room }
+        requires accepted { refusal self.old.shown.core.plan self.old.shown.core.now (Write actor tokens.items) ≡ None }
+        requires just { tokens.items ≡ value (program self.old.shown.work) actor (count self.old.shown.core.now actor)
+            (slice_index_or (reads_of (program self.old.shown.work) self.old.shown.journal) actor []) }
+        ensures next { IsNext self.old self.new (Write actor tokens.items) }
+    {
+        certain::write(&mut self.core, actor, &tokens);
+        self.moves.push_reserved(Move::Write(actor, tokens));
+    }
+
+    /// Ends the actor's firing, which has written.
+    pub(crate) fn finish(&mut self, actor: u32)
+        requires room { 0 < self.old.room }
+        requires accepted { refusal self.old.shown.core.plan self.old.shown.core.now (Finish actor) ≡ None }
+        ensures next { IsNext self.old self.new (Finish actor) }
+    {
+        certain::finish(&mut self.core, actor);
+        self.moves.push_reserved(Move::Finish(actor));
+    }
+
+    /// Writes the value of the actor's firing, which has read, and ends the firing.
+    pub(crate) fn give(&mut self, actor: u32, tokens: Vec<i32>)
+        requires room { 2 ≤ self.old.room }
+        requires exists { actor < length self.old.shown.core.plan.sources }
+        requires has_read { stage self.old.shown.core.now actor ≡ Fetched }
+        requires just { tokens.items ≡ value (program self.old.shown.work) actor (count self.old.shown.core.now actor)
+            (slice_index_or (reads_of (program self.old.shown.work) self.old.shown.journal) actor []) }
+        ensures { HasGiven self.old self.new actor tokens.items }
+    {
+        let _ = &self.work;
+        self.write(actor, tokens);
+        self.finish(actor);
+    }
+
+    /// Closes the channel, whose producer is idle and makes no firing more.
+    pub(crate) fn close(&mut self, channel: u32)
+        requires room { 0 < self.old.room }
+        requires accepted { refusal self.old.shown.core.plan self.old.shown.core.now (Close channel) ≡ None }
+        requires idle { stage self.old.shown.core.now (producer self.old.shown.core.plan channel) ≡ Idle }
+        requires over { is_over self.old.shown.core.plan self.old.shown.core.now (producer self.old.shown.core.plan channel) ≡ true }
+        ensures next { IsNext self.old self.new (Close channel) }
+    {
+        certain::close(&mut self.core, channel);
+        self.moves.push_reserved(Move::Close(channel));
+    }
+
+    /// Closes the channel, whose producer is idle, where it is open and its producer makes no firing
+    /// more.
+    pub(crate) fn close_if_due(&mut self, channel: u32)
+        requires room { 0 < self.old.room }
+        requires exists { channel < length self.old.shown.core.plan.channels }
+        requires idle { stage self.old.shown.core.now (producer self.old.shown.core.plan channel) ≡ Idle }
+        ensures due { is_due self.old.shown.core.plan self.old.shown.core.now channel ≡ true → IsNext self.old self.new (Close channel) }
+        ensures other { is_due self.old.shown.core.plan self.old.shown.core.now channel ≡ false → self.new ≡ self.old }
+    {
+        let producer = self.work.producer(channel);
+        if self.core.is_open(channel) && self.core.is_over(producer) {
+            self.close(channel);
+        }
+    }
+
+    /// How many outputs the actor has.
+    pub(crate) fn output_count(&self, actor: u32) -> usize
+        requires { actor < length self.now.shown.core.plan.sources }
+        ensures value { result ≡ length (outputs_at self.now.shown.core.plan.channels actor) }
+        ensures few { result ≤ 128 }
+    {
+        self.work.outputs(actor).len()
+    }
+
+    /// The output of the actor that has this place among them.
+    fn output(&self, actor: u32, place: usize) -> u32
+        requires exists { actor < length self.now.shown.core.plan.sources }
+        requires place { place < length (outputs_at self.now.shown.core.plan.channels actor) }
+        ensures value { result ≡ slice_index (outputs_at self.now.shown.core.plan.channels actor) place }
+        ensures channel { result < length self.now.shown.core.plan.channels }
+        ensures producer { producer self.now.shown.core.plan result ≡ actor }
+    {
+        self.work.outputs(actor)[place]
+    }
+
+    /// Closes the outputs of the actor, which is idle, where it makes no firing more.
+    pub(crate) fn close_outputs(&mut self, actor: u32)
+        requires exists { actor < length self.old.shown.core.plan.sources }
+        requires room { length (outputs_at self.old.shown.core.plan.channels actor) ≤ self.old.room }
+        requires idle { stage self.old.shown.core.now actor ≡ Idle }
+        ensures closed { AreClosed self.old.shown self.new.shown (outputs_at self.old.shown.core.plan.channels actor) }
+        ensures before { self.old.shown.core.now ≡ present (state_of (program self.old.shown.work) self.old.shown.journal) }
+    {
+        let _ = &self.work;
+        for place in 0..self.output_count(actor) {
+            let channel = self.output(actor, place);
+            self.close_if_due(channel);
+        }
+    }
+
+    /// Closes the channels whose producers make no firing at all, before any move.
+    pub(crate) fn close_at_first(&mut self)
+        requires room { length self.old.shown.core.plan.channels ≤ self.old.room }
+        requires idle { (a : ℕ) → stage self.old.shown.core.now a ≡ Idle }
+        ensures { AreClosed self.old.shown self.new.shown (range_with_len 0 (length self.old.shown.core.plan.channels)) }
+    {
+        for channel in 0..self.core.channels() {
+            self.close_if_due(channel);
+        }
+    }
+
+    /// What is told of the channel, where every actor is idle.
+    pub(crate) fn report_of(&self, channel: u32) -> ChannelReport
+        requires exists { channel < length self.now.shown.core.plan.channels }
+        requires idle { (a : ℕ) → a < length self.now.shown.core.plan.sources → stage self.now.shown.core.now a ≡ Idle }
+        ensures { result ≡ report_of (program self.now.shown.work) self.now.shown.journal channel }
+    {
+        let written = self.core.fired(self.work.producer(channel));
+        let taken = self.core.fired(self.work.consumer(channel));
+        ChannelReport {
+            written: self.work.produced(channel, written),
+            taken: self.work.consumed(channel, taken),
+            held: self.core.len(channel),
+            peak: self.core.peak(channel),
+            capacity: self.work.capacity(channel),
+            is_open: self.core.is_open(channel),
+        }
+    }
+
+    /// What is told of each channel, in file order, where every actor is idle.
+    pub(crate) fn report(&self, alloc: Global) -> Result<Vec<ChannelReport>, AllocError>
+        requires { (a : ℕ) → a < length self.now.shown.core.plan.sources → stage self.now.shown.core.now a ≡ Idle }
+        ensures { IfOk result (λ report. report.items ≡ report_on (program self.now.shown.work) self.now.shown.journal) }
+    {
+        let _ = &self.work;
+        let mut report = Vec::new(alloc);
+        for channel in 0..self.core.channels() {
+            report.push(self.report_of(channel))?;
+        }
+        Ok(report)
+    }
+
+    /// Whether each actor has finished as many firings.
+    pub(crate) fn has_counts(&self, totals: &[u32]) -> bool
+        ensures { IsTrue result ↔ (self.now.shown.core.now.counts ≡ totals.now) }
+    {
+        let _ = &self.work;
+        if totals.len() != self.core.actors() as usize {
+            return false;
+        }
+        for actor in 0..totals.len() {
+            if totals[actor] != self.core.fired(actor as u32) {
+                return false;
+            }
+        }
+        true
+    }
+
+    /// The moves, in order, and what each sink took.
+    pub(crate) fn into_parts(self) -> (Vec<Move>, Vec<Vec<i32>>)
+        ensures moves { map move_of result.0.items ≡ self.shown.journal }
+        ensures sinks { feeds_in result.1.items ≡ self.shown.sinks }
+    {
+        let Book { moves, sinks, .. } = self;
+        (moves, sinks.into_lists())
+    }
+
+    /// The actor's kernel.
+    pub(crate) fn kernel(&self, actor: u32) -> Kernel
+        requires { actor < length self.now.shown.core.plan.sources }
+        ensures value { result ≡ slice_index_or (program self.now.shown.work).kernels actor Sink }
+        ensures in_range { HasFilterInRange result }
+    {
+        self.work.kernel(actor)
+    }
+
+    /// How many tokens the actor's next firing writes to each output, in file order.
+    pub(crate) fn counts(&self, alloc: Global, actor: u32) -> Result<Counts, AllocError>
+        requires { actor < length self.now.shown.core.plan.sources }
+        ensures value { IfOk result (λ counts. counts.items ≡ output_counts (program self.now.shown.work) actor (count self.now.shown.core.now actor)) }
+        ensures few { IfOk result (λ counts. length counts.items ≤ 128) }
+        ensures small { IfOk result (λ counts. All (λ n. n ≤ 64) counts.items) }
+    {
+        self.work.counts(alloc, actor, self.core.fired(actor))
+    }
+
+    /// The inputs of the actor's next firing, with zeros in the place of what it will read.
+    pub(crate) fn blank_inputs(&self, alloc: Global, actor: u32) -> Result<Inputs, AllocError>
+        requires exists { actor < length self.now.shown.core.plan.sources }
+        ensures value { IfOk result (λ v. v.items
+            ≡ inputs (program self.now.shown.work) actor (count self.now.shown.core.now actor)
+            (replicate (need actor (count self.now.shown.core.now actor) self.now.shown.core.plan.channels) (pos 0))) }
+        ensures few { IfOk result (λ v. length v.items ≤ 8192) }
+    {
+        if !self.work.is_source(actor) {
+            return blank(alloc, self.core.need(actor));
+        }
+        Inputs::from_slice(alloc, self.feed_part(actor))
+    }
+
+    /// The part of its feed that the next firing of a source computes from.
+    fn feed_part(&self, actor: u32) -> &[i32]
+        requires { actor < length self.now.shown.core.plan.sources }
+        ensures value { result.now ≡ slice_range (feed_of self.now.shown.work.feeds actor)
+            (given (program self.now.shown.work).plan actor (count self.now.shown.core.now actor))
+            (given (program self.now.shown.work).plan actor (suc (count self.now.shown.core.now actor))) }
+        ensures few { length result.now ≤ 8192 }
+    {
+        let used = self.core.written(actor) as usize;
+        self.work.part(actor, used, self.core.gives(actor))
+    }
+
+    /// Puts what the actor has read in the place of the zeros.
+    pub(crate) fn fill(&self, actor: u32, into: &mut Inputs)
+        requires exists { actor < length self.now.shown.core.plan.sources }
+        requires blank { into.old.items
+            ≡ inputs (program self.now.shown.work) actor (count self.now.shown.core.now actor)
+            (replicate (length (slice_index_or self.now.reads actor [])) (pos 0)) }
+        ensures value { into.new.items
+            ≡ inputs (program self.now.shown.work) actor (count self.now.shown.core.now actor) (slice_index_or self.now.reads actor []) }
+        ensures count { length into.new.items ≡ length into.old.items }
+    {
+        if !self.work.is_source(actor) {
+            refill(into, &self.reads[actor as usize]);
+        }
+    }
+
+    /// Whether these are what the actor's present firing computes from.
+    fn are_inputs(&self, actor: u32, tokens: &[i32]) -> bool
+        requires exists { actor < length self.now.shown.core.plan.sources }
+        ensures { IsTrue result ↔ (tokens.now
+            ≡ inputs (program self.now.shown.work) actor (count self.now.shown.core.now actor) (slice_index_or self.now.reads actor [])) }
+    {
+        if self.work.is_source(actor) {
+            are_same_tokens(tokens, self.feed_part(actor))
+        } else {
+            are_same_tokens(tokens, &self.reads[actor as usize])
+        }
+    }
+
+    /// Whether the actor has read and not written.
+    fn has_read(&self, actor: u32) -> bool
+        requires { actor < length self.now.shown.core.plan.sources }
+        ensures { IsTrue result ↔ (stage self.now.shown.core.now actor ≡ Fetched) }
+    {
+        matches!(self.core.stage(actor), Stage::Fetched)
+    }
+
+    /// Whether this is the job of its actor's firing, which has read and not written.
+    pub(crate) fn is_under_way(&self, job: &Job) -> bool
+        ensures { IsTrue result ↔ IsUnderWay self.now.shown (task_of job.now) }
+    {
+        let actor = job.actor;
+        actor < self.core.actors()
+            && self.has_read(actor)
+            && job.firing == self.core.fired(actor)
+            && is_same_kernel(&job.kernel, &self.work.kernel(actor))
+            && self
+                .work
+                .are_counts(actor, job.firing, job.counts.as_slice())
+            && self.are_inputs(actor, job.inputs.as_slice())
+    }
+}

@@ -1,0 +1,201 @@
+//! The floor on which firings are started and their results delivered.
+
+ghost use Rattle.std.specs.Prelude.{◌≡◌, ◌<◌, ◌≤◌, ◌++◌, ◌↔◌, [], ◌∷◌, All, IsTrue, IfOk, OnOk, OnErr, length, map};
+ghost use Rattle.std.specs.List.{range_with_len};
+ghost use Rattle.csdf_core.specs.Moves.{Begin, Read, move_of};
+ghost use Rattle.csdf_core.specs.Ports.{outputs_at};
+ghost use Rattle.csdf_core.specs.Shows.{Shows};
+ghost use Rattle.csdf_core.specs.State.{opening, present};
+ghost use Rattle.csdf_core.specs.Step.{is_open, is_over, IsQuiet};
+ghost use Rattle.csdf_kernel.specs.Value.{HasFilterInRange};
+ghost use Rattle.csdf_floor.specs.Journal.{IsHonest};
+ghost use Rattle.csdf_floor.specs.Work.{AreFeeds, feeds_in, program};
+ghost use Rattle.csdf_floor.specs.Outcome.{HasTotals, IsEndOf, IsOutcome, journal_in};
+ghost use Rattle.csdf_floor.specs.Floor.{HasGone, IsFloor, IsReady, IsStartAnswer, IsUnderWay, IsDeliverAnswer, closes, closes_after, ending_of};
+ghost use Rattle.csdf_floor.specs.Floor.{present_task, start_refusal, task_of};
+
+use crate::book::Book;
+use crate::ending::ending_of;
+use crate::fault::{DeliverFault, StartFault};
+use crate::outcome::Outcome;
+use crate::work::Work;
+use csdf_analysis::Accepted;
+use csdf_core::{Core, Move};
+use csdf_kernel::{Done, Job};
+use std::alloc::{AllocError, Global};
+use std::marker::Model;
+
+/// What a run keeps under its lock: a core, the moves that it made, and what the sinks took.
+///
+/// Each actor is idle, or has read the tokens of its firing, whose job is under way. A channel is
+/// closed exactly where its producer is idle and makes no firing more.
+#[derive(Drop)]
+pub struct Floor {
+    book: Book,
+}
+
+impl Model for Floor {
+    ghost use Rattle.csdf_floor.specs.Floor.{FloorView, IsBetween};
+
+    ghost Value = { FloorView };
+
+    ghost view = { λ f. f.book.shown };
+
+    ghost invariant = { λ f. IsBetween f.book.shown.core.plan f.book.shown.core.now };
+}
+
+impl Floor {
+    /// A floor on which nothing has fired, for so many periods of the graph over copies of these
+    /// feeds, one for each actor and empty for one that is no source; with a limit on all firings
+    /// where there is one. Each channel whose producer makes no firing at all is closed.
+    ///
+    /// An error says that memory ran out.
+    pub fn new(
+        alloc: Global,
+        accepted: &Accepted,
+        feeds: &[Vec<i32>],
+        periods: u32,
+        firings: Option<u32>,
+    ) -> Result<Floor, AllocError>
+        requires fed { AreFeeds accepted.now.graph (feeds_in feeds.now) }
+        requires some_period { 1 ≤ periods }
+        requires few_periods { periods ≤ 1000 }
+        ensures work { IfOk result (λ floor. floor.work
+            ≡ record { accepted = accepted.now; feeds = feeds_in feeds.now; periods = periods; firings = firings }) }
+        ensures journal { IfOk result (λ floor. floor.journal
+            ≡ closes floor.core.plan (present (opening floor.core.plan)) (range_with_len 0 (length floor.core.plan.channels))) }
+    {
+        let work = Work::new(alloc, accepted, feeds, periods, firings)?;
+        let mut book = Book::open(alloc, work)?;
+        book.reserve(book.core().channels() as usize)?;
+        book.close_at_first();
+        Ok(Floor { book })
+    }
+
+    /// The core.
+    pub fn core(&self) -> &Core
+        ensures value { result.now ≡ self.now.core }
+        ensures floor { IsFloor self.now }
+    {
+        self.book.core()
+    }
+
+    /// All moves that were made, in order.
+    pub fn journal(&self) -> &[Move]
+        ensures value { map move_of result.now ≡ self.now.journal }
+        ensures honest { IsHonest (program self.now.work) self.now.journal }
+    {
+        self.book.journal()
+    }
+
+    /// What each sink took, in order; empty for an actor that is no sink.
+    pub fn sinks(&self) -> &[Vec<i32>]
+        ensures { feeds_in result.now ≡ self.now.sinks }
+    {
+        self.book.sinks()
+    }
+
+    /// Why the actor's firing of this number can't be started, memory aside.
+    fn start_refusal(&self, actor: u32, firing: u32) -> Option<StartFault>
+        ensures { result ≡ start_refusal self.now actor firing }
+    {
+        let core = self.book.core();
+        if actor >= core.actors() {
+            return Some(StartFault::Unknown);
+        }
+        let fired = core.fired(actor);
+        if fired != firing {
+            return Some(StartFault::Moved(fired));
+        }
+        match core.can_begin(actor) {
+            Ok(()) => None,
+            Err(refusal) => Some(StartFault::Refused(refusal)),
+        }
+    }
+
+    /// Starts the actor's firing of this number: it begins and reads, and the answer is its job.
+    ///
+    /// The refusals come in the order of [`StartFault`]. A refusal changes nothing that a reader
+    /// shows.
+    pub fn start(&mut self, alloc: Global, actor: u32, firing: u32) -> Result<Job, StartFault>
+        ensures answer { IsStartAnswer (start_refusal self.old actor firing) result }
+        ensures gone { OnOk result (HasGone self.old self.new (Begin actor ∷ Read actor ∷ [])) }
+        ensures job { IfOk result (λ job. (task_of job ≡ present_task self.new actor) × IsUnderWay self.new (task_of job)) }
+        ensures firing { IfOk result (λ job. job.firing ≡ firing) }
+        ensures ready { IfOk result IsReady }
+        ensures unchanged { OnErr result (self.new ≡ self.old) }
+    {
+        if let Some(fault) = self.start_refusal(actor, firing) {
+            return Err(fault);
+        }
+        let counts = self.book.counts(alloc, actor)?;
+        let mut inputs = self.book.blank_inputs(alloc, actor)?;
+        self.book.make_room(actor)?;
+        self.book.take(actor);
+        self.book.fill(actor, &mut inputs);
+        Ok(Job {
+            kernel: self.book.kernel(actor),
+            actor,
+            firing,
+            counts,
+            inputs,
+        })
+    }
+
+    /// Takes the result of a firing that is under way: its tokens are written, the firing ends, and
+    /// each output is closed if the actor makes no firing more.
+    ///
+    /// The refusals come in the order of [`DeliverFault`]. A refusal changes nothing that a reader
+    /// shows.
+    pub fn deliver(&mut self, alloc: Global, done: &Done) -> Result<(), DeliverFault>
+        ensures answer { IsDeliverAnswer self.old (task_of done.now) result }
+        ensures gone { OnOk result (HasGone self.old self.new (ending_of (task_of done.now) ++ closes_after self.old (task_of done.now))) }
+        ensures unchanged { OnErr result (self.new ≡ self.old) }
+    {
+        let job = done.job();
+        if !self.book.is_under_way(job) {
+            return Err(DeliverFault::Stranger);
+        }
+        let actor = job.actor;
+        let tokens = Vec::from_slice(alloc, done.outputs())?;
+        self.book.reserve(2 + self.book.output_count(actor))?;
+        self.book.give(actor, tokens);
+        self.book.close_outputs(actor);
+        Ok(())
+    }
+
+    /// Whether this is a floor of such a run, at whose end each actor has finished as many firings.
+    pub(crate) fn is_end_of(
+        &self,
+        accepted: &Accepted,
+        feeds: &[Vec<i32>],
+        periods: u32,
+        firings: Option<u32>,
+        totals: &[u32],
+    ) -> bool
+        ensures { IsTrue result ↔ IsEndOf self.now
+            (record { accepted = accepted.now; feeds = feeds_in feeds.now; periods = periods; firings = firings }) totals.now }
+    {
+        self.book.work().is(accepted, feeds, periods, firings)
+            && self.book.has_counts(totals)
+            && self.book.core().is_quiet()
+    }
+
+    /// The outcome of a floor that is quiet.
+    pub(crate) fn into_outcome(self, alloc: Global) -> Result<Outcome, AllocError>
+        requires { IsQuiet self.core.plan self.core.now }
+        ensures outcome { IfOk result (IsOutcome self.work) }
+        ensures journal { IfOk result (λ o. journal_in o ≡ self.journal) }
+        ensures totals { IfOk result (λ o. HasTotals (program self.work) o self.core.now.counts) }
+    {
+        let report = self.book.report(alloc)?;
+        let ending = ending_of(self.book.core());
+        let (journal, sinks) = self.book.into_parts();
+        Ok(Outcome {
+            ending,
+            sinks,
+            journal,
+            report,
+        })
+    }
+}

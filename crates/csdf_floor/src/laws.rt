@@ -1,0 +1,119 @@
+//! Laws of journals over their definitions.
+
+ghost use Rattle.csdf_floor.specs.Laws.{Persists, BeginsNoMore, FinishesAll, Agree, HasSequentialRun, IsOnly, StaysWithin, EndsAsSequential};
+ghost use Rattle.csdf_floor.specs.Laws.{QuietIsExhausted, GoesOn, IsHonestAtEach, EndsCounted, StaysCounted, CompletesAll, EndsComplete};
+ghost use Rattle.csdf_floor.specs.Laws.{SequentialIsHonest, OrderDoesNotShow};
+ghost use Rattle.csdf_floor.specs.Periods.{RunsHonestly};
+ghost use Rattle.csdf_floor.specs.Endings.{OneEnding, EndsByEnding};
+
+/// A law: an idle actor that is neither spent, dry, short nor full stays so under the moves of others.
+pub fn persists()
+    ensures { Persists }
+{}
+
+/// A law: an honest journal begins no firing that the sequential run does not finish.
+pub fn begins_no_more()
+    ensures { BeginsNoMore }
+{}
+
+/// A law: where every actor is idle and spent, dry, short or full at its end, an honest journal has
+/// finished every firing of the sequential run.
+pub fn finishes_all()
+    ensures { FinishesAll }
+{}
+
+/// A law: two honest journals have the same token at every place of a channel that both have written.
+pub fn agree()
+    ensures { Agree }
+{}
+
+/// A law: there is a sequential run.
+pub fn has_sequential_run()
+    ensures { HasSequentialRun }
+{}
+
+/// A law: there is one sequential run only.
+pub fn is_only()
+    ensures { IsOnly }
+{}
+
+/// A law: an honest journal stays within the sequential run.
+pub fn stays_within()
+    ensures { StaysWithin }
+{}
+
+/// A law: where every actor is idle and spent, dry, short or full at its end, an honest journal ends
+/// as the sequential run.
+pub fn ends_as_sequential()
+    ensures { EndsAsSequential }
+{}
+
+/// A law: a quiet end at which every actor is spent, or no firing is refused for the limit on all
+/// firings or for want of cells, is one with every actor idle and spent, dry, short or full.
+pub fn quiet_is_exhausted()
+    ensures { QuietIsExhausted }
+{}
+
+/// A law: a journal stays honest by one more honest move.
+pub fn goes_on()
+    ensures { GoesOn }
+{}
+
+/// A law: each front of an honest journal is one, and the move after it is honest there.
+pub fn is_honest_at_each()
+    ensures { IsHonestAtEach }
+{}
+
+/// A law: where every actor is idle and spent, dry, short or full at its end, as many tokens were
+/// written to each channel, taken from it and left in it as in the sequential run, and the same actors
+/// are spent.
+pub fn ends_counted()
+    ensures { EndsCounted }
+{}
+
+/// A law: no channel was written more or taken from more than in the sequential run.
+pub fn stays_counted()
+    ensures { StaysCounted }
+{}
+
+/// A law: where the files of the sources are long enough for all periods, every actor is spent at the
+/// end of the sequential run.
+pub fn completes_all()
+    ensures { CompletesAll }
+{}
+
+/// A law: where, beside, no limit on all firings is given and there are as many cells as the capacities
+/// add up to, an honest journal that ends quiet ends with every actor spent.
+pub fn ends_complete()
+    ensures { EndsComplete }
+{}
+
+/// A law: with no limit on all firings and with as many cells as the capacities add up to, the sequential
+/// run is itself an honest journal.
+pub fn sequential_is_honest()
+    ensures { SequentialIsHonest }
+{}
+
+/// A law: the order of firings, and so the number of workers, doesn't show in an honest journal that
+/// ends quiet.
+pub fn order_does_not_show()
+    ensures { OrderDoesNotShow }
+{}
+
+/// A law: a state has one ending only.
+pub fn one_ending()
+    ensures { OneEnding }
+{}
+
+/// A law: a complete or dry end of an honest journal is that of the sequential run, a stopped or starved
+/// one is within it.
+pub fn ends_by_ending()
+    ensures { EndsByEnding }
+{}
+
+/// A law: an accepted graph with as many cells as its capacities add up to, and files that are long
+/// enough, computes any number of periods, firing after firing by any schedule of a period: the moves,
+/// with the kernels' own values, are an honest journal, and none is refused.
+pub fn runs_honestly()
+    ensures { RunsHonestly }
+{}

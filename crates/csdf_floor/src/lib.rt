@@ -1,0 +1,31 @@
+//! The floor on which the firings of an accepted graph are made, the journal of its moves and the laws
+//! of journals, and how a run ends.
+#![tactic(auto)]
+
+mod book;
+mod certain;
+mod ending;
+mod fault;
+mod floor;
+mod jobs;
+mod laws;
+mod lists;
+mod outcome;
+mod printed;
+mod same;
+mod settling;
+mod work;
+
+pub use ending::Ending;
+pub use fault::{DeliverFault, RunFault, StartFault};
+pub use floor::Floor;
+pub use laws::{
+    agree, begins_no_more, completes_all, ends_as_sequential, ends_by_ending, ends_complete,
+    ends_counted, finishes_all, goes_on, has_sequential_run, is_honest_at_each, is_only,
+    one_ending, order_does_not_show, persists, quiet_is_exhausted, runs_honestly,
+    sequential_is_honest, stays_counted, stays_within,
+};
+pub use outcome::{ChannelReport, Outcome};
+pub use printed::printed_report;
+pub use settling::settle;
+pub use work::are_feeds;

@@ -1,0 +1,58 @@
+//! The end of a run.
+
+ghost use Rattle.std.specs.Prelude.{◌≡◌, ◌≤◌, IfOk, length};
+ghost use Rattle.csdf_floor.specs.Journal.{program_for};
+ghost use Rattle.csdf_floor.specs.Work.{AreFeeds, feeds_in};
+ghost use Rattle.csdf_floor.specs.Outcome.{IsEndOf, IsSettleAnswer, HasTotals, HasHonestJournal, EndsSettled, TakesInOrder};
+ghost use Rattle.csdf_floor.specs.Outcome.{StaysWithinCapacities, LeavesClosedAlone, TellsSinks, TellsReport, TellsEnding};
+ghost use Rattle.csdf_floor.specs.Outcome.{IsAsSequentialRun, CompletesWhereAmple, journal_in};
+
+use crate::fault::RunFault;
+use crate::floor::Floor;
+use crate::outcome::Outcome;
+use csdf_analysis::Accepted;
+use std::alloc::Global;
+
+/// The end of a run that this floor was for: its ending, what the sinks took, its journal, and what is
+/// told of each channel.
+///
+/// [`RunFault::Mixed`] says that the floor is not for this graph, these feeds, periods and firings; that
+/// a total is not the number of firings that the actor has finished; or that an actor can go on. Want of
+/// memory comes after that. A refusal does not hand the floor back.
+///
+/// Whoever made the firings, and in whatever order, the sinks took what they take in the sequential run
+/// (the determinacy of dataflow graphs: Lee and Messerschmitt 1987), or a front of it where the limit on
+/// all firings or want of cells held the run back.
+pub fn settle(
+    alloc: Global,
+    floor: Floor,
+    accepted: &Accepted,
+    feeds: &[Vec<i32>],
+    periods: u32,
+    firings: Option<u32>,
+    totals: &[u32],
+) -> Result<Outcome, RunFault>
+    requires fed { AreFeeds accepted.now.graph (feeds_in feeds.now) }
+    requires some_period { 1 ≤ periods }
+    requires few_periods { periods ≤ 1000 }
+    requires totals { length totals.now ≡ length accepted.now.graph.actors }
+    ensures answer { IsSettleAnswer
+        (IsEndOf floor (record { accepted = accepted.now; feeds = feeds_in feeds.now; periods = periods; firings = firings }) totals.now) result }
+    ensures journal { IfOk result (λ o. journal_in o ≡ floor.journal) }
+    ensures honest { IfOk result (HasHonestJournal (program_for accepted.now (feeds_in feeds.now) periods firings)) }
+    ensures settled { IfOk result (EndsSettled (program_for accepted.now (feeds_in feeds.now) periods firings)) }
+    ensures order { IfOk result (TakesInOrder (program_for accepted.now (feeds_in feeds.now) periods firings)) }
+    ensures capacities { IfOk result (StaysWithinCapacities (program_for accepted.now (feeds_in feeds.now) periods firings)) }
+    ensures closing { IfOk result (LeavesClosedAlone (program_for accepted.now (feeds_in feeds.now) periods firings)) }
+    ensures sinks { IfOk result (TellsSinks (program_for accepted.now (feeds_in feeds.now) periods firings)) }
+    ensures report { IfOk result (TellsReport (program_for accepted.now (feeds_in feeds.now) periods firings)) }
+    ensures ending { IfOk result (TellsEnding (program_for accepted.now (feeds_in feeds.now) periods firings)) }
+    ensures totals { IfOk result (λ o. HasTotals (program_for accepted.now (feeds_in feeds.now) periods firings) o totals.now) }
+    ensures sequential { IfOk result (IsAsSequentialRun (program_for accepted.now (feeds_in feeds.now) periods firings)) }
+    ensures complete { IfOk result (CompletesWhereAmple accepted.now (feeds_in feeds.now) periods firings) }
+{
+    if !floor.is_end_of(accepted, feeds, periods, firings, totals) {
+        return Err(RunFault::Mixed);
+    }
+    Ok(floor.into_outcome(alloc)?)
+}

@@ -1,5 +1,0 @@
-use Rattle.csdf_run.proofs.Ends.{ends_as_sequential}
-use Rattle.csdf_run.proofs.laws.ends_as_sequential.Goals as goal
-
-pub returns : goal.returns
-returns c = ends_as_sequential

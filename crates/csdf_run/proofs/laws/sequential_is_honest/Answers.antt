@@ -1,5 +1,0 @@
-use Rattle.csdf_run.proofs.Complete.{sequential_is_honest}
-use Rattle.csdf_run.proofs.laws.sequential_is_honest.Goals as goal
-
-pub returns : goal.returns
-returns c = sequential_is_honest

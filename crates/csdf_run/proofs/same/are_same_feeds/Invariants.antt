@@ -1,6 +1,0 @@
-use Rattle.std.proofs.Common.{◌≡◌, take}
-use Rattle.csdf_run.specs.Work.{feeds_in}
-use Rattle.csdf_run.proofs.same.are_same_feeds.Given as goal
-
-abbrev pub invariant-loop-i : goal.invariant-loop-i
-invariant-loop-i l = take l.i (feeds_in l.fn.left) ≡ take l.i (feeds_in l.fn.right)

@@ -1,6 +1,0 @@
-use Rattle.std.proofs.lemmas.Bool.Decides.{Decides-int_eq}
-use Rattle.std.proofs.lemmas.Slice.Eq.{slice_eq-Decides}
-use Rattle.csdf_run.proofs.same.are_same_tokens.Goals as goal
-
-pub returns : goal.returns
-returns c = slice_eq-Decides Decides-int_eq c.args.left.now c.args.right.now c.eq.result c.eq.ensures

@@ -1,6 +1,0 @@
-use Rattle.std.proofs.Common.{◌<◌, ℕ}
-use Rattle.csdf_run.specs.Work.{IsFeed, feed_of, feeds_in}
-use Rattle.csdf_run.proofs.work.are_feeds.Given as goal
-
-abbrev pub invariant-loop-actor : goal.invariant-loop-actor
-invariant-loop-actor l = (a : ℕ) → a < l.actor → IsFeed l.graph a (feed_of (feeds_in l.feeds) a)

@@ -1,0 +1,17 @@
+//! Floors and runs tried out: worked examples, on their public calls alone. They are a crate of their
+//! own, since a crate with tests is proved twice, and apart from the other tests, so that the two are
+//! proved side by side.
+#![tactic(auto)]
+
+#[cfg(test)]
+mod gate_tests;
+#[cfg(test)]
+mod memory_tests;
+#[cfg(test)]
+mod oracle_tests;
+#[cfg(test)]
+mod run_tests;
+#[cfg(test)]
+mod shared;
+#[cfg(test)]
+mod text_tests;

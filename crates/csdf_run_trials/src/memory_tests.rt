@@ -1,0 +1,282 @@
+//! Floors and runs that take memory, for `tests/memory/run`: it refuses them one allocation after
+//! another. A test then ends for want of memory, or as it does where nothing is refused.
+
+ghost use Rattle.std.specs.Prelude.{◌≡◌, ◌<◌, IfOk, length};
+ghost use Rattle.csdf_floor.specs.Floor.{IsReady};
+
+use crate::shared::{accepted_in, feeds_of};
+use csdf_analysis::Accepted;
+use csdf_core::Core;
+use csdf_kernel::{Done, Job, eval};
+use csdf_run::{
+    DeliverFault, Floor, Open, Outcome, RunFault, StartFault, are_feeds, printed_report, run,
+    run_texts, settle,
+};
+use std::alloc::Global;
+use std::process::Abort;
+use std::sync::Wait;
+use std::test::Fail;
+use std::thread::Threads;
+
+/// Each firing has more inputs, and the source more outputs, than a job holds without memory.
+const WIDE: &str = r#"actor = [
+  { name = "src", kernel = "source" },
+  { name = "acc", kernel = "copy" },
+  { name = "snk", kernel = "sink" },
+]
+channel = [
+  { name = "a", from = "src", to = "acc", produce = [4], consume = [4] },
+  { name = "b", from = "src", to = "acc", produce = [4], consume = [4] },
+  { name = "c", from = "src", to = "acc", produce = [4], consume = [4] },
+  { name = "d", from = "src", to = "acc", produce = [4], consume = [4] },
+  { name = "e", from = "src", to = "acc", produce = [4], consume = [4] },
+  { name = "y", from = "acc", to = "snk", produce = [18], consume = [18] },
+]
+"#;
+
+const FEED: [i32; 20] = [
+    1, 2, 3, 4, 5, 6, 7, 8, 9, 10, 11, 12, 13, 14, 15, 16, 17, 18, 19, 20,
+];
+
+/// What the sinks took and the report.
+const TOLD: &str = "1 2 3 4 5 6 7 8 9 10 11 12 13 14 15 16 17 18 \n\
+    ending complete\n\
+    a written 4 taken 4 held 0 peak 4 capacity 4 closed\n\
+    b written 4 taken 4 held 0 peak 4 capacity 4 closed\n\
+    c written 4 taken 4 held 0 peak 4 capacity 4 closed\n\
+    d written 4 taken 4 held 0 peak 4 capacity 4 closed\n\
+    e written 4 taken 4 held 0 peak 4 capacity 4 closed\n\
+    y written 18 taken 18 held 0 peak 18 capacity 18 closed\n";
+
+fn floor_of<R: Abort>(
+    rt: &R,
+    alloc: Global,
+    accepted: &Accepted,
+    feeds: &[Vec<i32>],
+) -> Result<Floor, Fail> {
+    assert!(rt; are_feeds(accepted.graph(), feeds));
+    Ok(Floor::new(alloc, accepted, feeds, 1, None)?)
+}
+
+// ---- what a floor shows
+
+fn show_actors(text: &mut String, core: &Core) -> Result<(), Fail> {
+    for actor in 0..core.actors() {
+        let fired = core.fired(actor);
+        let stage = core.stage(actor);
+        let need = core.need(actor);
+        let gives = core.gives(actor);
+        write!(text, "{actor}: {fired} {stage:?} {need} {gives}\n")?;
+    }
+    Ok(())
+}
+
+fn show_channels(text: &mut String, core: &Core) -> Result<(), Fail> {
+    for channel in 0..core.channels() {
+        let len = core.len(channel);
+        let peak = core.peak(channel);
+        let is_open = core.is_open(channel);
+        write!(text, "{channel}: {len} {peak} {is_open}")?;
+        for cell in core.cells(channel) {
+            write!(text, " {cell}")?;
+        }
+        write!(text, "\n")?;
+    }
+    Ok(())
+}
+
+/// All that the readers show.
+fn shown(alloc: Global, floor: &Floor) -> Result<String, Fail> {
+    let mut text = String::new(alloc);
+    let core = floor.core();
+    show_actors(&mut text, core)?;
+    show_channels(&mut text, core)?;
+    for cell in core.free_cells() {
+        write!(text, "{cell} ")?;
+    }
+    let is_quiet = core.is_quiet();
+    write!(text, "\n{is_quiet}\n")?;
+    for next in floor.journal() {
+        write!(text, "{next:?}\n")?;
+    }
+    for sink in floor.sinks() {
+        write!(text, "{sink:?}\n")?;
+    }
+    Ok(text)
+}
+
+// ---- calls that are made again where memory was wanting
+
+fn started(alloc: Global, floor: &mut Floor, actor: u32) -> Result<Job, Fail>
+    ensures { IfOk result IsReady }
+{
+    match floor.start(alloc, actor, 0) {
+        Ok(job) => Ok(job),
+        Err(fault) => Err(fault.into()),
+    }
+}
+
+/// Starts the actor's first firing. A start that lacked memory has changed nothing that is shown.
+fn started_at_last<R: Abort>(
+    rt: &R,
+    alloc: Global,
+    floor: &mut Floor,
+    actor: u32,
+) -> Result<Job, Fail>
+    ensures { IfOk result IsReady }
+{
+    let before = shown(alloc, floor)?;
+    match floor.start(alloc, actor, 0) {
+        Ok(job) => Ok(job),
+        Err(fault) => {
+            assert_eq!(rt; fault, StartFault::Memory);
+            assert_eq!(rt; shown(alloc, floor)?.as_str(), before.as_str());
+            started(alloc, floor, actor)
+        }
+    }
+}
+
+fn done_at_last<R: Abort>(rt: &R, alloc: Global, job: Job) -> Result<Done, Fail>
+    requires { IsReady job }
+{
+    match eval(alloc, job) {
+        Ok(done) => Ok(done),
+        Err((job, _)) => match eval(alloc, job) {
+            Ok(done) => Ok(done),
+            Err((_, error)) => Err(error.into()),
+        },
+    }
+}
+
+fn deliver(alloc: Global, floor: &mut Floor, done: &Done) -> Result<(), Fail> {
+    match floor.deliver(alloc, done) {
+        Ok(()) => Ok(()),
+        Err(fault) => Err(fault.into()),
+    }
+}
+
+/// Delivers. A delivery that lacked memory has changed nothing that is shown.
+fn deliver_at_last<R: Abort>(
+    rt: &R,
+    alloc: Global,
+    floor: &mut Floor,
+    done: &Done,
+) -> Result<(), Fail> {
+    let before = shown(alloc, floor)?;
+    match floor.deliver(alloc, done) {
+        Ok(()) => Ok(()),
+        Err(fault) => {
+            assert_eq!(rt; fault, DeliverFault::Memory);
+            assert_eq!(rt; shown(alloc, floor)?.as_str(), before.as_str());
+            deliver(alloc, floor, done)
+        }
+    }
+}
+
+/// Makes the actor's first firing.
+fn fire<R: Abort>(rt: &R, alloc: Global, floor: &mut Floor, actor: u32) -> Result<(), Fail> {
+    let job = started_at_last(rt, alloc, floor, actor)?;
+    let done = done_at_last(rt, alloc, job)?;
+    deliver_at_last(rt, alloc, floor, &done)
+}
+
+fn told_of(alloc: Global, accepted: &Accepted, outcome: &Outcome) -> Result<String, Fail> {
+    let mut text = String::new(alloc);
+    for sink in &outcome.sinks {
+        for token in sink {
+            write!(text, "{token} ")?;
+        }
+    }
+    let report = printed_report(alloc, accepted.graph(), outcome)?;
+    write!(text, "\n{report}")?;
+    Ok(text)
+}
+
+fn check_told<R: Abort>(
+    rt: &R,
+    alloc: Global,
+    accepted: &Accepted,
+    answer: Result<Outcome, RunFault>,
+) -> Result<(), Fail> {
+    match answer {
+        Ok(outcome) => {
+            let told = told_of(alloc, accepted, &outcome)?;
+            assert_eq!(rt; told.as_str(), TOLD);
+            // four moves of each firing, and a close of each channel
+            assert_eq!(rt; outcome.journal.len(), 18);
+            Ok(())
+        }
+        Err(fault) => Err(fault.into()),
+    }
+}
+
+/// The end of the floor.
+fn settled<R: Abort>(
+    rt: &R,
+    alloc: Global,
+    floor: Floor,
+    accepted: &Accepted,
+    feeds: &[Vec<i32>],
+) -> Result<Outcome, RunFault> {
+    assert!(rt; are_feeds(accepted.graph(), feeds));
+    assert!(rt; accepted.graph().actors().len() == 3);
+    settle(alloc, floor, accepted, feeds, 1, None, &[1, 1, 1])
+}
+
+#[test]
+fn a_floor_is_driven_to_its_end(rt: HostRuntime) -> Result<(), Fail> {
+    let alloc = rt.alloc();
+    let accepted = accepted_in(alloc, WIDE)?;
+    let feeds = feeds_of(alloc, &FEED)?;
+    let mut floor = floor_of(&rt, alloc, &accepted, &feeds)?;
+    for actor in 0..3 {
+        fire(&rt, alloc, &mut floor, actor)?;
+    }
+    let answer = settled(&rt, alloc, floor, &accepted, &feeds);
+    check_told(&rt, alloc, &accepted, answer)
+}
+
+fn check_run<R: Threads + Wait + Abort + Sync>(
+    rt: &R,
+    alloc: Global,
+    workers: u32,
+) -> Result<(), Fail> {
+    let accepted = accepted_in(alloc, WIDE)?;
+    let feeds = feeds_of(alloc, &FEED)?;
+    assert!(rt; are_feeds(accepted.graph(), &feeds));
+    assert!(rt; 1 <= workers && workers <= 8);
+    let answer = run(rt, alloc, &accepted, &feeds, workers, 1, None, &Open);
+    check_told(rt, alloc, &accepted, answer)
+}
+
+#[test]
+fn one_worker_runs(rt: HostRuntime) -> Result<(), Fail> {
+    check_run(&rt, rt.alloc(), 1)
+}
+
+#[test]
+fn two_workers_run(rt: HostRuntime) -> Result<(), Fail> {
+    check_run(&rt, rt.alloc(), 2)
+}
+
+#[test]
+fn eight_workers_run(rt: HostRuntime) -> Result<(), Fail> {
+    check_run(&rt, rt.alloc(), 8)
+}
+
+#[test]
+fn texts_are_run(rt: HostRuntime) -> Result<(), Fail> {
+    let alloc = rt.alloc();
+    let feed = "1 2 3 4 5 6 7 8 9 10 11 12 13 14 15 16 17 18 19 20".replace(alloc, " ", "\n")?;
+    let mut feeds = Vec::new(alloc);
+    feeds.push(Vec::from_slice(alloc, feed.as_bytes())?)?;
+    match run_texts(&rt, alloc, WIDE.as_bytes(), &feeds, 2, 1, None) {
+        Ok(texts) => {
+            let sink = "1 2 3 4 5 6 7 8 9 10 11 12 13 14 15 16 17 18 ".replace(alloc, " ", "\n")?;
+            assert_eq!(rt; texts.sinks.len(), 1);
+            assert_eq!(rt; texts.sinks[0].as_slice(), sink.as_bytes());
+            Ok(())
+        }
+        Err(fault) => Err(fault.into()),
+    }
+}

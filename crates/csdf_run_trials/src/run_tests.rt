@@ -1,0 +1,612 @@
+ghost use Rattle.std.specs.Prelude.{◌≤◌, IfOk, length};
+ghost use Rattle.csdf_kernel.specs.Value.{HasFilterInRange};
+ghost use Rattle.csdf_floor.specs.Floor.{IsReady};
+
+use crate::shared::{accepted_in, feeds_of};
+use csdf_analysis::Accepted;
+use csdf_core::Refusal;
+use csdf_graph::Kernel;
+use csdf_kernel::{Counts, Done, Inputs, Job, eval};
+use csdf_run::{
+    DeliverFault, Ending, Floor, Open, Outcome, RunFault, StartFault, are_feeds, printed_report,
+    run, settle,
+};
+use std::alloc::Global;
+use std::process::Abort;
+use std::sync::Wait;
+use std::test::Fail;
+use std::thread::Threads;
+
+const ACCUMULATED: &str = r#"actor = [
+  { name = "src", kernel = "source", phases = 2 },
+  { name = "acc", kernel = "sum" },
+  { name = "snk", kernel = "sink" },
+]
+channel = [
+  { name = "x", from = "src", to = "acc", produce = [2, 1], consume = [3] },
+  { name = "y", from = "acc", to = "snk", produce = [1], consume = [1] },
+]
+"#;
+
+/// A running sum, whose state is in a channel to itself.
+const SUMS: &str = r#"actor = [
+  { name = "src", kernel = "source" },
+  { name = "acc", kernel = "sum" },
+  { name = "snk", kernel = "sink" },
+]
+channel = [
+  { name = "x", from = "src", to = "acc", produce = [1], consume = [1] },
+  { name = "s", from = "acc", to = "acc", produce = [1], consume = [1], initial = [0] },
+  { name = "y", from = "acc", to = "snk", produce = [1], consume = [1] },
+]
+"#;
+
+const CHAIN_OF_FOUR: &str = r#"cells = 4
+actor = [
+  { name = "a", kernel = "source" },
+  { name = "b", kernel = "copy" },
+  { name = "c", kernel = "sink" },
+]
+channel = [
+  { name = "x", from = "a", to = "b", produce = [2], consume = [3] },
+  { name = "y", from = "b", to = "c", produce = [1], consume = [2] },
+]
+"#;
+
+const CHAIN_OF_THREE: &str = r#"cells = 3
+actor = [
+  { name = "a", kernel = "source" },
+  { name = "b", kernel = "copy" },
+  { name = "c", kernel = "sink" },
+]
+channel = [
+  { name = "x", from = "a", to = "b", produce = [2], consume = [3] },
+  { name = "y", from = "b", to = "c", produce = [1], consume = [2] },
+]
+"#;
+
+const RING: &str = r#"actor = [
+  { name = "a", kernel = "copy" },
+  { name = "b", kernel = "copy" },
+  { name = "c", kernel = "copy" },
+]
+channel = [
+  { name = "x", from = "a", to = "b", produce = [1], consume = [1] },
+  { name = "y", from = "b", to = "c", produce = [1], consume = [1] },
+  { name = "z", from = "c", to = "a", produce = [1], consume = [1], initial = [5] },
+]
+"#;
+
+/// A run of a graph in which none but actor 0 is a source, and what its sinks took with its printed report.
+#[derive(Clone, Copy)]
+struct Case {
+    graph: &'static str,
+    feed: &'static [i32],
+    periods: u32,
+    firings: Option<u32>,
+    wanted: &'static str,
+}
+
+const CASES: [Case; 11] = [
+    // enough tokens
+    Case {
+        graph: ACCUMULATED,
+        feed: &[1, 2, 3, 4, 5, 6],
+        periods: 2,
+        firings: None,
+        wanted: "6 15 \n\
+               ending complete\n\
+               x written 6 taken 6 held 0 peak 3 capacity 3 closed\n\
+               y written 2 taken 2 held 0 peak 1 capacity 1 closed\n",
+    },
+    // one token short
+    Case {
+        graph: ACCUMULATED,
+        feed: &[1, 2, 3, 4, 5],
+        periods: 2,
+        firings: None,
+        wanted: "6 \n\
+               ending dry\n\
+               x written 5 taken 3 held 2 peak 3 capacity 3 closed\n\
+               y written 1 taken 1 held 0 peak 1 capacity 1 open\n",
+    },
+    // a channel from an actor to itself
+    Case {
+        graph: SUMS,
+        feed: &[1, 2, 3],
+        periods: 3,
+        firings: None,
+        wanted: "1 3 6 \n\
+               ending complete\n\
+               x written 3 taken 3 held 0 peak 1 capacity 1 closed\n\
+               s written 3 taken 3 held 1 peak 1 capacity 1 closed\n\
+               y written 3 taken 3 held 0 peak 1 capacity 1 closed\n",
+    },
+    // no token at all
+    Case {
+        graph: ACCUMULATED,
+        feed: &[],
+        periods: 2,
+        firings: None,
+        wanted: "\n\
+               ending dry\n\
+               x written 0 taken 0 held 0 peak 0 capacity 3 closed\n\
+               y written 0 taken 0 held 0 peak 0 capacity 1 open\n",
+    },
+    // no source
+    Case {
+        graph: RING,
+        feed: &[],
+        periods: 2,
+        firings: None,
+        wanted: "\n\
+               ending complete\n\
+               x written 2 taken 2 held 0 peak 1 capacity 1 closed\n\
+               y written 2 taken 2 held 0 peak 1 capacity 1 closed\n\
+               z written 2 taken 2 held 1 peak 1 capacity 1 closed\n",
+    },
+    // four cells are enough
+    Case {
+        graph: CHAIN_OF_FOUR,
+        feed: &[1, 2, 3, 4, 5, 6],
+        periods: 1,
+        firings: None,
+        wanted: "1 4 \n\
+               ending complete\n\
+               x written 6 taken 6 held 0 peak 4 capacity 4 closed\n\
+               y written 2 taken 2 held 0 peak 2 capacity 2 closed\n",
+    },
+    // three cells starve
+    Case {
+        graph: CHAIN_OF_THREE,
+        feed: &[1, 2, 3, 4, 5, 6],
+        periods: 1,
+        firings: None,
+        wanted: "\n\
+               ending starved\n\
+               x written 2 taken 0 held 2 peak 2 capacity 4 open\n\
+               y written 0 taken 0 held 0 peak 0 capacity 2 open\n",
+    },
+    // eight firings are enough
+    Case {
+        graph: ACCUMULATED,
+        feed: &[1, 2, 3, 4, 5, 6],
+        periods: 2,
+        firings: Some(8),
+        wanted: "6 15 \n\
+               ending complete\n\
+               x written 6 taken 6 held 0 peak 3 capacity 3 closed\n\
+               y written 2 taken 2 held 0 peak 1 capacity 1 closed\n",
+    },
+    // seven stop before the last
+    Case {
+        graph: ACCUMULATED,
+        feed: &[1, 2, 3, 4, 5, 6],
+        periods: 2,
+        firings: Some(7),
+        wanted: "6 \n\
+               ending stopped\n\
+               x written 6 taken 6 held 0 peak 3 capacity 3 closed\n\
+               y written 2 taken 1 held 1 peak 1 capacity 1 closed\n",
+    },
+    // three fill the second channel
+    Case {
+        graph: ACCUMULATED,
+        feed: &[1, 2, 3, 4, 5, 6],
+        periods: 2,
+        firings: Some(3),
+        wanted: "\n\
+               ending stopped\n\
+               x written 3 taken 3 held 0 peak 3 capacity 3 open\n\
+               y written 1 taken 0 held 1 peak 1 capacity 1 open\n",
+    },
+    // no firing is allowed
+    Case {
+        graph: ACCUMULATED,
+        feed: &[1, 2, 3, 4, 5, 6],
+        periods: 2,
+        firings: Some(0),
+        wanted: "\n\
+               ending stopped\n\
+               x written 0 taken 0 held 0 peak 0 capacity 3 open\n\
+               y written 0 taken 0 held 0 peak 0 capacity 1 open\n",
+    },
+];
+
+/// What the sinks took, and the report.
+fn told_of(alloc: Global, accepted: &Accepted, outcome: &Outcome) -> Result<String, Fail> {
+    let mut text = String::new(alloc);
+    for sink in &outcome.sinks {
+        for token in sink {
+            write!(text, "{token} ")?;
+        }
+    }
+    let report = printed_report(alloc, accepted.graph(), outcome)?;
+    write!(text, "\n{report}")?;
+    Ok(text)
+}
+
+fn outcome_of<R: Threads + Wait + Abort + Sync>(
+    rt: &R,
+    alloc: Global,
+    accepted: &Accepted,
+    case: &Case,
+    workers: u32,
+) -> Result<Outcome, Fail> {
+    let feeds = feeds_of(alloc, case.feed)?;
+    assert!(rt; are_feeds(accepted.graph(), &feeds));
+    assert!(rt; 1 <= workers && workers <= 8);
+    assert!(rt; 1 <= case.periods && case.periods <= 1000);
+    match run(
+        rt,
+        alloc,
+        accepted,
+        &feeds,
+        workers,
+        case.periods,
+        case.firings,
+        &Open,
+    ) {
+        Ok(outcome) => Ok(outcome),
+        Err(fault) => Err(fault.into()),
+    }
+}
+
+fn check_told<R: Abort>(
+    rt: &R,
+    alloc: Global,
+    accepted: &Accepted,
+    outcome: &Outcome,
+    wanted: &str,
+) -> Result<(), Fail> {
+    let told = told_of(alloc, accepted, outcome)?;
+    assert_eq!(rt; told.as_str(), wanted);
+    Ok(())
+}
+
+/// Every case by so many workers.
+fn check_by<R: Threads + Wait + Abort + Sync>(
+    rt: &R,
+    alloc: Global,
+    case: &Case,
+    workers: u32,
+) -> Result<(), Fail> {
+    let accepted = accepted_in(alloc, case.graph)?;
+    let outcome = outcome_of(rt, alloc, &accepted, case, workers)?;
+    check_told(rt, alloc, &accepted, &outcome, case.wanted)
+}
+
+fn check_all_by<R: Threads + Wait + Abort + Sync>(
+    rt: &R,
+    alloc: Global,
+    workers: u32,
+) -> Result<(), Fail> {
+    for case in &CASES {
+        check_by(rt, alloc, case, workers)?;
+    }
+    Ok(())
+}
+
+#[test]
+fn runs_by_one_worker(rt: HostRuntime) -> Result<(), Fail> {
+    check_all_by(&rt, rt.alloc(), 1)
+}
+
+#[test]
+fn runs_by_two_workers(rt: HostRuntime) -> Result<(), Fail> {
+    check_all_by(&rt, rt.alloc(), 2)
+}
+
+#[test]
+fn runs_by_eight_workers(rt: HostRuntime) -> Result<(), Fail> {
+    check_all_by(&rt, rt.alloc(), 8)
+}
+
+// ---- a floor driven by hand
+
+fn floor_of<R: Abort>(
+    rt: &R,
+    alloc: Global,
+    accepted: &Accepted,
+    feed: &[i32],
+) -> Result<Floor, Fail> {
+    let feeds = feeds_of(alloc, feed)?;
+    assert!(rt; are_feeds(accepted.graph(), &feeds));
+    Ok(Floor::new(alloc, accepted, &feeds, 2, None)?)
+}
+
+fn done_of(alloc: Global, job: Job) -> Result<Done, Fail>
+    requires { IsReady job }
+{
+    match eval(alloc, job) {
+        Ok(done) => Ok(done),
+        Err((_, fault)) => Err(fault.into()),
+    }
+}
+
+fn started(alloc: Global, floor: &mut Floor, actor: u32, firing: u32) -> Result<Job, Fail>
+    ensures { IfOk result IsReady }
+{
+    match floor.start(alloc, actor, firing) {
+        Ok(job) => Ok(job),
+        Err(fault) => Err(fault.into()),
+    }
+}
+
+/// Makes the actor's firing, from its start to its delivery.
+fn fire(alloc: Global, floor: &mut Floor, actor: u32, firing: u32) -> Result<(), Fail> {
+    let job = started(alloc, floor, actor, firing)?;
+    let done = done_of(alloc, job)?;
+    match floor.deliver(alloc, &done) {
+        Ok(()) => Ok(()),
+        Err(fault) => Err(fault.into()),
+    }
+}
+
+/// The job, with other inputs in the place of its own.
+fn altered(alloc: Global, job: &Job, inputs: &[i32]) -> Result<Job, Fail>
+    requires ready { IsReady job.now }
+    requires few { length inputs.now ≤ 8192 }
+    ensures { IfOk result IsReady }
+{
+    Ok(Job {
+        kernel: job.kernel,
+        actor: job.actor,
+        firing: job.firing,
+        counts: Counts::from_slice(alloc, job.counts.as_slice())?,
+        inputs: Inputs::from_slice(alloc, inputs)?,
+    })
+}
+
+/// A floor over these tokens, on which nothing has fired.
+fn floor_over<R: Abort>(rt: &R, alloc: Global, feed: &[i32]) -> Result<Floor, Fail> {
+    let accepted = accepted_in(alloc, ACCUMULATED)?;
+    floor_of(rt, alloc, &accepted, feed)
+}
+
+/// Starts and computes the firing, whose counts and inputs are these.
+fn done_with<R: Abort>(
+    rt: &R,
+    alloc: Global,
+    floor: &mut Floor,
+    firing: u32,
+    counts: &[u32],
+    inputs: &[i32],
+) -> Result<Done, Fail> {
+    let job = started(alloc, floor, 0, firing)?;
+    assert_eq!(rt; job.counts.as_slice(), counts);
+    assert_eq!(rt; job.inputs.as_slice(), inputs);
+    done_of(alloc, job)
+}
+
+fn check_taken_once<R: Abort>(rt: &R, alloc: Global, floor: &mut Floor) -> Result<(), Fail> {
+    let done = done_with(rt, alloc, floor, 0, &[2], &[1, 2])?;
+    assert_eq!(rt; floor.deliver(alloc, &done), Ok(()));
+    assert_eq!(rt; floor.deliver(alloc, &done), Err(DeliverFault::Stranger));
+    Ok(())
+}
+
+/// Why the firing was not started.
+fn refusal_of(alloc: Global, floor: &mut Floor, actor: u32, firing: u32) -> Option<StartFault> {
+    match floor.start(alloc, actor, firing) {
+        Ok(_) => None,
+        Err(fault) => Some(fault),
+    }
+}
+
+#[test]
+fn a_result_is_taken_once(rt: HostRuntime) -> Result<(), Fail> {
+    let mut floor = floor_over(&rt, rt.alloc(), &[1, 2, 3, 4, 5, 6])?;
+    check_taken_once(&rt, rt.alloc(), &mut floor)?;
+    assert_eq!(rt;
+        refusal_of(rt.alloc(), &mut floor, 0, 0),
+        Some(StartFault::Moved(1))
+    );
+    Ok(())
+}
+
+/// The firing with other inputs than its own is a stranger, and with its own it is taken.
+fn check_strangers<R: Abort>(rt: &R, alloc: Global, floor: &mut Floor) -> Result<(), Fail> {
+    let job = started(alloc, floor, 0, 1)?;
+    let stranger = altered(alloc, &job, &[4])?;
+    check_stranger(rt, alloc, floor, stranger)?;
+    let done = done_of(alloc, job)?;
+    assert_eq!(rt; floor.deliver(alloc, &done), Ok(()));
+    Ok(())
+}
+
+fn check_stranger<R: Abort>(rt: &R, alloc: Global, floor: &mut Floor, job: Job) -> Result<(), Fail>
+    requires { IsReady job }
+{
+    let done = done_of(alloc, job)?;
+    assert_eq!(rt; floor.deliver(alloc, &done), Err(DeliverFault::Stranger));
+    assert_eq!(rt; floor.journal().len(), 6);
+    Ok(())
+}
+
+#[test]
+fn altered_tokens_are_not_taken(rt: HostRuntime) -> Result<(), Fail> {
+    let mut floor = floor_over(&rt, rt.alloc(), &[1, 2, 3, 4, 5, 6])?;
+    fire(rt.alloc(), &mut floor, 0, 0)?;
+    check_strangers(&rt, rt.alloc(), &mut floor)?;
+    let refusal = refusal_of(rt.alloc(), &mut floor, 0, 2);
+    assert_eq!(rt; refusal, Some(StartFault::Refused(Refusal::Full(0))));
+    Ok(())
+}
+
+/// A result of a first firing with one output of one token, whatever the floor has started.
+fn other_done(alloc: Global, kernel: Kernel, actor: u32, inputs: &[i32]) -> Result<Done, Fail>
+    requires few { length inputs.now ≤ 8192 }
+    requires filter { HasFilterInRange kernel }
+{
+    let mut counts = Counts::new(alloc);
+    counts.push(1)?;
+    let job = Job {
+        kernel,
+        actor,
+        firing: 0,
+        counts,
+        inputs: Inputs::from_slice(alloc, inputs)?,
+    };
+    match eval(alloc, job) {
+        Ok(done) => Ok(done),
+        Err((_, error)) => Err(error.into()),
+    }
+}
+
+fn check_other<R: Abort>(
+    rt: &R,
+    alloc: Global,
+    floor: &mut Floor,
+    kernel: Kernel,
+    actor: u32,
+    inputs: &[i32],
+) -> Result<(), Fail>
+    requires few { length inputs.now ≤ 8192 }
+    requires filter { HasFilterInRange kernel }
+{
+    let done = other_done(alloc, kernel, actor, inputs)?;
+    assert_eq!(rt; floor.deliver(alloc, &done), Err(DeliverFault::Stranger));
+    Ok(())
+}
+
+/// Of a firing that was not started, and of the started one with one token fewer to write.
+#[test]
+fn results_of_other_firings_are_strangers(rt: HostRuntime) -> Result<(), Fail> {
+    let mut floor = floor_over(&rt, rt.alloc(), &[1, 2, 3, 4, 5, 6])?;
+    assert_eq!(rt; refusal_of(rt.alloc(), &mut floor, 0, 0), None);
+    let alloc = rt.alloc();
+    check_other(&rt, alloc, &mut floor, Kernel::Sum, 1, &[1, 2, 3])?;
+    check_other(&rt, alloc, &mut floor, Kernel::Source, 0, &[1, 2])
+}
+
+#[test]
+fn a_start_is_refused_in_order(rt: HostRuntime) -> Result<(), Fail> {
+    let mut floor = floor_over(&rt, rt.alloc(), &[1, 2, 3, 4, 5, 6])?;
+    assert_eq!(rt;
+        refusal_of(rt.alloc(), &mut floor, 9, 0),
+        Some(StartFault::Unknown)
+    );
+    let short = refusal_of(rt.alloc(), &mut floor, 2, 0);
+    assert_eq!(rt; short, Some(StartFault::Refused(Refusal::Short(1))));
+    assert_eq!(rt; refusal_of(rt.alloc(), &mut floor, 0, 0), None);
+    let busy = refusal_of(rt.alloc(), &mut floor, 0, 0);
+    assert_eq!(rt; busy, Some(StartFault::Refused(Refusal::Busy)));
+    Ok(())
+}
+
+/// Makes these firings, each of an actor and its number.
+fn drive(alloc: Global, floor: &mut Floor, firings: &[(u32, u32)]) -> Result<(), Fail> {
+    for (actor, firing) in firings {
+        fire(alloc, floor, *actor, *firing)?;
+    }
+    Ok(())
+}
+
+/// A floor on which one token is missing for the last firings, driven to its end.
+fn dry_floor<R: Abort>(rt: &R, alloc: Global) -> Result<Floor, Fail> {
+    let mut floor = floor_over(rt, alloc, &[1, 2, 3, 4, 5])?;
+    drive(alloc, &mut floor, &[(0, 0), (0, 1), (1, 0), (0, 2), (2, 0)])?;
+    Ok(floor)
+}
+
+/// What a floor is settled for.
+#[derive(Drop)]
+struct Asked {
+    accepted: Accepted,
+    feeds: Vec<Vec<i32>>,
+}
+
+fn asked_for(alloc: Global, feed: &[i32]) -> Result<Asked, Fail> {
+    let feeds = feeds_of(alloc, feed)?;
+    let accepted = accepted_in(alloc, ACCUMULATED)?;
+    Ok(Asked { accepted, feeds })
+}
+
+/// The end of the floor with these totals.
+fn settled<R: Abort>(
+    rt: &R,
+    alloc: Global,
+    asked: &Asked,
+    floor: Floor,
+    firings: Option<u32>,
+    totals: &[u32],
+) -> Result<Outcome, RunFault> {
+    assert!(rt; are_feeds(asked.accepted.graph(), &asked.feeds));
+    assert!(rt; totals.len() == asked.accepted.graph().actors().len());
+    settle(
+        alloc,
+        floor,
+        &asked.accepted,
+        &asked.feeds,
+        2,
+        firings,
+        totals,
+    )
+}
+
+const DRY: &str = "6 \nending dry\nx written 5 taken 3 held 2 peak 3 capacity 3 closed\n\
+    y written 1 taken 1 held 0 peak 1 capacity 1 open\n";
+
+fn check_dry<R: Abort>(rt: &R, alloc: Global, asked: &Asked) -> Result<(), Fail> {
+    let floor = dry_floor(rt, alloc)?;
+    match settled(rt, alloc, asked, floor, None, &[3, 1, 1]) {
+        Ok(outcome) => {
+            assert_eq!(rt; outcome.ending, Ending::Dry);
+            check_told(rt, alloc, &asked.accepted, &outcome, DRY)
+        }
+        Err(fault) => Err(fault.into()),
+    }
+}
+
+#[test]
+fn a_dry_floor_is_settled(rt: HostRuntime) -> Result<(), Fail> {
+    let asked = asked_for(rt.alloc(), &[1, 2, 3, 4, 5])?;
+    check_dry(&rt, rt.alloc(), &asked)
+}
+
+/// The floor is not at the end of what is asked.
+fn check_mixed<R: Abort>(
+    rt: &R,
+    alloc: Global,
+    floor: Floor,
+    asked: &Asked,
+    firings: Option<u32>,
+    totals: &[u32],
+) {
+    let answer = settled(rt, alloc, asked, floor, firings, totals);
+    assert!(rt; matches!(answer, Err(RunFault::Mixed)));
+}
+
+#[test]
+fn another_total_is_mixed(rt: HostRuntime) -> Result<(), Fail> {
+    let asked = asked_for(rt.alloc(), &[1, 2, 3, 4, 5])?;
+    let floor = dry_floor(&rt, rt.alloc())?;
+    check_mixed(&rt, rt.alloc(), floor, &asked, None, &[3, 1, 0]);
+    Ok(())
+}
+
+#[test]
+fn another_feed_is_mixed(rt: HostRuntime) -> Result<(), Fail> {
+    let asked = asked_for(rt.alloc(), &[1, 2, 3, 4, 6])?;
+    let floor = dry_floor(&rt, rt.alloc())?;
+    check_mixed(&rt, rt.alloc(), floor, &asked, None, &[3, 1, 1]);
+    Ok(())
+}
+
+#[test]
+fn another_limit_is_mixed(rt: HostRuntime) -> Result<(), Fail> {
+    let asked = asked_for(rt.alloc(), &[1, 2, 3, 4, 5])?;
+    let floor = dry_floor(&rt, rt.alloc())?;
+    check_mixed(&rt, rt.alloc(), floor, &asked, Some(9), &[3, 1, 1]);
+    Ok(())
+}
+
+#[test]
+fn a_floor_that_can_go_on_is_mixed(rt: HostRuntime) -> Result<(), Fail> {
+    let asked = asked_for(rt.alloc(), &[1, 2, 3, 4, 5, 6])?;
+    let mut floor = floor_over(&rt, rt.alloc(), &[1, 2, 3, 4, 5, 6])?;
+    fire(rt.alloc(), &mut floor, 0, 0)?;
+    check_mixed(&rt, rt.alloc(), floor, &asked, None, &[1, 0, 0]);
+    Ok(())
+}

@@ -1,0 +1,158 @@
+use crate::shared::TWO_SOURCES;
+use csdf_analysis::AcceptFault;
+use csdf_graph::{GraphFault, TokenFault};
+use csdf_run::{Ending, Texts, TextsFault, run_texts};
+use std::alloc::Global;
+use std::process::Abort;
+use std::sync::Wait;
+use std::test::Fail;
+use std::thread::Threads;
+
+/// Two channels that ask for different vectors.
+const DISAGREEING: &str = r#"actor = [
+  { name = "a", kernel = "source" },
+  { name = "b", kernel = "sink" },
+]
+channel = [
+  { name = "x", from = "a", to = "b", produce = [1], consume = [1] },
+  { name = "y", from = "a", to = "b", produce = [2], consume = [1] },
+]
+"#;
+
+const TWO_SINKS: &str = r#"actor = [
+  { name = "b", kernel = "sink" },
+  { name = "a", kernel = "source" },
+  { name = "c", kernel = "sink" },
+]
+channel = [
+  { name = "x", from = "a", to = "b", produce = [1], consume = [1] },
+  { name = "y", from = "a", to = "c", produce = [1], consume = [1] },
+]
+"#;
+
+/// A period of the graph over these texts, by one worker.
+fn period_of<R: Threads + Wait + Sync>(
+    rt: &R,
+    alloc: Global,
+    graph: &str,
+    feeds: &[&str],
+) -> Result<Result<Texts, TextsFault>, Fail> {
+    let mut texts = Vec::new(alloc);
+    for feed in feeds {
+        texts.push(Vec::from_slice(alloc, feed.as_bytes())?)?;
+    }
+    Ok(run_texts(rt, alloc, graph.as_bytes(), &texts, 1, 1, None))
+}
+
+fn check_refused<R: Threads + Wait + Abort + Sync>(
+    rt: &R,
+    alloc: Global,
+    graph: &str,
+    feeds: &[&str],
+    fault: TextsFault,
+) -> Result<(), Fail> {
+    match period_of(rt, alloc, graph, feeds)? {
+        Ok(_) => Err(Fail::new("not refused")),
+        Err(found) => {
+            assert_eq!(rt; found, fault);
+            Ok(())
+        }
+    }
+}
+
+fn check_told<R: Threads + Wait + Abort + Sync>(
+    rt: &R,
+    alloc: Global,
+    graph: &str,
+    feeds: &[&str],
+    sinks: &[&str],
+    report: &str,
+) -> Result<(), Fail> {
+    let Ok(texts) = period_of(rt, alloc, graph, feeds)? else {
+        return Err(Fail::new("refused"));
+    };
+    assert_eq!(rt; texts.ending, Ending::Complete);
+    assert_eq!(rt; texts.report.as_slice(), report.as_bytes());
+    assert_eq!(rt; texts.sinks.len(), sinks.len());
+    for (text, sink) in texts.sinks.iter().zip(sinks) {
+        assert_eq!(rt; text.as_slice(), sink.as_bytes());
+    }
+    Ok(())
+}
+
+#[test]
+fn a_file_that_is_not_toml(rt: HostRuntime) -> Result<(), Fail> {
+    let fault = TextsFault::Graph(GraphFault::NotToml);
+    check_refused(&rt, rt.alloc(), "[[actor", &[], fault)
+}
+
+#[test]
+fn a_graph_that_is_not_accepted(rt: HostRuntime) -> Result<(), Fail> {
+    let fault = TextsFault::Accept(AcceptFault::Unbalanced(1));
+    check_refused(&rt, rt.alloc(), DISAGREEING, &[], fault)
+}
+
+#[test]
+fn one_text_for_two_sources(rt: HostRuntime) -> Result<(), Fail> {
+    check_refused(
+        &rt,
+        rt.alloc(),
+        TWO_SOURCES,
+        &["x\n"],
+        TextsFault::FeedCount,
+    )
+}
+
+#[test]
+fn three_texts_for_two_sources(rt: HostRuntime) -> Result<(), Fail> {
+    check_refused(
+        &rt,
+        rt.alloc(),
+        TWO_SOURCES,
+        &["1\n", "10\n", ""],
+        TextsFault::FeedCount,
+    )
+}
+
+#[test]
+fn a_second_text_that_is_no_number(rt: HostRuntime) -> Result<(), Fail> {
+    let fault = TextsFault::Feed(1, TokenFault::Syntax(1));
+    check_refused(&rt, rt.alloc(), TWO_SOURCES, &["1\n", "x\n"], fault)
+}
+
+#[test]
+fn two_texts_that_are_no_numbers(rt: HostRuntime) -> Result<(), Fail> {
+    let fault = TextsFault::Feed(0, TokenFault::Syntax(1));
+    check_refused(&rt, rt.alloc(), TWO_SOURCES, &["x\n", "y\n"], fault)
+}
+
+#[test]
+fn a_sum_of_two_texts(rt: HostRuntime) -> Result<(), Fail> {
+    let report = "ending complete\n\
+                  x written 1 taken 1 held 0 peak 1 capacity 1 closed\n\
+                  y written 1 taken 1 held 0 peak 1 capacity 1 closed\n\
+                  z written 1 taken 1 held 0 peak 1 capacity 1 closed\n";
+    check_told(
+        &rt,
+        rt.alloc(),
+        TWO_SOURCES,
+        &["1\n", "10\n"],
+        &["11\n"],
+        report,
+    )
+}
+
+#[test]
+fn a_text_for_each_of_two_sinks(rt: HostRuntime) -> Result<(), Fail> {
+    let report = "ending complete\n\
+                  x written 1 taken 1 held 0 peak 1 capacity 1 closed\n\
+                  y written 1 taken 1 held 0 peak 1 capacity 1 closed\n";
+    check_told(
+        &rt,
+        rt.alloc(),
+        TWO_SINKS,
+        &["-7\n8\n"],
+        &["-7\n", "8\n"],
+        report,
+    )
+}

@@ -1,5 +1,0 @@
-use Rattle.csdf_tool.proofs.ToldLemmas.{if_err_fault}
-use Rattle.csdf_tool.proofs.described.describe.Goals as goal
-
-pub returns-in_err-text-clause-refused : goal.returns-in_err-text-clause-refused
-returns-in_err-text-clause-refused g c = if_err_fault _ c.in_err-text.field-0.0 _ c.from_residual.ensures.1 (λ known other. c.in_err-text.ensures known)

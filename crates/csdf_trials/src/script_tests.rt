@@ -1,0 +1,407 @@
+//! Worked examples of scripts.
+
+use crate::core_tests::LOOP;
+use crate::shared::{CHAIN, DISAGREEING, STUCK_CYCLE};
+use csdf_answers::{Name, Stream, ToolFault, play_script};
+use csdf_graph::{At, Fused, GraphFault, ToWriter};
+use std::process::Abort;
+use std::test::Fail;
+
+/// A source that makes 2 and 1 tokens in turn, and a sink that takes 3.
+const PAIR: &str = r#"[[actor]]
+name = "src"
+kernel = "source"
+phases = 2
+
+[[actor]]
+name = "snk"
+kernel = "sink"
+
+[[channel]]
+name = "x"
+from = "src"
+to = "snk"
+produce = [2, 1]
+consume = [3]
+capacity = 3
+"#;
+
+/// A channel whose full capacity is above 65,535.
+const HUGE: &str = r#"actor = [
+  { name = "a", kernel = "source", phases = 16 },
+  { name = "b", kernel = "sink", phases = 2 },
+]
+[[channel]]
+name = "x"
+from = "a"
+to = "b"
+produce = [64, 64, 64, 64, 64, 64, 64, 64, 64, 64, 64, 64, 64, 64, 64, 64]
+consume = [64, 3]
+"#;
+
+/// A row whose first channel is given too small a capacity.
+const TIGHT: &str = r#"actor = [
+  { name = "a", kernel = "source" },
+  { name = "b", kernel = "copy" },
+  { name = "c", kernel = "sink" },
+]
+channel = [
+  { name = "x", from = "a", to = "b", produce = [2], consume = [3], capacity = 3 },
+  { name = "y", from = "b", to = "c", produce = [1], consume = [2] },
+]
+"#;
+
+/// A file's answer: what is written for it, or the line of its fault, for which nothing is.
+fn answer_to(rt: &(impl Abort + AllocGlobal), graph: &str, script: &str) -> Result<String, Fail> {
+    let file = format!(in rt.alloc(); "{graph}{script}")?;
+    let mut written = Vec::new(rt.alloc());
+    let mut writer = ToWriter::new(&mut written);
+    match play_script(rt.alloc(), file.as_bytes(), &mut writer) {
+        Ok(()) => Ok(String::from_utf8(written)?),
+        Err(fault) => {
+            assert_eq!(rt; written.len(), 0);
+            Ok(format!(in rt.alloc(); "{fault}")?)
+        }
+    }
+}
+
+#[test]
+fn a_pair_fires_and_is_refused(rt: HostRuntime) -> Result<(), Fail> {
+    let table = [
+        (
+            r#"[script]
+moves = [
+  "begin src", "read src", "write src 5 6", "finish src",
+  "begin src", "read src", "write src 7", "finish src",
+  "begin src", "begin snk", "read snk", "begin src",
+]
+"#,
+            "begin src: ok\nread src: ok\nwrite src: ok\nfinish src: ok\n\
+             begin src: ok\nread src: ok\nwrite src: ok\nfinish src: ok\n\
+             begin src: refused Full x\nbegin snk: ok\nread snk: ok 5 6 7\nbegin src: ok\n",
+        ),
+        (
+            r#"[script]
+moves = [
+  "begin src", "close x", "read src", "close x", "write src 5 6", "finish src", "close x",
+  "begin src", "close x", "close zz",
+]
+"#,
+            "begin src: ok\nclose x: refused Busy\nread src: ok\nclose x: refused Busy\n\
+             write src: ok\nfinish src: ok\nclose x: ok\nbegin src: refused Closed x\n\
+             close x: refused Closed x\nclose zz: refused Unknown\n",
+        ),
+        (
+            r#"[script]
+limit = 1
+supply = 2
+moves = [
+  "begin zzz", "read src", "begin snk", "begin src", "begin src", "write src 5 6", "finish src",
+  "read src", "write src 5", "write src 5 6", "finish src", "begin src",
+]
+"#,
+            "begin zzz: refused Unknown\nread src: refused NotBegun\nbegin snk: refused Short x\n\
+             begin src: ok\nbegin src: refused Busy\nwrite src: refused NotRead\n\
+             finish src: refused NotWritten\nread src: ok\nwrite src: refused WrongCount\n\
+             write src: ok\nfinish src: ok\nbegin src: refused Spent\n",
+        ),
+        (
+            r#"[script]
+supply = 2
+moves = ["begin src", "read src", "write src 5 6", "finish src", "begin src"]
+"#,
+            "begin src: ok\nread src: ok\nwrite src: ok\nfinish src: ok\nbegin src: refused Dry\n",
+        ),
+        (
+            r#"[script]
+firings = 1
+moves = ["begin src", "begin snk", "read src", "write src 5 6", "finish src", "begin src"]
+"#,
+            "begin src: ok\nbegin snk: refused Short x\nread src: ok\nwrite src: ok\n\
+             finish src: ok\nbegin src: refused Stopped\n",
+        ),
+        ("", ""),
+    ];
+    for (script, want) in table {
+        let answer = answer_to(&rt, PAIR, script)?;
+        assert_eq!(rt; answer.as_str(), want);
+    }
+    Ok(())
+}
+
+#[test]
+fn cells_are_shown(rt: HostRuntime) -> Result<(), Fail> {
+    let script = r#"[script]
+moves = [
+  "begin a", "read a", "write a 1 2", "finish a",
+  "begin a", "read a", "write a 3 4", "finish a",
+  "begin b", "read b", "write b 9", "finish b",
+  "begin a", "read a", "write a 5 6", "cells",
+]
+"#;
+    let want = "begin a: ok\nread a: ok\nwrite a: ok\nfinish a: ok\n\
+                begin a: ok\nread a: ok\nwrite a: ok\nfinish a: ok\n\
+                begin b: ok\nread b: ok 1 2 3\nwrite b: ok\nfinish b: ok\n\
+                begin a: ok\nread a: ok\nwrite a: ok\n\
+                cells x: 3 5 0\ncells y: 4\nfree: 1 2\n";
+    let answer = answer_to(&rt, CHAIN, script)?;
+    assert_eq!(rt; answer.as_str(), want);
+    Ok(())
+}
+
+/// A row with tokens in both channels, and two cells more than they need.
+const FILLED: &str = r#"cells = 5
+actor = [
+  { name = "a", kernel = "source" },
+  { name = "b", kernel = "copy" },
+  { name = "c", kernel = "sink" },
+]
+channel = [
+  { name = "x", from = "a", to = "b", produce = [1], consume = [2], initial = [5, 6] },
+  { name = "y", from = "b", to = "c", produce = [1], consume = [1], initial = [7] },
+]
+"#;
+
+#[test]
+fn initial_tokens_are_in_the_lowest_cells(rt: HostRuntime) -> Result<(), Fail> {
+    let script = r#"[script]
+moves = [
+  "cells", "begin c", "read c", "write c", "finish c", "begin b", "read b", "cells", "write b 11",
+  "finish b", "begin a", "read a", "write a 12", "cells",
+]
+"#;
+    let want = "cells x: 0 1\ncells y: 2\nfree: 3 4\n\
+                begin c: ok\nread c: ok 7\nwrite c: ok\nfinish c: ok\n\
+                begin b: ok\nread b: ok 5 6\ncells x:\ncells y:\nfree: 3 4 2 0 1\n\
+                write b: ok\nfinish b: ok\nbegin a: ok\nread a: ok\nwrite a: ok\n\
+                cells x: 4\ncells y: 3\nfree: 2 0 1\n";
+    let answer = answer_to(&rt, FILLED, script)?;
+    assert_eq!(rt; answer.as_str(), want);
+    Ok(())
+}
+
+#[test]
+fn cells_may_be_fewer_than_the_capacities(rt: HostRuntime) -> Result<(), Fail> {
+    let table = [
+        (
+            "cells = 3\n",
+            CHAIN,
+            r#"[script]
+moves = ["begin a", "read a", "write a 1 2", "finish a", "begin a", "cells"]
+"#,
+            "begin a: ok\nread a: ok\nwrite a: ok\nfinish a: ok\nbegin a: refused NoCells\n\
+             cells x: 0 1\ncells y:\nfree: 2\n",
+        ),
+        (
+            "cells = 4\n",
+            CHAIN,
+            r#"[script]
+moves = [
+  "begin a", "read a", "write a 1 2", "finish a", "begin a", "read a", "write a 3 4", "finish a",
+  "begin b", "read b", "write b 9", "finish b", "begin a", "read a", "write a 5 6", "finish a",
+  "begin b", "read b", "write b 8", "finish b", "begin c",
+  "begin a", "read a", "write a 7 8", "finish a", "begin a", "read c", "begin a",
+]
+"#,
+            "begin a: ok\nread a: ok\nwrite a: ok\nfinish a: ok\n\
+             begin a: ok\nread a: ok\nwrite a: ok\nfinish a: ok\n\
+             begin b: ok\nread b: ok 1 2 3\nwrite b: ok\nfinish b: ok\n\
+             begin a: ok\nread a: ok\nwrite a: ok\nfinish a: ok\n\
+             begin b: ok\nread b: ok 4 5 6\nwrite b: ok\nfinish b: ok\nbegin c: ok\n\
+             begin a: ok\nread a: ok\nwrite a: ok\nfinish a: ok\n\
+             begin a: refused NoCells\nread c: ok 9 8\nbegin a: ok\n",
+        ),
+        (
+            "cells = 1\n",
+            LOOP,
+            "[script]\nmoves = [\"begin a\"]\n",
+            "begin a: ok\n",
+        ),
+        (
+            "cells = 0\n",
+            LOOP,
+            "[script]\nmoves = [\"begin a\"]\n",
+            "csdf: graph: range at file",
+        ),
+    ];
+    for (cells, graph, script, want) in table {
+        let file = format!(in rt.alloc(); "{cells}{graph}")?;
+        let answer = answer_to(&rt, file.as_str(), script)?;
+        assert_eq!(rt; answer.as_str(), want);
+    }
+    Ok(())
+}
+
+#[test]
+fn the_first_fault_is_told(rt: HostRuntime) -> Result<(), Fail> {
+    let faulty = "[script]\nmoves = [\"begin src\", \"read src\", \"write src 5 6\", \"begin\"]\n";
+    let table = [
+        (PAIR, faulty, "csdf: script: line 3"),
+        (
+            PAIR,
+            "[script]\nmoves = [\"begin src\"\n",
+            "csdf: graph: not TOML",
+        ),
+        (
+            PAIR,
+            "[script]\nlimit = -1\n",
+            "csdf: graph: range at script",
+        ),
+        (
+            PAIR,
+            "[script]\nmoves = [1]\n",
+            "csdf: graph: shape at script",
+        ),
+        (DISAGREEING, "", "csdf: graph: unbalanced at channel y"),
+        (HUGE, "", "csdf: graph: too large at channel x"),
+        (STUCK_CYCLE, "", "csdf: graph: deadlock"),
+        (TIGHT, "", "csdf: graph: too tight"),
+        (STUCK_CYCLE, faulty, "csdf: script: line 3"),
+        (
+            STUCK_CYCLE,
+            "[script]\nlimit = -1\nmoves = [\"begin\"]\n",
+            "csdf: graph: range at script",
+        ),
+        (
+            STUCK_CYCLE,
+            "[[channel]]\n[script]\nlimit = -1\n",
+            "csdf: graph: not TOML",
+        ),
+    ];
+    for (graph, script, want) in table {
+        let answer = answer_to(&rt, graph, script)?;
+        assert_eq!(rt; answer.as_str(), want);
+    }
+    Ok(())
+}
+
+#[test]
+fn lines_have_a_grammar(rt: HostRuntime) -> Result<(), Fail> {
+    let table = [
+        ("", "csdf: script: line 0"),
+        ("   ", "csdf: script: line 0"),
+        ("begin", "csdf: script: line 0"),
+        ("begin src snk", "csdf: script: line 0"),
+        ("begin 9x", "csdf: script: line 0"),
+        ("begin\\tsrc", "csdf: script: line 0"),
+        ("begin src\\r", "csdf: script: line 0"),
+        ("Begin src", "csdf: script: line 0"),
+        ("read src 1", "csdf: script: line 0"),
+        ("write src 1x", "csdf: script: line 0"),
+        ("write src 2147483648", "csdf: script: line 0"),
+        ("cells x", "csdf: script: line 0"),
+        ("close x y", "csdf: script: line 0"),
+        ("  begin   src ", "begin src: ok\n"),
+        ("write zz", "write zz: refused Unknown\n"),
+        ("write src +1 -0 007", "write src: refused NotRead\n"),
+        ("cells", "cells x:\nfree: 0 1 2\n"),
+    ];
+    for (line, want) in table {
+        let script = format!(in rt.alloc(); "[script]\nmoves = [\"{line}\"]\n")?;
+        let answer = answer_to(&rt, PAIR, script.as_str())?;
+        assert_eq!(rt; answer.as_str(), want);
+    }
+    Ok(())
+}
+
+#[test]
+fn a_failing_writer_is_told(rt: HostRuntime) -> Result<(), Fail> {
+    let file = format!(in rt.alloc(); "{PAIR}[script]\nmoves = [\"begin src\"]\n")?;
+    let mut written = Vec::new(rt.alloc());
+    let mut writer = Fused::new(ToWriter::new(&mut written), 0);
+    let Err(fault) = play_script(rt.alloc(), file.as_bytes(), &mut writer) else {
+        return Err(Fail::from("the writer failed"));
+    };
+    let line = format!(in rt.alloc(); "{fault}")?;
+    assert_eq!(rt; line.as_str(), "csdf: device: standard output");
+    Ok(())
+}
+
+#[test]
+fn faults_have_a_line_and_a_status(rt: HostRuntime) -> Result<(), Fail> {
+    let table = [
+        (
+            ToolFault::Graph(GraphFault::NotToml),
+            "csdf: graph: not TOML",
+            1,
+        ),
+        (
+            ToolFault::Graph(GraphFault::Shape(At::File)),
+            "csdf: graph: shape at file",
+            1,
+        ),
+        (
+            ToolFault::Graph(GraphFault::Name(At::Actor(1))),
+            "csdf: graph: name at actor 1",
+            1,
+        ),
+        (
+            ToolFault::Graph(GraphFault::Range(At::Script)),
+            "csdf: graph: range at script",
+            1,
+        ),
+        (
+            ToolFault::Graph(GraphFault::UnknownActor(2)),
+            "csdf: graph: unknown actor at channel 2",
+            1,
+        ),
+        (
+            ToolFault::Graph(GraphFault::PhaseLength(3)),
+            "csdf: graph: phase length at channel 3",
+            1,
+        ),
+        (
+            ToolFault::Graph(GraphFault::ZeroRate(4)),
+            "csdf: graph: zero rate at channel 4",
+            1,
+        ),
+        (
+            ToolFault::Graph(GraphFault::KernelPorts(5)),
+            "csdf: graph: kernel ports at actor 5",
+            1,
+        ),
+        (
+            ToolFault::Graph(GraphFault::NotConnected),
+            "csdf: graph: not connected",
+            1,
+        ),
+        (
+            ToolFault::Unbalanced(Name::new(rt.alloc(), "x")?),
+            "csdf: graph: unbalanced at channel x",
+            1,
+        ),
+        (
+            ToolFault::TooLarge(Name::new(rt.alloc(), "y")?),
+            "csdf: graph: too large at channel y",
+            1,
+        ),
+        (ToolFault::Deadlock, "csdf: graph: deadlock", 1),
+        (ToolFault::TooTight, "csdf: graph: too tight", 1),
+        (ToolFault::Line(99_999), "csdf: script: line 99999", 1),
+        (ToolFault::TooLong, "csdf: input too long", 1),
+        (ToolFault::Mixed, "csdf: run: mixed", 3),
+        (ToolFault::Worker, "csdf: run: worker", 3),
+        (
+            ToolFault::Device(Stream::Input),
+            "csdf: device: standard input",
+            3,
+        ),
+        (
+            ToolFault::Device(Stream::Output),
+            "csdf: device: standard output",
+            3,
+        ),
+        (
+            ToolFault::Device(Stream::File(Name::new(rt.alloc(), "a.toml")?)),
+            "csdf: device: a.toml",
+            3,
+        ),
+        (ToolFault::Memory, "csdf: memory", 3),
+    ];
+    for (fault, line, status) in table {
+        let text = format!(in rt.alloc(); "{fault}")?;
+        assert_eq!(rt; text.as_str(), line);
+        assert_eq!(rt; fault.status(), status);
+    }
+    Ok(())
+}

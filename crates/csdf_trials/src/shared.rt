@@ -1,0 +1,46 @@
+//! Graphs and steps with which several tests begin.
+
+use csdf_analysis::{Accepted, accept};
+use csdf_graph::read_graph;
+use std::alloc::Global;
+use std::test::Fail;
+
+/// A source that gives 2, a stage that takes 3 and gives 1, and a sink that takes 2.
+pub(crate) const CHAIN: &str = r#"actor = [
+  { name = "a", kernel = "source" },
+  { name = "b", kernel = "copy" },
+  { name = "c", kernel = "sink" },
+]
+channel = [
+  { name = "x", from = "a", to = "b", produce = [2], consume = [3] },
+  { name = "y", from = "b", to = "c", produce = [1], consume = [2] },
+]
+"#;
+
+/// Two channels that ask for different vectors.
+pub(crate) const DISAGREEING: &str = r#"actor = [
+  { name = "a", kernel = "source" },
+  { name = "b", kernel = "sink" },
+]
+channel = [
+  { name = "x", from = "a", to = "b", produce = [1], consume = [1] },
+  { name = "y", from = "a", to = "b", produce = [2], consume = [1] },
+]
+"#;
+
+/// A cycle with no token, and one with a token.
+pub(crate) const STUCK_CYCLE: &str =
+    r#"actor = [{ name = "a", kernel = "copy" }, { name = "b", kernel = "copy" }]
+channel = [
+  { name = "x", from = "a", to = "b", produce = [1], consume = [1] },
+  { name = "y", from = "b", to = "a", produce = [1], consume = [1] },
+]
+"#;
+
+/// The graph of the file, which is accepted.
+pub(crate) fn accepted_in(alloc: Global, text: &str) -> Result<Accepted, Fail> {
+    match accept(alloc, read_graph(alloc, text.as_bytes())?) {
+        Ok(accepted) => Ok(accepted),
+        Err((_, fault)) => Err(fault.into()),
+    }
+}
