@@ -63,6 +63,16 @@ fn sum_of(numbers: &[u32]) -> u32
     numbers.iter().sum()
 }
 
+/// An equal vector.
+fn copy_of(alloc: Global, vector: &Vector) -> Result<Vector, AllocError>
+    ensures cycles { IfOk result (λ copy. copy.r.items ≡ vector.now.r.items) }
+    ensures firings { IfOk result (λ copy. copy.q.items ≡ vector.now.q.items) }
+{
+    let r = Vec::from_slice(alloc, &vector.r)?;
+    let q = Vec::from_slice(alloc, &vector.q)?;
+    Ok(Vector { r, q })
+}
+
 impl Accepted {
     /// The graph that was accepted.
     pub fn graph(&self) -> &Graph
@@ -107,13 +117,12 @@ impl Accepted {
     pub fn try_copy(&self, alloc: Global) -> Result<Accepted, AllocError>
         ensures { IfOk result (λ accepted. accepted ≡ self.now) }
     {
-        let graph = self.graph.try_copy(alloc)?;
-        let r = Vec::from_slice(alloc, &self.vector.r)?;
-        let q = Vec::from_slice(alloc, &self.vector.q)?;
+        let vector = copy_of(alloc, &self.vector)?;
         let capacities = Vec::from_slice(alloc, &self.capacities)?;
+        let graph = self.graph.try_copy(alloc)?;
         Ok(Accepted {
             graph,
-            vector: Vector { r, q },
+            vector,
             capacities,
         })
     }

@@ -44,6 +44,26 @@ impl Model for Floor {
     ghost invariant = { λ f. IsBetween f.book.shown.core.plan f.book.shown.core.now };
 }
 
+/// The book of such a run that has not moved.
+fn opened(
+    alloc: Global,
+    accepted: &Accepted,
+    feeds: &[Vec<i32>],
+    periods: u32,
+    firings: Option<u32>,
+) -> Result<Book, AllocError>
+    requires fed { AreFeeds accepted.now.graph (feeds_in feeds.now) }
+    requires some_period { 1 ≤ periods }
+    requires few_periods { periods ≤ 1000 }
+    ensures work { IfOk result (λ book. book.shown.work
+        ≡ record { accepted = accepted.now; feeds = feeds_in feeds.now; periods = periods; firings = firings }) }
+    ensures journal { IfOk result (λ book. book.shown.journal ≡ []) }
+    ensures opening { IfOk result (λ book. book.shown.core.now ≡ present (opening book.shown.core.plan)) }
+{
+    let work = Work::new(alloc, accepted, feeds, periods, firings)?;
+    Book::open(alloc, work)
+}
+
 impl Floor {
     /// A floor on which nothing has fired, for so many periods of the graph over copies of these
     /// feeds, one for each actor and empty for one that is no source; with a limit on all firings
@@ -65,8 +85,7 @@ impl Floor {
         ensures journal { IfOk result (λ floor. floor.journal
             ≡ closes floor.core.plan (present (opening floor.core.plan)) (range_with_len 0 (length floor.core.plan.channels))) }
     {
-        let work = Work::new(alloc, accepted, feeds, periods, firings)?;
-        let mut book = Book::open(alloc, work)?;
+        let mut book = opened(alloc, accepted, feeds, periods, firings)?;
         book.reserve(book.core().channels() as usize)?;
         book.close_at_first();
         Ok(Floor { book })

@@ -95,16 +95,17 @@ fn able_among(core: &Core, mask: u64) -> u64 {
 }
 
 impl Hints {
+    /// Of a graph with so many actors; none is told yet.
     pub(crate) fn new(
         alloc: Global,
         accepted: &Accepted,
-        core: &Core,
+        actors: u32,
     ) -> Result<Hints, AllocError> {
         let channels = accepted.graph().channels();
-        let producers = all_producers(alloc, channels, core.actors())?;
-        let consumers = all_consumers(alloc, channels, core.actors())?;
+        let producers = all_producers(alloc, channels, actors)?;
+        let consumers = all_consumers(alloc, channels, actors)?;
         Ok(Hints {
-            ready: able_among(core, u64::MAX),
+            ready: 0,
             producers,
             consumers,
             are_cells_ample: are_cells_ample(accepted),
@@ -118,7 +119,7 @@ impl Hints {
 
     /// Looks at those of these actors that are not told yet. One that can begin stays so while others
     /// move, but for the limit on all firings and for cells: then its start is refused, and told here.
-    fn look(&mut self, core: &Core, mask: u64) {
+    pub(crate) fn look(&mut self, core: &Core, mask: u64) {
         self.ready |= able_among(core, mask & !self.ready);
     }
 

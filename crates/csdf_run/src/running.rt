@@ -1,6 +1,6 @@
 //! A run by worker threads.
 
-ghost use Rattle.std.specs.Prelude.{◌≡◌, ◌≤◌, ◌<◌, All, IfOk, IfSome};
+ghost use Rattle.std.specs.Prelude.{◌≡◌, ◌≤◌, ◌<◌, All, IfOk, IfSome, length};
 ghost use Rattle.csdf_floor.specs.Journal.{program_for};
 ghost use Rattle.csdf_floor.specs.Work.{AreFeeds, feeds_in};
 ghost use Rattle.csdf_floor.specs.Outcome.{HasHonestJournal, EndsSettled, TakesInOrder, StaysWithinCapacities, LeavesClosedAlone};
@@ -136,6 +136,7 @@ struct Seats {
 
 fn make_seats(alloc: Global, actors: u32, workers: u32) -> Result<Seats, AllocError>
     requires { actors ≤ 64 }
+    ensures actors { IfOk result (λ s. s.board.actors ≡ actors) }
     ensures first { IfOk result (λ s. s.first.board ≡ s.board.id) }
     ensures places { IfOk result (λ s. All (λ p. p.board ≡ s.board.id) s.places.items) }
 {
@@ -151,6 +152,7 @@ fn make_seats(alloc: Global, actors: u32, workers: u32) -> Result<Seats, AllocEr
 /// How many firings of each actor were finished.
 fn totals_of(alloc: Global, board: Board, place: Place) -> Result<Vec<u32>, RunFault>
     requires { place.board ≡ board.id }
+    ensures { IfOk result (λ totals. length totals.items ≡ board.actors) }
 {
     let mut totals = vec![in alloc; 0; board.actors() as usize]?;
     match board.gather(place, totals.as_mut_slice()) {
@@ -169,6 +171,7 @@ fn run_hall<R: Threads + Wait + Sync, G: Gate>(
     gate: &G,
 ) -> Result<Vec<u32>, RunFault>
     requires { actors ≤ 64 }
+    ensures { IfOk result (λ totals. length totals.items ≡ actors) }
 {
     let Seats {
         board,
@@ -192,8 +195,10 @@ fn hall_of(
     requires some_period { 1 ≤ periods }
     requires few_periods { periods ≤ 1000 }
 {
+    let actors = accepted.graph().actors().len();
+    let mut hints = Hints::new(alloc, accepted, actors as u32)?;
     let floor = Floor::new(alloc, accepted, feeds, periods, firings)?;
-    let hints = Hints::new(alloc, accepted, floor.core())?;
+    hints.look(floor.core(), u64::MAX);
     Ok(Hall::new(floor, hints, may_wait))
 }
 
@@ -238,9 +243,6 @@ pub fn run<R: Threads + Wait + Sync, G: Gate>(
     let hall = hall_of(alloc, accepted, feeds, periods, firings, gate.may_wait())?;
     let actors = accepted.graph().actors().len();
     let totals = run_hall(rt, alloc, &hall, actors as u32, workers, gate)?;
-    if totals.len() != actors {
-        return Err(RunFault::Mixed);
-    }
     settle(
         alloc,
         hall.into_floor(),
