@@ -4,6 +4,7 @@ use crate::analysis_tests::{CONVERTER, TWO_PHASES, TWO_TOKENS, UNEVEN_PHASES, gr
 use crate::shared::{CHAIN, DISAGREEING, STUCK_CYCLE, accepted_in};
 use csdf_analysis::{AcceptFault, Accepted, accept, capacities, raise, schedule};
 use std::alloc::{AllocError, Global};
+use std::process::Abort;
 use std::test::Fail;
 
 /// The chain where the first channel has too small a capacity, and where it has a large one.
@@ -82,6 +83,19 @@ channel = [
 ]
 "#;
 
+/// Asserts the capacities of the graph, and its number of cells.
+fn expect_capacities(
+    rt: &(impl Abort + AllocGlobal),
+    text: &str,
+    capacities: &[u32],
+    cells: u32,
+) -> Result<(), Fail> {
+    let accepted = accepted_in(rt.alloc(), text)?;
+    assert_eq!(rt; accepted.capacities(), capacities, "of {text}");
+    assert_eq!(rt; accepted.cells(), cells, "of {text}");
+    Ok(())
+}
+
 #[test]
 fn finds_the_least_capacities(rt: HostRuntime) -> Result<(), Fail> {
     for (text, capacities, cells) in [
@@ -96,9 +110,7 @@ fn finds_the_least_capacities(rt: HostRuntime) -> Result<(), Fail> {
         (LATE_SINK_GIVEN_SECOND, [1024, 2].as_slice(), 1026),
         (CONVERTER, [1, 4, 8, 14, 5].as_slice(), 32),
     ] {
-        let accepted = accepted_in(rt.alloc(), text)?;
-        assert_eq!(rt; accepted.capacities(), capacities, "of {text}");
-        assert_eq!(rt; accepted.cells(), cells, "of {text}");
+        expect_capacities(&rt, text, capacities, cells)?;
     }
     Ok(())
 }
@@ -123,10 +135,14 @@ fn says_why_a_graph_is_refused(rt: HostRuntime) -> Result<(), Fail> {
 #[test]
 fn prints_the_schedule(rt: HostRuntime) -> Result<(), Fail> {
     let chain = accepted_in(rt.alloc(), CHAIN)?;
-    assert_eq!(rt;
-        schedule(rt.alloc(), &chain)?.as_slice(),
-        [0, 0, 1, 0, 1, 2].as_slice()
-    );
+    let firings = schedule(rt.alloc(), &chain)?;
+    assert_eq!(rt; firings.as_slice(), [0, 0, 1, 0, 1, 2].as_slice());
+    Ok(())
+}
+
+#[test]
+fn copies_what_is_accepted(rt: HostRuntime) -> Result<(), Fail> {
+    let chain = accepted_in(rt.alloc(), CHAIN)?;
     let copy = chain.try_copy(rt.alloc())?;
     assert_eq!(rt; copy.capacities(), [4, 2].as_slice());
     assert_eq!(rt; copy.vector().q.as_slice(), [3, 2, 1].as_slice());

@@ -1,6 +1,7 @@
 use crate::shared::{CHAIN, DISAGREEING};
 use csdf_analysis::{AcceptFault, repetition};
 use csdf_graph::{Graph, read_graph};
+use std::process::Abort;
 use std::test::Fail;
 
 pub(crate) const TWO_PHASES: &str = r#"actor = [
@@ -62,8 +63,22 @@ pub(crate) const WIDE: &str = r#"actor = [
 channel = [{ name = "x", from = "a", to = "b", produce = [64, 64, 64, 64, 64, 64, 64, 64, 64, 64, 64, 64, 64, 64, 64, 64], consume = [64, 3] }]
 "#;
 
-pub(crate) fn graph(rt: &HostRuntime, text: &str) -> Result<Graph, Fail> {
+pub(crate) fn graph(rt: &impl AllocGlobal, text: &str) -> Result<Graph, Fail> {
     Ok(read_graph(rt.alloc(), text.as_bytes())?)
+}
+
+/// Asserts the vector of the graph, in cycles and in firings.
+fn expect_vector(
+    rt: &(impl Abort + AllocGlobal),
+    text: &str,
+    r: &[u32],
+    q: &[u32],
+) -> Result<(), Fail> {
+    let graph = graph(rt, text)?;
+    let vector = repetition(rt.alloc(), &graph)?;
+    assert_eq!(rt; vector.r.as_slice(), r, "r of {text}");
+    assert_eq!(rt; vector.q.as_slice(), q, "q of {text}");
+    Ok(())
 }
 
 #[test]
@@ -80,9 +95,7 @@ fn finds_the_least_vector(rt: HostRuntime) -> Result<(), Fail> {
         ),
     ];
     for (text, r, q) in rows {
-        let vector = repetition(rt.alloc(), &graph(&rt, text)?)?;
-        assert_eq!(rt; vector.r.as_slice(), r, "r of {text}");
-        assert_eq!(rt; vector.q.as_slice(), q, "q of {text}");
+        expect_vector(&rt, text, r, q)?;
     }
     Ok(())
 }

@@ -6,6 +6,7 @@ use csdf_graph::{
 };
 use std::io;
 use std::io::{ErrorKind, Read, Write};
+use std::process::Abort;
 use std::test::Fail;
 
 #[test]
@@ -51,7 +52,7 @@ fn the_first_faulty_line_is_told(rt: HostRuntime) {
 }
 
 /// A line that is given so many times, and then the end of the text.
-fn repeated(rt: &HostRuntime, line: &[u8], count: usize, end: &[u8]) -> Result<Vec<u8>, Fail> {
+fn repeated(rt: &impl AllocGlobal, line: &[u8], count: usize, end: &[u8]) -> Result<Vec<u8>, Fail> {
     let mut text = Vec::new(rt.alloc());
     for _ in 0..count {
         text.extend_from_slice(line)?;
@@ -61,12 +62,15 @@ fn repeated(rt: &HostRuntime, line: &[u8], count: usize, end: &[u8]) -> Result<V
 }
 
 #[test]
-fn tokens_have_a_limit(rt: HostRuntime) -> Result<(), Fail> {
+fn tokens_up_to_the_limit_are_read(rt: HostRuntime) -> Result<(), Fail> {
     let most = repeated(&rt, b"0\n", 1_000_000, b"")?;
-    assert_eq!(rt;
-        read_tokens(rt.alloc(), &mut Slice::new(&most))?.len(),
-        1_000_000
-    );
+    let tokens = read_tokens(rt.alloc(), &mut Slice::new(&most))?;
+    assert_eq!(rt; tokens.len(), 1_000_000);
+    Ok(())
+}
+
+#[test]
+fn tokens_have_a_limit(rt: HostRuntime) -> Result<(), Fail> {
     let table: [(&[u8], TokenFault); 3] = [
         (b"0\n", TokenFault::TooMany),
         (b"x\n", TokenFault::Syntax(1_000_001)),
@@ -82,18 +86,37 @@ fn tokens_have_a_limit(rt: HostRuntime) -> Result<(), Fail> {
     Ok(())
 }
 
+/// Asserts that all the bytes are read.
+fn expect_read(
+    rt: &(impl Abort + AllocGlobal),
+    reader: &mut impl Intake,
+    count: usize,
+) -> Result<(), Fail> {
+    let bytes = read_bytes(rt.alloc(), reader)?;
+    assert_eq!(rt; bytes.len(), count);
+    Ok(())
+}
+
 #[test]
-fn bytes_have_a_limit(rt: HostRuntime) -> Result<(), Fail> {
-    let mut text = vec![in rt.alloc(); b'\n'; 16_777_216]?;
-    assert_eq!(rt;
-        read_bytes(rt.alloc(), &mut Slice::new(&text))?.len(),
-        16_777_216
-    );
-    assert_eq!(rt; read_tokens(rt.alloc(), &mut Slice::new(&text))?.len(), 0);
+fn bytes_up_to_the_limit_are_read(rt: HostRuntime) -> Result<(), Fail> {
+    let text = vec![in rt.alloc(); b'\n'; 16_777_216]?;
+    expect_read(&rt, &mut Slice::new(&text), 16_777_216)?;
     // 256 pieces and the end: the reader is not asked byte by byte.
     let mut reader = Fused::new(Slice::new(&text), 257);
-    assert_eq!(rt; read_bytes(rt.alloc(), &mut reader)?.len(), 16_777_216);
-    text.push(b'\n')?;
+    expect_read(&rt, &mut reader, 16_777_216)
+}
+
+#[test]
+fn empty_lines_up_to_the_limit_are_read(rt: HostRuntime) -> Result<(), Fail> {
+    let text = vec![in rt.alloc(); b'\n'; 16_777_216]?;
+    let tokens = read_tokens(rt.alloc(), &mut Slice::new(&text))?;
+    assert_eq!(rt; tokens.len(), 0);
+    Ok(())
+}
+
+#[test]
+fn bytes_have_a_limit(rt: HostRuntime) -> Result<(), Fail> {
+    let text = vec![in rt.alloc(); b'\n'; 16_777_217]?;
     let bytes = read_bytes(rt.alloc(), &mut Slice::new(&text));
     assert_eq!(rt; bytes.err(), Some(InputFault::TooLong));
     let tokens = read_tokens(rt.alloc(), &mut Slice::new(&text));

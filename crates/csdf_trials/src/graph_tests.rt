@@ -1,8 +1,9 @@
 use csdf_graph::{
-    Actor, At, Channel, GraphFault, Kernel, Script, rate, read_graph, read_graph_and_script,
+    Actor, At, Channel, Graph, GraphFault, Kernel, Script, read_graph, read_graph_and_script,
     read_script,
 };
-use std::test::*;
+use std::process::Abort;
+use std::test::Fail;
 
 /// A source that makes 2 and 1 tokens in turn, and a sink that takes 3.
 const PAIR: &str = r#"[[actor]]
@@ -66,44 +67,74 @@ consume = [1]
 initial = [1]
 "#;
 
-fn refusal(rt: &HostRuntime, text: &str) -> Option<GraphFault> {
+fn refusal(rt: &impl AllocGlobal, text: &str) -> Option<GraphFault> {
     match read_graph(rt.alloc(), text.as_bytes()) {
         Ok(_) => None,
         Err(fault) => Some(fault),
     }
 }
 
-/// What reading the pair answers with one edit of its text.
-fn edited(rt: &HostRuntime, old: &str, new: &str) -> Result<Option<GraphFault>, Fail> {
+/// Asserts what reading the pair answers with one edit of its text.
+fn expect_edited(
+    rt: &(impl Abort + AllocGlobal),
+    old: &str,
+    new: &str,
+    fault: Option<GraphFault>,
+) -> Result<(), Fail> {
     let text = PAIR.replace(rt.alloc(), old, new)?;
-    Ok(refusal(rt, text.as_str()))
+    assert_eq!(rt; refusal(rt, text.as_str()), fault);
+    Ok(())
+}
+
+/// A copy of the file's graph.
+fn copy_of(rt: &impl AllocGlobal, text: &str) -> Result<Graph, Fail> {
+    let graph = read_graph(rt.alloc(), text.as_bytes())?;
+    Ok(graph.try_copy(rt.alloc())?)
+}
+
+fn check_names(rt: &impl Abort, graph: &Graph) {
+    assert_eq!(rt; graph.actor_number("snk"), Some(1));
+    assert_eq!(rt; graph.actor_number("x"), None);
+    assert_eq!(rt; graph.channel_number("x"), Some(0));
+}
+
+fn check_channel(rt: &impl Abort, channel: &Channel) {
+    assert_eq!(rt; (channel.from, channel.to), (0, 1));
+    assert_eq!(rt; channel.produce.as_slice(), [2, 1].as_slice());
+    assert_eq!(rt; channel.consume.as_slice(), [3].as_slice());
+    assert_eq!(rt; channel.initial.len(), 0);
+    assert_eq!(rt; channel.capacity, Some(3));
+}
+
+fn check_rates(rt: &impl Abort, channel: &Channel) {
+    assert_eq!(rt; (channel.production(4), channel.produced(5)), (2, 8));
+    assert_eq!(rt; (channel.consumption(4), channel.consumed(5)), (3, 15));
 }
 
 #[test]
 fn reads_the_pair(rt: HostRuntime) -> Result<(), Fail> {
-    let graph = read_graph(rt.alloc(), PAIR.as_bytes())?.try_copy(rt.alloc())?;
-    assert_eq!(rt; graph.actors().len(), 2);
-    assert_eq!(rt; graph.actor_number("snk"), Some(1));
-    assert_eq!(rt; graph.actor_number("x"), None);
-    assert_eq!(rt; graph.channel_number("x"), Some(0));
+    let graph = copy_of(&rt, PAIR)?;
+    assert_eq!(rt; (graph.actors().len(), graph.channels().len()), (2, 1));
     assert_eq!(rt; graph.cells(), None);
+    check_names(&rt, &graph);
+    Ok(())
+}
+
+#[test]
+fn reads_the_tables_of_the_pair(rt: HostRuntime) -> Result<(), Fail> {
+    let graph = copy_of(&rt, PAIR)?;
     for actor in graph.actors() {
         assert!(rt; matches!(actor.kernel, Kernel::Source | Kernel::Sink));
     }
     for channel in graph.channels() {
-        assert_eq!(rt; (channel.from, channel.to), (0, 1));
-        assert_eq!(rt; channel.produce.as_slice(), [2, 1].as_slice());
-        assert_eq!(rt; channel.consume.as_slice(), [3].as_slice());
-        assert_eq!(rt; channel.initial.len(), 0);
-        assert_eq!(rt; channel.capacity, Some(3));
-        assert_eq!(rt; (channel.production(4), channel.produced(5)), (2, 8));
-        assert_eq!(rt; (channel.consumption(4), channel.consumed(5)), (3, 15));
+        check_channel(&rt, channel);
+        check_rates(&rt, channel);
     }
     Ok(())
 }
 
 #[test]
-fn gathers_channels(rt: HostRuntime) -> Result<(), Fail> {
+fn gathers_channels_of_two(rt: HostRuntime) -> Result<(), Fail> {
     let pair = read_graph(rt.alloc(), PAIR.as_bytes())?;
     assert_eq!(rt; pair.actors().len(), 2);
     assert_eq!(rt; (pair.inputs(0).len(), pair.inputs(1)), (0, [0].as_slice()));
@@ -111,7 +142,12 @@ fn gathers_channels(rt: HostRuntime) -> Result<(), Fail> {
         (pair.outputs(0), pair.outputs(1).len()),
         ([0].as_slice(), 0)
     );
-    let own = read_graph(rt.alloc(), LOOP.as_bytes())?.try_copy(rt.alloc())?;
+    Ok(())
+}
+
+#[test]
+fn gathers_channels_of_one(rt: HostRuntime) -> Result<(), Fail> {
+    let own = copy_of(&rt, LOOP)?;
     assert_eq!(rt; own.actors().len(), 1);
     assert_eq!(rt;
         (own.inputs(0), own.outputs(0)),
@@ -142,7 +178,7 @@ fn refuses_edits_of_actors(rt: HostRuntime) -> Result<(), Fail> {
         ("finish snk\",\n]", "finish snk\",\n", GraphFault::NotToml),
     ];
     for (old, new, fault) in edits {
-        assert_eq!(rt; edited(&rt, old, new)?, Some(fault));
+        expect_edited(&rt, old, new, Some(fault))?;
     }
     Ok(())
 }
@@ -168,34 +204,46 @@ fn refuses_edits_of_the_channel(rt: HostRuntime) -> Result<(), Fail> {
         ("[2, 1]", "[0, 0]", GraphFault::ZeroRate(0)),
     ];
     for (old, new, fault) in edits {
-        assert_eq!(rt; edited(&rt, old, new)?, Some(fault));
+        expect_edited(&rt, old, new, Some(fault))?;
     }
     Ok(())
 }
 
 #[test]
-fn refuses_texts(rt: HostRuntime) -> Result<(), Fail> {
+fn refuses_a_name_used_twice(rt: HostRuntime) -> Result<(), Fail> {
     let twice = format!(in rt.alloc(); "{CHANNEL}{CHANNEL}")?;
-    assert_eq!(rt;
-        edited(&rt, CHANNEL, twice.as_str())?,
-        Some(GraphFault::Name(At::Channel(1)))
-    );
-    let both = CHANNEL
-        .replace(rt.alloc(), "= 3\n", "= 0\n")?
-        .replace(rt.alloc(), "\"snk\"", "\"zz\"")?;
-    assert_eq!(rt;
-        edited(&rt, CHANNEL, both.as_str())?,
-        Some(GraphFault::Range(At::Channel(0)))
-    );
-    assert_eq!(rt; refusal(&rt, APART), Some(GraphFault::NotConnected));
-    assert_eq!(rt; refusal(&rt, "[[actor"), Some(GraphFault::NotToml));
-    assert_eq!(rt; refusal(&rt, ""), Some(GraphFault::Shape(At::File)));
-    assert_eq!(rt; edited(&rt, "[script]\n", "[script]\nlimit = -1\n")?, None);
-    Ok(())
+    let fault = GraphFault::Name(At::Channel(1));
+    expect_edited(&rt, CHANNEL, twice.as_str(), Some(fault))
 }
 
 #[test]
-fn reads_cells(rt: HostRuntime) -> Result<(), Fail> {
+fn refuses_a_range_before_an_unknown_actor(rt: HostRuntime) -> Result<(), Fail> {
+    let channel = r#"[[channel]]
+name = "x"
+from = "src"
+to = "zz"
+produce = [2, 1]
+consume = [3]
+capacity = 0
+"#;
+    let fault = GraphFault::Range(At::Channel(0));
+    expect_edited(&rt, CHANNEL, channel, Some(fault))
+}
+
+#[test]
+fn refuses_texts(rt: HostRuntime) {
+    assert_eq!(rt; refusal(&rt, APART), Some(GraphFault::NotConnected));
+    assert_eq!(rt; refusal(&rt, "[[actor"), Some(GraphFault::NotToml));
+    assert_eq!(rt; refusal(&rt, ""), Some(GraphFault::Shape(At::File)));
+}
+
+#[test]
+fn a_graph_is_read_beside_a_faulty_script(rt: HostRuntime) -> Result<(), Fail> {
+    expect_edited(&rt, "[script]\n", "[script]\nlimit = -1\n", None)
+}
+
+#[test]
+fn refuses_cells(rt: HostRuntime) -> Result<(), Fail> {
     for (cells, fault) in [
         ("cells = 1\n", None),
         ("cells = 0\n", Some(GraphFault::Range(At::File))),
@@ -204,35 +252,56 @@ fn reads_cells(rt: HostRuntime) -> Result<(), Fail> {
         let text = format!(in rt.alloc(); "{cells}{LOOP}")?;
         assert_eq!(rt; refusal(&rt, text.as_str()), fault);
     }
+    Ok(())
+}
+
+#[test]
+fn reads_cells(rt: HostRuntime) -> Result<(), Fail> {
     let text = format!(in rt.alloc(); "cells = 8388480\n{LOOP}")?;
     let graph = read_graph(rt.alloc(), text.as_bytes())?;
     assert_eq!(rt; graph.cells(), Some(8_388_480));
     Ok(())
 }
 
-/// What reading the script of the pair answers with one edit of its text.
-fn script_with(rt: &HostRuntime, old: &str, new: &str) -> Result<Option<GraphFault>, Fail> {
+/// Asserts the fault of the pair's script with one edit of its text.
+fn expect_script_fault(
+    rt: &(impl Abort + AllocGlobal),
+    old: &str,
+    new: &str,
+    fault: GraphFault,
+) -> Result<(), Fail> {
     let text = PAIR.replace(rt.alloc(), old, new)?;
-    match read_script(rt.alloc(), text.as_bytes()) {
-        Ok(_) => Ok(None),
-        Err(fault) => Ok(Some(fault)),
-    }
+    let answer = read_script(rt.alloc(), text.as_bytes());
+    assert_eq!(rt; answer.err(), Some(fault));
+    Ok(())
+}
+
+fn check_script(rt: &impl Abort, script: &Script) {
+    assert_eq!(rt; (script.limit, script.supply), (1_000_000, 1_000_000));
+    assert_eq!(rt; script.firings, None);
+    assert_eq!(rt; script.lines.len(), 12);
+    assert_eq!(rt; script.lines[2].as_str(), "write src 5 6");
 }
 
 #[test]
 fn reads_scripts(rt: HostRuntime) -> Result<(), Fail> {
     let script = read_script(rt.alloc(), PAIR.as_bytes())?;
-    assert_eq!(rt; (script.limit, script.supply), (1_000_000, 1_000_000));
-    assert_eq!(rt; script.firings, None);
-    assert_eq!(rt; script.lines.len(), 12);
-    assert_eq!(rt; script.lines[2].as_str(), "write src 5 6");
+    check_script(&rt, &script);
+    Ok(())
+}
+
+#[test]
+fn reads_no_script(rt: HostRuntime) -> Result<(), Fail> {
     let none = read_script(rt.alloc(), LOOP.as_bytes())?;
     assert_eq!(rt; (none.limit, none.lines.len()), (1_000_000, 0));
-    let firings = PAIR.replace(rt.alloc(), "[script]\n", "[script]\nfirings = 1\n")?;
-    assert_eq!(rt;
-        read_script(rt.alloc(), firings.as_bytes())?.firings,
-        Some(1)
-    );
+    Ok(())
+}
+
+#[test]
+fn reads_the_limit_on_firings(rt: HostRuntime) -> Result<(), Fail> {
+    let text = PAIR.replace(rt.alloc(), "[script]\n", "[script]\nfirings = 1\n")?;
+    let script = read_script(rt.alloc(), text.as_bytes())?;
+    assert_eq!(rt; script.firings, Some(1));
     Ok(())
 }
 
@@ -253,7 +322,7 @@ fn refuses_scripts(rt: HostRuntime) -> Result<(), Fail> {
         ("finish snk\",\n]", "finish snk\",\n", GraphFault::NotToml),
     ];
     for (old, new, fault) in table {
-        assert_eq!(rt; script_with(&rt, old, new)?, Some(fault));
+        expect_script_fault(&rt, old, new, fault)?;
     }
     Ok(())
 }
@@ -267,7 +336,7 @@ fn reads_graphs_with_scripts(rt: HostRuntime) -> Result<(), Fail> {
 }
 
 #[test]
-fn refuses_graphs_with_scripts(rt: HostRuntime) -> Result<(), Fail> {
+fn refuses_graphs_with_scripts(rt: HostRuntime) {
     let table = [
         ("x", GraphFault::NotToml),
         (
@@ -280,6 +349,10 @@ fn refuses_graphs_with_scripts(rt: HostRuntime) -> Result<(), Fail> {
         let answer = read_graph_and_script(rt.alloc(), text.as_bytes());
         assert_eq!(rt; answer.err(), Some(fault));
     }
+}
+
+#[test]
+fn refuses_a_script_beside_a_graph(rt: HostRuntime) -> Result<(), Fail> {
     let text = PAIR.replace(rt.alloc(), "[script]\n", "[script]\nlimit = -1\n")?;
     let answer = read_graph_and_script(rt.alloc(), text.as_bytes());
     assert_eq!(rt; answer.err(), Some(GraphFault::Range(At::Script)));

@@ -6,15 +6,20 @@ use crate::core_tests::{AMPLE, PAIR, moves_in, setup_of, shown, text_of};
 use crate::shared::{CHAIN, accepted_in};
 use csdf_analysis::{AcceptFault, Accepted, accept, capacities, repetition};
 use csdf_core::{Core, Move, Reply, play_on};
+use csdf_graph::Graph;
 use std::alloc::Global;
 use std::process::Abort;
 use std::test::Fail;
 
+fn capacities_of(alloc: Global, graph: &Graph) -> Result<Vec<u32>, Fail> {
+    let vector = repetition(alloc, graph)?;
+    Ok(capacities(alloc, graph, &vector)?)
+}
+
 #[test]
 fn finds_capacities_of_a_vector(rt: HostRuntime) -> Result<(), Fail> {
     let chain = graph(&rt, CHAIN)?;
-    let vector = repetition(rt.alloc(), &chain)?;
-    let found = capacities(rt.alloc(), &chain, &vector)?;
+    let found = capacities_of(rt.alloc(), &chain)?;
     assert_eq!(rt; found.as_slice(), [4, 2].as_slice());
     Ok(())
 }
@@ -56,7 +61,28 @@ fn shown_by(alloc: Global, core: &Core) -> Result<String, Fail> {
     shown(alloc, core, core.actors(), core.channels())
 }
 
-/// Whether the core shows what it does after some of the moves, from the first on.
+/// Whether the core shows this.
+fn shows(alloc: Global, core: &Core, state: &str) -> Result<bool, Fail> {
+    let now = shown_by(alloc, core)?;
+    Ok(now.as_str() == state)
+}
+
+/// Whether the core shows this now, or after some of the moves, from the first on.
+fn comes_to_show(
+    alloc: Global,
+    core: &mut Core,
+    moves: &[Move],
+    state: &str,
+) -> Result<bool, Fail> {
+    let mut found = shows(alloc, core, state)?;
+    for next in moves {
+        play_on(core, alloc, std::slice::from_ref(next))?;
+        found |= shows(alloc, core, state)?;
+    }
+    Ok(found)
+}
+
+/// Whether the core shows what one does after some of the moves, from the first on.
 fn is_after_a_front(
     alloc: Global,
     accepted: &Accepted,
@@ -65,12 +91,7 @@ fn is_after_a_front(
 ) -> Result<bool, Fail> {
     let state = shown_by(alloc, core)?;
     let mut other = opening_core(alloc, accepted)?;
-    let mut found = shown_by(alloc, &other)? == state;
-    for next in moves {
-        play_on(&mut other, alloc, std::slice::from_ref(next))?;
-        found |= shown_by(alloc, &other)? == state;
-    }
-    Ok(found)
+    comes_to_show(alloc, &mut other, moves, state.as_str())
 }
 
 /// Plays the moves: all of them with the wanted replies, or for want of memory a front of them.

@@ -23,33 +23,54 @@ fn answer_to(
     }
 }
 
+/// Asserts the answer to a question.
+fn expect(
+    rt: &(impl Abort + AllocGlobal),
+    question: Question,
+    graph: &str,
+    want: &str,
+) -> Result<(), Fail> {
+    let answer = answer_to(rt, question, graph)?;
+    assert_eq!(rt; answer.as_str(), want);
+    Ok(())
+}
+
+const ANSWERS: [(Question, &str, &str); 8] = [
+    (Question::Check, CHAIN, "consistent: 3 actors, 2 channels\n"),
+    (Question::Repetition, CHAIN, "a 3 3\nb 2 2\nc 1 1\n"),
+    (Question::Schedule, CHAIN, "a\na\nb\na\nb\nc\n"),
+    (Question::Capacity, CHAIN, "x 4\ny 2\ncells 6\n"),
+    (
+        Question::Check,
+        STUCK_CYCLE,
+        "consistent: 2 actors, 2 channels\n",
+    ),
+    (Question::Capacity, STUCK_CYCLE, "csdf: graph: deadlock"),
+    (
+        Question::Check,
+        DISAGREEING,
+        "csdf: graph: unbalanced at channel y",
+    ),
+    (Question::Schedule, "[[actor", "csdf: graph: not TOML"),
+];
+
 #[test]
 fn questions_are_answered(rt: HostRuntime) -> Result<(), Fail> {
-    let check = answer_to(&rt, Question::Check, CHAIN)?;
-    assert_eq!(rt; check.as_str(), "consistent: 3 actors, 2 channels\n");
-    let repetition = answer_to(&rt, Question::Repetition, CHAIN)?;
-    assert_eq!(rt; repetition.as_str(), "a 3 3\nb 2 2\nc 1 1\n");
-    let schedule = answer_to(&rt, Question::Schedule, CHAIN)?;
-    assert_eq!(rt; schedule.as_str(), "a\na\nb\na\nb\nc\n");
-    let capacity = answer_to(&rt, Question::Capacity, CHAIN)?;
-    assert_eq!(rt; capacity.as_str(), "x 4\ny 2\ncells 6\n");
-    let shared = format!(in rt.alloc(); "cells = 4\n{CHAIN}")?;
-    let capacity = answer_to(&rt, Question::Capacity, shared.as_str())?;
-    assert_eq!(rt; capacity.as_str(), "x 4\ny 2\ncells 4\n");
+    for (question, graph, want) in &ANSWERS {
+        expect(&rt, *question, *graph, *want)?;
+    }
     Ok(())
 }
 
 #[test]
-fn a_graph_with_no_answer_is_told(rt: HostRuntime) -> Result<(), Fail> {
-    let check = answer_to(&rt, Question::Check, STUCK_CYCLE)?;
-    assert_eq!(rt; check.as_str(), "consistent: 2 actors, 2 channels\n");
-    let capacity = answer_to(&rt, Question::Capacity, STUCK_CYCLE)?;
-    assert_eq!(rt; capacity.as_str(), "csdf: graph: deadlock");
-    let check = answer_to(&rt, Question::Check, DISAGREEING)?;
-    assert_eq!(rt; check.as_str(), "csdf: graph: unbalanced at channel y");
-    let schedule = answer_to(&rt, Question::Schedule, "[[actor")?;
-    assert_eq!(rt; schedule.as_str(), "csdf: graph: not TOML");
-    Ok(())
+fn fewer_cells_are_told(rt: HostRuntime) -> Result<(), Fail> {
+    let graph = format!(in rt.alloc(); "cells = 4\n{CHAIN}")?;
+    expect(
+        &rt,
+        Question::Capacity,
+        graph.as_str(),
+        "x 4\ny 2\ncells 4\n",
+    )
 }
 
 /// A row whose first channel begins with three tokens, whose second with as many as are drawn, and
@@ -66,10 +87,7 @@ channel = [
 ]
 "#;
 
-#[test]
-fn a_graph_is_drawn(rt: HostRuntime) -> Result<(), Fail> {
-    let row = answer_to(&rt, Question::Dot, CHAIN)?;
-    let wanted = r#"digraph csdf {
+const DRAWN_CHAIN: &str = r#"digraph csdf {
   rankdir=LR;
   node [shape=box];
   n0 [label="a\nsource\nphases 1, firings 3"];
@@ -79,9 +97,8 @@ fn a_graph_is_drawn(rt: HostRuntime) -> Result<(), Fail> {
   n1 -> n2 [label="y\nrates 1 / 2\ncapacity 2\n"];
 }
 "#;
-    assert_eq!(rt; row.as_str(), wanted);
-    let filled = answer_to(&rt, Question::Dot, FILLED)?;
-    let wanted = r#"digraph csdf {
+
+const DRAWN_FILLED: &str = r#"digraph csdf {
   rankdir=LR;
   node [shape=box];
   n0 [label="src\nsource\nphases 1, firings 1"];
@@ -92,8 +109,10 @@ fn a_graph_is_drawn(rt: HostRuntime) -> Result<(), Fail> {
   n1 -> n1 [label="z\nrates 1 1 / 1 1\ncapacity 9\n9 •"];
 }
 "#;
-    assert_eq!(rt; filled.as_str(), wanted);
-    let stuck = answer_to(&rt, Question::Dot, STUCK_CYCLE)?;
-    assert_eq!(rt; stuck.as_str(), "csdf: graph: deadlock");
-    Ok(())
+
+#[test]
+fn a_graph_is_drawn(rt: HostRuntime) -> Result<(), Fail> {
+    expect(&rt, Question::Dot, CHAIN, DRAWN_CHAIN)?;
+    expect(&rt, Question::Dot, FILLED, DRAWN_FILLED)?;
+    expect(&rt, Question::Dot, STUCK_CYCLE, "csdf: graph: deadlock")
 }

@@ -65,6 +65,18 @@ fn answer_to(rt: &(impl Abort + AllocGlobal), graph: &str, script: &str) -> Resu
     }
 }
 
+/// Asserts what is answered to a file.
+fn expect(
+    rt: &(impl Abort + AllocGlobal),
+    graph: &str,
+    script: &str,
+    want: &str,
+) -> Result<(), Fail> {
+    let answer = answer_to(rt, graph, script)?;
+    assert_eq!(rt; answer.as_str(), want);
+    Ok(())
+}
+
 #[test]
 fn a_pair_fires_and_is_refused(rt: HostRuntime) -> Result<(), Fail> {
     let table = [
@@ -123,8 +135,7 @@ moves = ["begin src", "begin snk", "read src", "write src 5 6", "finish src", "b
         ("", ""),
     ];
     for (script, want) in table {
-        let answer = answer_to(&rt, PAIR, script)?;
-        assert_eq!(rt; answer.as_str(), want);
+        expect(&rt, PAIR, script, want)?;
     }
     Ok(())
 }
@@ -144,9 +155,7 @@ moves = [
                 begin b: ok\nread b: ok 1 2 3\nwrite b: ok\nfinish b: ok\n\
                 begin a: ok\nread a: ok\nwrite a: ok\n\
                 cells x: 3 5 0\ncells y: 4\nfree: 1 2\n";
-    let answer = answer_to(&rt, CHAIN, script)?;
-    assert_eq!(rt; answer.as_str(), want);
-    Ok(())
+    expect(&rt, CHAIN, script, want)
 }
 
 /// A row with tokens in both channels, and two cells more than they need.
@@ -175,9 +184,19 @@ moves = [
                 begin b: ok\nread b: ok 5 6\ncells x:\ncells y:\nfree: 3 4 2 0 1\n\
                 write b: ok\nfinish b: ok\nbegin a: ok\nread a: ok\nwrite a: ok\n\
                 cells x: 4\ncells y: 3\nfree: 2 0 1\n";
-    let answer = answer_to(&rt, FILLED, script)?;
-    assert_eq!(rt; answer.as_str(), want);
-    Ok(())
+    expect(&rt, FILLED, script, want)
+}
+
+/// Asserts what is answered to a file that begins with its number of cells.
+fn expect_with_cells(
+    rt: &(impl Abort + AllocGlobal),
+    cells: &str,
+    graph: &str,
+    script: &str,
+    want: &str,
+) -> Result<(), Fail> {
+    let file = format!(in rt.alloc(); "{cells}{graph}")?;
+    expect(rt, file.as_str(), script, want)
 }
 
 #[test]
@@ -225,9 +244,7 @@ moves = [
         ),
     ];
     for (cells, graph, script, want) in table {
-        let file = format!(in rt.alloc(); "{cells}{graph}")?;
-        let answer = answer_to(&rt, file.as_str(), script)?;
-        assert_eq!(rt; answer.as_str(), want);
+        expect_with_cells(&rt, cells, graph, script, want)?;
     }
     Ok(())
 }
@@ -269,10 +286,15 @@ fn the_first_fault_is_told(rt: HostRuntime) -> Result<(), Fail> {
         ),
     ];
     for (graph, script, want) in table {
-        let answer = answer_to(&rt, graph, script)?;
-        assert_eq!(rt; answer.as_str(), want);
+        expect(&rt, graph, script, want)?;
     }
     Ok(())
+}
+
+/// Asserts what is answered to one line of the pair's script.
+fn expect_line(rt: &(impl Abort + AllocGlobal), line: &str, want: &str) -> Result<(), Fail> {
+    let script = format!(in rt.alloc(); "[script]\nmoves = [\"{line}\"]\n")?;
+    expect(rt, PAIR, script.as_str(), want)
 }
 
 #[test]
@@ -297,9 +319,7 @@ fn lines_have_a_grammar(rt: HostRuntime) -> Result<(), Fail> {
         ("cells", "cells x:\nfree: 0 1 2\n"),
     ];
     for (line, want) in table {
-        let script = format!(in rt.alloc(); "[script]\nmoves = [\"{line}\"]\n")?;
-        let answer = answer_to(&rt, PAIR, script.as_str())?;
-        assert_eq!(rt; answer.as_str(), want);
+        expect_line(&rt, line, want)?;
     }
     Ok(())
 }
@@ -317,91 +337,91 @@ fn a_failing_writer_is_told(rt: HostRuntime) -> Result<(), Fail> {
     Ok(())
 }
 
+/// Asserts the line and the exit status of a fault.
+fn expect_told(
+    rt: &(impl Abort + AllocGlobal),
+    fault: &ToolFault,
+    line: &str,
+    status: u8,
+) -> Result<(), Fail> {
+    let text = format!(in rt.alloc(); "{fault}")?;
+    assert_eq!(rt; text.as_str(), line);
+    assert_eq!(rt; fault.status(), status);
+    Ok(())
+}
+
+const GRAPH_FAULTS: [(GraphFault, &str); 9] = [
+    (GraphFault::NotToml, "csdf: graph: not TOML"),
+    (GraphFault::Shape(At::File), "csdf: graph: shape at file"),
+    (
+        GraphFault::Name(At::Actor(1)),
+        "csdf: graph: name at actor 1",
+    ),
+    (
+        GraphFault::Range(At::Script),
+        "csdf: graph: range at script",
+    ),
+    (
+        GraphFault::UnknownActor(2),
+        "csdf: graph: unknown actor at channel 2",
+    ),
+    (
+        GraphFault::PhaseLength(3),
+        "csdf: graph: phase length at channel 3",
+    ),
+    (
+        GraphFault::ZeroRate(4),
+        "csdf: graph: zero rate at channel 4",
+    ),
+    (
+        GraphFault::KernelPorts(5),
+        "csdf: graph: kernel ports at actor 5",
+    ),
+    (GraphFault::NotConnected, "csdf: graph: not connected"),
+];
+
 #[test]
-fn faults_have_a_line_and_a_status(rt: HostRuntime) -> Result<(), Fail> {
-    let table = [
-        (
-            ToolFault::Graph(GraphFault::NotToml),
-            "csdf: graph: not TOML",
-            1,
-        ),
-        (
-            ToolFault::Graph(GraphFault::Shape(At::File)),
-            "csdf: graph: shape at file",
-            1,
-        ),
-        (
-            ToolFault::Graph(GraphFault::Name(At::Actor(1))),
-            "csdf: graph: name at actor 1",
-            1,
-        ),
-        (
-            ToolFault::Graph(GraphFault::Range(At::Script)),
-            "csdf: graph: range at script",
-            1,
-        ),
-        (
-            ToolFault::Graph(GraphFault::UnknownActor(2)),
-            "csdf: graph: unknown actor at channel 2",
-            1,
-        ),
-        (
-            ToolFault::Graph(GraphFault::PhaseLength(3)),
-            "csdf: graph: phase length at channel 3",
-            1,
-        ),
-        (
-            ToolFault::Graph(GraphFault::ZeroRate(4)),
-            "csdf: graph: zero rate at channel 4",
-            1,
-        ),
-        (
-            ToolFault::Graph(GraphFault::KernelPorts(5)),
-            "csdf: graph: kernel ports at actor 5",
-            1,
-        ),
-        (
-            ToolFault::Graph(GraphFault::NotConnected),
-            "csdf: graph: not connected",
-            1,
-        ),
-        (
-            ToolFault::Unbalanced(Name::new(rt.alloc(), "x")?),
-            "csdf: graph: unbalanced at channel x",
-            1,
-        ),
-        (
-            ToolFault::TooLarge(Name::new(rt.alloc(), "y")?),
-            "csdf: graph: too large at channel y",
-            1,
-        ),
-        (ToolFault::Deadlock, "csdf: graph: deadlock", 1),
-        (ToolFault::TooTight, "csdf: graph: too tight", 1),
-        (ToolFault::Line(99_999), "csdf: script: line 99999", 1),
-        (ToolFault::TooLong, "csdf: input too long", 1),
-        (ToolFault::Mixed, "csdf: run: mixed", 3),
-        (ToolFault::Worker, "csdf: run: worker", 3),
-        (
-            ToolFault::Device(Stream::Input),
-            "csdf: device: standard input",
-            3,
-        ),
-        (
-            ToolFault::Device(Stream::Output),
-            "csdf: device: standard output",
-            3,
-        ),
-        (
-            ToolFault::Device(Stream::File(Name::new(rt.alloc(), "a.toml")?)),
-            "csdf: device: a.toml",
-            3,
-        ),
-        (ToolFault::Memory, "csdf: memory", 3),
-    ];
-    for (fault, line, status) in table {
-        let text = format!(in rt.alloc(); "{fault}")?;
-        assert_eq!(rt; text.as_str(), line);
-        assert_eq!(rt; fault.status(), status);
+fn faults_of_graphs_have_a_line(rt: HostRuntime) -> Result<(), Fail> {
+    for (fault, line) in &GRAPH_FAULTS {
+        expect_told(&rt, &ToolFault::Graph(*fault), *line, 1)?;
     }
     Ok(())
+}
+
+#[test]
+fn refusals_have_a_line(rt: HostRuntime) -> Result<(), Fail> {
+    expect_told(&rt, &ToolFault::Deadlock, "csdf: graph: deadlock", 1)?;
+    expect_told(&rt, &ToolFault::TooTight, "csdf: graph: too tight", 1)?;
+    let line = "csdf: script: line 99999";
+    expect_told(&rt, &ToolFault::Line(99_999), line, 1)?;
+    expect_told(&rt, &ToolFault::TooLong, "csdf: input too long", 1)
+}
+
+#[test]
+fn failures_have_a_line(rt: HostRuntime) -> Result<(), Fail> {
+    expect_told(&rt, &ToolFault::Mixed, "csdf: run: mixed", 3)?;
+    expect_told(&rt, &ToolFault::Worker, "csdf: run: worker", 3)?;
+    expect_told(&rt, &ToolFault::Memory, "csdf: memory", 3)?;
+    let input = ToolFault::Device(Stream::Input);
+    expect_told(&rt, &input, "csdf: device: standard input", 3)?;
+    let output = ToolFault::Device(Stream::Output);
+    expect_told(&rt, &output, "csdf: device: standard output", 3)
+}
+
+#[test]
+fn a_channel_that_is_refused_is_named(rt: HostRuntime) -> Result<(), Fail> {
+    let fault = ToolFault::Unbalanced(Name::new(rt.alloc(), "x")?);
+    expect_told(&rt, &fault, "csdf: graph: unbalanced at channel x", 1)
+}
+
+#[test]
+fn a_channel_that_is_too_large_is_named(rt: HostRuntime) -> Result<(), Fail> {
+    let fault = ToolFault::TooLarge(Name::new(rt.alloc(), "y")?);
+    expect_told(&rt, &fault, "csdf: graph: too large at channel y", 1)
+}
+
+#[test]
+fn a_file_that_failed_is_named(rt: HostRuntime) -> Result<(), Fail> {
+    let fault = ToolFault::Device(Stream::File(Name::new(rt.alloc(), "a.toml")?));
+    expect_told(&rt, &fault, "csdf: device: a.toml", 3)
 }
