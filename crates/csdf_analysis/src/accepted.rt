@@ -12,11 +12,21 @@ use std::alloc::{AllocError, Global};
 use std::marker::Model;
 
 /// A graph with its least repetition vector and its least capacities.
-#[derive(Drop)]
 pub struct Accepted {
     graph: Graph,
     vector: Vector,
     capacities: Vec<u32>,
+}
+
+// Written out, so that where one is dropped this is called, and its parts are not gone through again.
+impl Drop for Accepted {
+    fn drop(self) {
+        let Accepted {
+            graph: _,
+            vector: _,
+            capacities: _,
+        } = self;
+    }
 }
 
 impl Model for Accepted {

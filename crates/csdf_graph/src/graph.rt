@@ -15,7 +15,6 @@ use std::marker::Model;
 /// A cyclo-static dataflow graph that has passed each check of [`read_graph`](crate::read_graph).
 ///
 /// Actors and channels are numbered from 0 in file order.
-#[derive(Drop)]
 pub struct Graph {
     actors: Vec<Actor>,
     channels: Vec<Channel>,
@@ -23,6 +22,20 @@ pub struct Graph {
     actor_names: IndexSet<String>,
     channel_names: IndexSet<String>,
     ports: Vec<Ports>,
+}
+
+// Written out, so that where a graph is dropped this is called, and its parts are not gone through again.
+impl Drop for Graph {
+    fn drop(self) {
+        let Graph {
+            actors: _,
+            channels: _,
+            cells: _,
+            actor_names: _,
+            channel_names: _,
+            ports: _,
+        } = self;
+    }
 }
 
 impl Model for Graph {
