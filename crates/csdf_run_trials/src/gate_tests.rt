@@ -1,7 +1,7 @@
 ghost use Rattle.std.specs.Prelude.{◌≡◌};
 ghost use Rattle.csdf_claims.specs.Board.{Holds, KeepsAll};
 
-use crate::shared::{TWO_SOURCES, accepted_in};
+use crate::shared::{TWO_SOURCES, accepted_in, expect_eq};
 use csdf_claims::{Board, Place};
 use csdf_run::{Gate, Outcome, are_feeds, run};
 use std::alloc::Global;
@@ -140,7 +140,7 @@ fn check_taken<R: Abort>(
     wanted: i32,
 ) -> Result<(), Fail> {
     let all = taken(alloc, outcome)?;
-    assert_eq!(rt; all.as_slice(), [wanted].as_slice());
+    expect_eq(&rt, all.as_slice(), [wanted].as_slice());
     Ok(())
 }
 
@@ -153,8 +153,8 @@ fn two_firings_at_the_same_time(rt: HostRuntime) -> Result<(), Fail> {
         held: AtomicU32::new(0),
     };
     let outcome = outcome_of(&rt, rt.alloc(), TWO_SOURCES, &[1, 10], 2, &gate)?;
-    assert_eq!(rt; gate.met.load(SeqCst), 4);
-    assert_eq!(rt; gate.held.load(SeqCst), 2);
+    expect_eq(&rt, gate.met.load(SeqCst), 4);
+    expect_eq(&rt, gate.held.load(SeqCst), 2);
     check_taken(&rt, rt.alloc(), &outcome, 11)
 }
 
@@ -194,7 +194,7 @@ fn eight_firings_at_the_same_time(rt: HostRuntime) -> Result<(), Fail> {
         saw_all: AtomicU32::new(0),
     };
     let outcome = eight_summed(&rt, rt.alloc(), &gate)?;
-    assert_eq!(rt; gate.saw_all.load(SeqCst), 8);
+    expect_eq(&rt, gate.saw_all.load(SeqCst), 8);
     check_taken(&rt, rt.alloc(), &outcome, 36)
 }
 

@@ -4,7 +4,7 @@
 ghost use Rattle.std.specs.Prelude.{◌≡◌, ◌<◌, IfOk, length};
 ghost use Rattle.csdf_floor.specs.Floor.{IsReady};
 
-use crate::shared::{accepted_in, feeds_of};
+use crate::shared::{accepted_in, expect_eq, feeds_of};
 use csdf_analysis::Accepted;
 use csdf_core::Core;
 use csdf_kernel::{Done, Job, eval};
@@ -129,8 +129,8 @@ fn started_at_last<R: Abort>(
     match floor.start(alloc, actor, 0) {
         Ok(job) => Ok(job),
         Err(fault) => {
-            assert_eq!(rt; fault, StartFault::Memory);
-            assert_eq!(rt; shown(alloc, floor)?.as_str(), before.as_str());
+            expect_eq(&rt, fault, StartFault::Memory);
+            expect_eq(&rt, shown(alloc, floor)?.as_str(), before.as_str());
             started(alloc, floor, actor)
         }
     }
@@ -166,8 +166,8 @@ fn deliver_at_last<R: Abort>(
     match floor.deliver(alloc, done) {
         Ok(()) => Ok(()),
         Err(fault) => {
-            assert_eq!(rt; fault, DeliverFault::Memory);
-            assert_eq!(rt; shown(alloc, floor)?.as_str(), before.as_str());
+            expect_eq(&rt, fault, DeliverFault::Memory);
+            expect_eq(&rt, shown(alloc, floor)?.as_str(), before.as_str());
             deliver(alloc, floor, done)
         }
     }
@@ -201,9 +201,9 @@ fn check_told<R: Abort>(
     match answer {
         Ok(outcome) => {
             let told = told_of(alloc, accepted, &outcome)?;
-            assert_eq!(rt; told.as_str(), TOLD);
+            expect_eq(&rt, told.as_str(), TOLD);
             // four moves of each firing, and a close of each channel
-            assert_eq!(rt; outcome.journal.len(), 18);
+            expect_eq(&rt, outcome.journal.len(), 18);
             Ok(())
         }
         Err(fault) => Err(fault.into()),
@@ -274,7 +274,7 @@ fn texts_are_run(rt: HostRuntime) -> Result<(), Fail> {
         Ok(texts) => {
             let sink = "1 2 3 4 5 6 7 8 9 10 11 12 13 14 15 16 17 18 ".replace(alloc, " ", "\n")?;
             assert_eq!(rt; texts.sinks.len(), 1);
-            assert_eq!(rt; texts.sinks[0].as_slice(), sink.as_bytes());
+            expect_eq(&rt, texts.sinks[0].as_slice(), sink.as_bytes());
             Ok(())
         }
         Err(fault) => Err(fault.into()),

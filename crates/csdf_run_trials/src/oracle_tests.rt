@@ -1,4 +1,4 @@
-use crate::shared::accepted_in;
+use crate::shared::{accepted_in, expect_eq};
 use csdf_analysis::Accepted;
 use csdf_graph::{Channel, Graph, Kernel};
 use csdf_run::{Ending, Open, Outcome, are_feeds, run};
@@ -344,10 +344,10 @@ fn outcome_of<R: Threads + Wait + Abort + Sync>(
 }
 
 fn check_sinks<R: Abort>(rt: &R, outcome: &Outcome, sinks: &[Vec<i32>]) {
-    assert_eq!(rt; outcome.ending, Ending::Complete);
-    assert_eq!(rt; outcome.sinks.len(), sinks.len());
+    expect_eq(&rt, outcome.ending, Ending::Complete);
+    expect_eq(&rt, outcome.sinks.len(), sinks.len());
     for (found, wanted) in outcome.sinks.iter().zip(sinks) {
-        assert_eq!(rt; found.as_slice(), wanted.as_slice());
+        expect_eq(&rt, found.as_slice(), wanted.as_slice());
     }
 }
 
@@ -394,6 +394,6 @@ fn the_plain_run_sums(rt: HostRuntime) -> Result<(), Fail> {
         return Err(Fail::new("no sink"));
     };
     let wanted = [6, 2_000_000_006, 2_147_483_647, 2_147_483_640];
-    assert_eq!(rt; taken.as_slice(), wanted.as_slice());
+    expect_eq(&rt, taken.as_slice(), wanted.as_slice());
     Ok(())
 }

@@ -2,7 +2,7 @@ ghost use Rattle.std.specs.Prelude.{◌≤◌, IfOk, length};
 ghost use Rattle.csdf_kernel.specs.Value.{HasFilterInRange};
 ghost use Rattle.csdf_floor.specs.Floor.{IsReady};
 
-use crate::shared::{accepted_in, feeds_of};
+use crate::shared::{accepted_in, expect_eq, feeds_of};
 use csdf_analysis::Accepted;
 use csdf_core::Refusal;
 use csdf_graph::Kernel;
@@ -260,7 +260,7 @@ fn check_told<R: Abort>(
     wanted: &str,
 ) -> Result<(), Fail> {
     let told = told_of(alloc, accepted, outcome)?;
-    assert_eq!(rt; told.as_str(), wanted);
+    expect_eq(&rt, told.as_str(), wanted);
     Ok(())
 }
 
@@ -374,15 +374,19 @@ fn done_with<R: Abort>(
     inputs: &[i32],
 ) -> Result<Done, Fail> {
     let job = started(alloc, floor, 0, firing)?;
-    assert_eq!(rt; job.counts.as_slice(), counts);
-    assert_eq!(rt; job.inputs.as_slice(), inputs);
+    expect_eq(&rt, job.counts.as_slice(), counts);
+    expect_eq(&rt, job.inputs.as_slice(), inputs);
     done_of(alloc, job)
 }
 
 fn check_taken_once<R: Abort>(rt: &R, alloc: Global, floor: &mut Floor) -> Result<(), Fail> {
     let done = done_with(rt, alloc, floor, 0, &[2], &[1, 2])?;
-    assert_eq!(rt; floor.deliver(alloc, &done), Ok(()));
-    assert_eq!(rt; floor.deliver(alloc, &done), Err(DeliverFault::Stranger));
+    expect_eq(&rt, floor.deliver(alloc, &done), Ok(()));
+    expect_eq(
+        &rt,
+        floor.deliver(alloc, &done),
+        Err(DeliverFault::Stranger),
+    );
     Ok(())
 }
 
@@ -398,9 +402,10 @@ fn refusal_of(alloc: Global, floor: &mut Floor, actor: u32, firing: u32) -> Opti
 fn a_result_is_taken_once(rt: HostRuntime) -> Result<(), Fail> {
     let mut floor = floor_over(&rt, rt.alloc(), &[1, 2, 3, 4, 5, 6])?;
     check_taken_once(&rt, rt.alloc(), &mut floor)?;
-    assert_eq!(rt;
+    expect_eq(
+        &rt,
         refusal_of(rt.alloc(), &mut floor, 0, 0),
-        Some(StartFault::Moved(1))
+        Some(StartFault::Moved(1)),
     );
     Ok(())
 }
@@ -411,7 +416,7 @@ fn check_strangers<R: Abort>(rt: &R, alloc: Global, floor: &mut Floor) -> Result
     let stranger = altered(alloc, &job, &[4])?;
     check_stranger(rt, alloc, floor, stranger)?;
     let done = done_of(alloc, job)?;
-    assert_eq!(rt; floor.deliver(alloc, &done), Ok(()));
+    expect_eq(&rt, floor.deliver(alloc, &done), Ok(()));
     Ok(())
 }
 
@@ -419,8 +424,12 @@ fn check_stranger<R: Abort>(rt: &R, alloc: Global, floor: &mut Floor, job: Job) 
     requires { IsReady job }
 {
     let done = done_of(alloc, job)?;
-    assert_eq!(rt; floor.deliver(alloc, &done), Err(DeliverFault::Stranger));
-    assert_eq!(rt; floor.journal().len(), 6);
+    expect_eq(
+        &rt,
+        floor.deliver(alloc, &done),
+        Err(DeliverFault::Stranger),
+    );
+    expect_eq(&rt, floor.journal().len(), 6);
     Ok(())
 }
 
@@ -430,7 +439,7 @@ fn altered_tokens_are_not_taken(rt: HostRuntime) -> Result<(), Fail> {
     fire(rt.alloc(), &mut floor, 0, 0)?;
     check_strangers(&rt, rt.alloc(), &mut floor)?;
     let refusal = refusal_of(rt.alloc(), &mut floor, 0, 2);
-    assert_eq!(rt; refusal, Some(StartFault::Refused(Refusal::Full(0))));
+    expect_eq(&rt, refusal, Some(StartFault::Refused(Refusal::Full(0))));
     Ok(())
 }
 
@@ -466,7 +475,11 @@ fn check_other<R: Abort>(
     requires filter { HasFilterInRange kernel }
 {
     let done = other_done(alloc, kernel, actor, inputs)?;
-    assert_eq!(rt; floor.deliver(alloc, &done), Err(DeliverFault::Stranger));
+    expect_eq(
+        &rt,
+        floor.deliver(alloc, &done),
+        Err(DeliverFault::Stranger),
+    );
     Ok(())
 }
 
@@ -474,7 +487,7 @@ fn check_other<R: Abort>(
 #[test]
 fn results_of_other_firings_are_strangers(rt: HostRuntime) -> Result<(), Fail> {
     let mut floor = floor_over(&rt, rt.alloc(), &[1, 2, 3, 4, 5, 6])?;
-    assert_eq!(rt; refusal_of(rt.alloc(), &mut floor, 0, 0), None);
+    expect_eq(&rt, refusal_of(rt.alloc(), &mut floor, 0, 0), None);
     let alloc = rt.alloc();
     check_other(&rt, alloc, &mut floor, Kernel::Sum, 1, &[1, 2, 3])?;
     check_other(&rt, alloc, &mut floor, Kernel::Source, 0, &[1, 2])
@@ -483,15 +496,16 @@ fn results_of_other_firings_are_strangers(rt: HostRuntime) -> Result<(), Fail> {
 #[test]
 fn a_start_is_refused_in_order(rt: HostRuntime) -> Result<(), Fail> {
     let mut floor = floor_over(&rt, rt.alloc(), &[1, 2, 3, 4, 5, 6])?;
-    assert_eq!(rt;
+    expect_eq(
+        &rt,
         refusal_of(rt.alloc(), &mut floor, 9, 0),
-        Some(StartFault::Unknown)
+        Some(StartFault::Unknown),
     );
     let short = refusal_of(rt.alloc(), &mut floor, 2, 0);
-    assert_eq!(rt; short, Some(StartFault::Refused(Refusal::Short(1))));
-    assert_eq!(rt; refusal_of(rt.alloc(), &mut floor, 0, 0), None);
+    expect_eq(&rt, short, Some(StartFault::Refused(Refusal::Short(1))));
+    expect_eq(&rt, refusal_of(rt.alloc(), &mut floor, 0, 0), None);
     let busy = refusal_of(rt.alloc(), &mut floor, 0, 0);
-    assert_eq!(rt; busy, Some(StartFault::Refused(Refusal::Busy)));
+    expect_eq(&rt, busy, Some(StartFault::Refused(Refusal::Busy)));
     Ok(())
 }
 
@@ -552,7 +566,7 @@ fn check_dry<R: Abort>(rt: &R, alloc: Global, asked: &Asked) -> Result<(), Fail>
     let floor = dry_floor(rt, alloc)?;
     match settled(rt, alloc, asked, floor, None, &[3, 1, 1]) {
         Ok(outcome) => {
-            assert_eq!(rt; outcome.ending, Ending::Dry);
+            expect_eq(&rt, outcome.ending, Ending::Dry);
             check_told(rt, alloc, &asked.accepted, &outcome, DRY)
         }
         Err(fault) => Err(fault.into()),

@@ -1,4 +1,4 @@
-use crate::shared::TWO_SOURCES;
+use crate::shared::{TWO_SOURCES, expect_eq};
 use csdf_analysis::AcceptFault;
 use csdf_graph::{GraphFault, TokenFault};
 use csdf_run::{Ending, Texts, TextsFault, run_texts};
@@ -54,7 +54,7 @@ fn check_refused<R: Threads + Wait + Abort + Sync>(
     match period_of(rt, alloc, graph, feeds)? {
         Ok(_) => Err(Fail::new("not refused")),
         Err(found) => {
-            assert_eq!(rt; found, fault);
+            expect_eq(&rt, found, fault);
             Ok(())
         }
     }
@@ -71,11 +71,11 @@ fn check_told<R: Threads + Wait + Abort + Sync>(
     let Ok(texts) = period_of(rt, alloc, graph, feeds)? else {
         return Err(Fail::new("refused"));
     };
-    assert_eq!(rt; texts.ending, Ending::Complete);
-    assert_eq!(rt; texts.report.as_slice(), report.as_bytes());
-    assert_eq!(rt; texts.sinks.len(), sinks.len());
+    expect_eq(&rt, texts.ending, Ending::Complete);
+    expect_eq(&rt, texts.report.as_slice(), report.as_bytes());
+    expect_eq(&rt, texts.sinks.len(), sinks.len());
     for (text, sink) in texts.sinks.iter().zip(sinks) {
-        assert_eq!(rt; text.as_slice(), sink.as_bytes());
+        expect_eq(&rt, text.as_slice(), sink.as_bytes());
     }
     Ok(())
 }

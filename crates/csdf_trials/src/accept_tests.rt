@@ -1,7 +1,7 @@
 ghost use Rattle.std.specs.Prelude.{◌<◌, length};
 
 use crate::analysis_tests::{CONVERTER, TWO_PHASES, TWO_TOKENS, UNEVEN_PHASES, graph};
-use crate::shared::{CHAIN, DISAGREEING, STUCK_CYCLE, accepted_in};
+use crate::shared::{CHAIN, DISAGREEING, STUCK_CYCLE, accepted_in, expect_eq, expect_eq_of};
 use csdf_analysis::{AcceptFault, Accepted, accept, capacities, raise, schedule};
 use std::alloc::{AllocError, Global};
 use std::process::Abort;
@@ -91,8 +91,8 @@ fn expect_capacities(
     cells: u32,
 ) -> Result<(), Fail> {
     let accepted = accepted_in(rt.alloc(), text)?;
-    assert_eq!(rt; accepted.capacities(), capacities, "of {text}");
-    assert_eq!(rt; accepted.cells(), cells, "of {text}");
+    expect_eq_of(rt, accepted.capacities(), capacities, text);
+    expect_eq_of(rt, accepted.cells(), cells, text);
     Ok(())
 }
 
@@ -126,27 +126,36 @@ fn says_why_a_graph_is_refused(rt: HostRuntime) -> Result<(), Fail> {
     ] {
         match accept(rt.alloc(), graph(&rt, text)?) {
             Ok(_) => assert!(rt; false, "accepted: {text}"),
-            Err((_, fault)) => assert_eq!(rt; fault, want, "of {text}"),
+            Err((_, fault)) => expect_eq_of(&rt, fault, want, text),
         }
     }
+    Ok(())
+}
+
+/// Asserts what the printed schedule is.
+fn expect_schedule(
+    rt: &(impl Abort + AllocGlobal),
+    accepted: &Accepted,
+    want: &[u32],
+) -> Result<(), Fail> {
+    let firings = schedule(rt.alloc(), accepted)?;
+    expect_eq(rt, firings.as_slice(), want);
     Ok(())
 }
 
 #[test]
 fn prints_the_schedule(rt: HostRuntime) -> Result<(), Fail> {
     let chain = accepted_in(rt.alloc(), CHAIN)?;
-    let firings = schedule(rt.alloc(), &chain)?;
-    assert_eq!(rt; firings.as_slice(), [0, 0, 1, 0, 1, 2].as_slice());
-    Ok(())
+    expect_schedule(&rt, &chain, &[0, 0, 1, 0, 1, 2])
 }
 
 #[test]
 fn copies_what_is_accepted(rt: HostRuntime) -> Result<(), Fail> {
     let chain = accepted_in(rt.alloc(), CHAIN)?;
     let copy = chain.try_copy(rt.alloc())?;
-    assert_eq!(rt; copy.capacities(), [4, 2].as_slice());
-    assert_eq!(rt; copy.vector().q.as_slice(), [3, 2, 1].as_slice());
-    assert_eq!(rt; copy.graph().channels().len(), 2);
+    expect_eq(&rt, copy.capacities(), [4, 2].as_slice());
+    expect_eq(&rt, copy.vector().q.as_slice(), [3, 2, 1].as_slice());
+    expect_eq(&rt, copy.graph().channels().len(), 2);
     Ok(())
 }
 
@@ -167,7 +176,7 @@ fn raised(alloc: Global, accepted: &Accepted, c: u32) -> Result<(u32, u32), Allo
 fn raises_one_capacity_in_one_run(rt: HostRuntime) -> Result<(), Fail> {
     let late_sink = accepted_in(rt.alloc(), LATE_SINK)?;
     if !late_sink.capacities().is_empty() {
-        assert_eq!(rt; raised(rt.alloc(), &late_sink, 0)?, (1024, 32));
+        expect_eq(&rt, raised(rt.alloc(), &late_sink, 0)?, (1024, 32));
     }
     Ok(())
 }

@@ -1,4 +1,4 @@
-use crate::shared::{CHAIN, DISAGREEING};
+use crate::shared::{CHAIN, DISAGREEING, expect_eq_of};
 use csdf_analysis::{AcceptFault, repetition};
 use csdf_graph::{Graph, read_graph};
 use std::process::Abort;
@@ -76,8 +76,8 @@ fn expect_vector(
 ) -> Result<(), Fail> {
     let graph = graph(rt, text)?;
     let vector = repetition(rt.alloc(), &graph)?;
-    assert_eq!(rt; vector.r.as_slice(), r, "r of {text}");
-    assert_eq!(rt; vector.q.as_slice(), q, "q of {text}");
+    expect_eq_of(rt, vector.r.as_slice(), r, text);
+    expect_eq_of(rt, vector.q.as_slice(), q, text);
     Ok(())
 }
 
@@ -109,7 +109,7 @@ fn names_the_channel_that_is_refused(rt: HostRuntime) -> Result<(), Fail> {
     ] {
         match repetition(rt.alloc(), &graph(&rt, text)?) {
             Ok(vector) => assert!(rt; false, "{vector:?} of {text}"),
-            Err(fault) => assert_eq!(rt; fault, want, "of {text}"),
+            Err(fault) => expect_eq_of(&rt, fault, want, text),
         }
     }
     Ok(())

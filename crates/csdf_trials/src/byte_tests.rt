@@ -1,5 +1,6 @@
 //! Worked examples of devices and token files.
 
+use crate::shared::expect_eq;
 use csdf_graph::{
     DeviceFailed, FromReader, Fused, InputFault, Intake, Outlet, Slice, ToWriter, TokenFault,
     WordFault, WriteFault, read_bytes, read_tokens, token_of, write_bytes, write_tokens,
@@ -23,7 +24,7 @@ fn well_formed_texts_give_their_tokens(rt: HostRuntime) -> Result<(), Fail> {
     ];
     for (text, want) in table {
         let tokens = read_tokens(rt.alloc(), &mut Slice::new(text))?;
-        assert_eq!(rt; tokens.as_slice(), want);
+        expect_eq(&rt, tokens.as_slice(), want);
     }
     Ok(())
 }
@@ -46,9 +47,18 @@ fn the_first_faulty_line_is_told(rt: HostRuntime) {
         (b"\xef\xbb\xbf5\n", TokenFault::Syntax(1)),
     ];
     for (text, want) in table {
-        let answer = read_tokens(rt.alloc(), &mut Slice::new(text));
-        assert_eq!(rt; answer.err(), Some(want));
+        expect_no_tokens(&rt, &mut Slice::new(text), want);
     }
+}
+
+/// Asserts that a token file is refused so.
+fn expect_no_tokens(rt: &(impl Abort + AllocGlobal), reader: &mut impl Intake, want: TokenFault) {
+    expect_eq(rt, read_tokens(rt.alloc(), reader).err(), Some(want));
+}
+
+/// Asserts that a file's bytes are refused so.
+fn expect_no_bytes(rt: &(impl Abort + AllocGlobal), reader: &mut impl Intake, want: InputFault) {
+    expect_eq(rt, read_bytes(rt.alloc(), reader).err(), Some(want));
 }
 
 /// A line that is given so many times, and then the end of the text.
@@ -65,7 +75,7 @@ fn repeated(rt: &impl AllocGlobal, line: &[u8], count: usize, end: &[u8]) -> Res
 fn tokens_up_to_the_limit_are_read(rt: HostRuntime) -> Result<(), Fail> {
     let most = repeated(&rt, b"0\n", 1_000_000, b"")?;
     let tokens = read_tokens(rt.alloc(), &mut Slice::new(&most))?;
-    assert_eq!(rt; tokens.len(), 1_000_000);
+    expect_eq(&rt, tokens.len(), 1_000_000);
     Ok(())
 }
 
@@ -78,10 +88,7 @@ fn tokens_have_a_limit(rt: HostRuntime) -> Result<(), Fail> {
     ];
     for (end, want) in table {
         let text = repeated(&rt, b"0\n", 1_000_000, end)?;
-        assert_eq!(rt;
-            read_tokens(rt.alloc(), &mut Slice::new(&text)).err(),
-            Some(want)
-        );
+        expect_no_tokens(&rt, &mut Slice::new(&text), want);
     }
     Ok(())
 }
@@ -93,7 +100,7 @@ fn expect_read(
     count: usize,
 ) -> Result<(), Fail> {
     let bytes = read_bytes(rt.alloc(), reader)?;
-    assert_eq!(rt; bytes.len(), count);
+    expect_eq(rt, bytes.len(), count);
     Ok(())
 }
 
@@ -110,17 +117,15 @@ fn bytes_up_to_the_limit_are_read(rt: HostRuntime) -> Result<(), Fail> {
 fn empty_lines_up_to_the_limit_are_read(rt: HostRuntime) -> Result<(), Fail> {
     let text = vec![in rt.alloc(); b'\n'; 16_777_216]?;
     let tokens = read_tokens(rt.alloc(), &mut Slice::new(&text))?;
-    assert_eq!(rt; tokens.len(), 0);
+    expect_eq(&rt, tokens.len(), 0);
     Ok(())
 }
 
 #[test]
 fn bytes_have_a_limit(rt: HostRuntime) -> Result<(), Fail> {
     let text = vec![in rt.alloc(); b'\n'; 16_777_217]?;
-    let bytes = read_bytes(rt.alloc(), &mut Slice::new(&text));
-    assert_eq!(rt; bytes.err(), Some(InputFault::TooLong));
-    let tokens = read_tokens(rt.alloc(), &mut Slice::new(&text));
-    assert_eq!(rt; tokens.err(), Some(TokenFault::TooMany));
+    expect_no_bytes(&rt, &mut Slice::new(&text), InputFault::TooLong);
+    expect_no_tokens(&rt, &mut Slice::new(&text), TokenFault::TooMany);
     Ok(())
 }
 
@@ -128,19 +133,9 @@ fn bytes_have_a_limit(rt: HostRuntime) -> Result<(), Fail> {
 fn a_failing_reader_is_told_before_any_line(rt: HostRuntime) {
     for text in [b"1x\n".as_slice(), b"1\n"] {
         let mut reader = Fused::new(Slice::new(text), 1);
-        assert_eq!(rt;
-            read_tokens(rt.alloc(), &mut reader).err(),
-            Some(TokenFault::Read)
-        );
-        assert_eq!(rt;
-            read_tokens(rt.alloc(), &mut reader).err(),
-            Some(TokenFault::Read)
-        );
-        let mut reader = Fused::new(Slice::new(text), 1);
-        assert_eq!(rt;
-            read_bytes(rt.alloc(), &mut reader).err(),
-            Some(InputFault::Read)
-        );
+        expect_no_tokens(&rt, &mut reader, TokenFault::Read);
+        expect_no_tokens(&rt, &mut reader, TokenFault::Read);
+        expect_no_bytes(&rt, &mut Fused::new(Slice::new(text), 1), InputFault::Read);
     }
 }
 
@@ -148,7 +143,7 @@ fn a_failing_reader_is_told_before_any_line(rt: HostRuntime) {
 fn tokens_are_written(rt: HostRuntime) -> Result<(), Fail> {
     let mut text = Vec::new(rt.alloc());
     write_tokens(&mut ToWriter::new(&mut text), &[-2147483648, 0, 7])?;
-    assert_eq!(rt; text.as_slice(), b"-2147483648\n0\n7\n".as_slice());
+    expect_eq(&rt, text.as_slice(), b"-2147483648\n0\n7\n".as_slice());
     Ok(())
 }
 
@@ -157,13 +152,14 @@ fn a_failing_writer_is_told(rt: HostRuntime) {
     for calls in 0..3 {
         let mut text = Vec::new(rt.alloc());
         let mut writer = Fused::new(ToWriter::new(&mut text), calls);
-        assert_eq!(rt;
+        expect_eq(
+            &rt,
             write_tokens(&mut writer, &[-2147483648, 0, 7]),
-            Err(WriteFault)
+            Err(WriteFault),
         );
-        assert_eq!(rt; write_tokens(&mut writer, &[1]), Err(WriteFault));
-        assert_eq!(rt; write_bytes(&mut writer, b"1"), Err(WriteFault));
-        assert_eq!(rt; write_tokens(&mut writer, &[]), Ok(()));
+        expect_eq(&rt, write_tokens(&mut writer, &[1]), Err(WriteFault));
+        expect_eq(&rt, write_bytes(&mut writer, b"1"), Err(WriteFault));
+        expect_eq(&rt, write_tokens(&mut writer, &[]), Ok(()));
     }
 }
 
@@ -207,8 +203,8 @@ fn a_failed_device_stays_failed(rt: HostRuntime) {
     let mut writer = ToWriter::new(Moody { fails: false });
     let answers = [Ok(1), Err(DeviceFailed), Err(DeviceFailed)];
     for want in answers {
-        assert_eq!(rt; reader.fetch(&mut buffer), want);
-        assert_eq!(rt; writer.emit(&buffer), want);
+        expect_eq(&rt, reader.fetch(&mut buffer), want);
+        expect_eq(&rt, writer.emit(&buffer), want);
     }
 }
 
@@ -216,23 +212,22 @@ fn a_failed_device_stays_failed(rt: HostRuntime) {
 fn a_writer_that_takes_nothing_has_failed(rt: HostRuntime) {
     let mut room = [0; 2];
     let mut writer = ToWriter::new(room.as_mut_slice());
-    let answers = [Ok(2), Err(DeviceFailed), Err(DeviceFailed)];
-    for want in answers {
-        assert_eq!(rt; writer.emit(b"abc"), want);
-    }
+    expect_eq(&rt, writer.emit(b"abc"), Ok(2));
+    expect_eq(&rt, writer.emit(b"abc"), Err(DeviceFailed));
+    expect_eq(&rt, writer.emit(b"abc"), Err(DeviceFailed));
 }
 
 #[test]
 fn readers_give_their_bytes(rt: HostRuntime) -> Result<(), Fail> {
     let mut reader = FromReader::new(b"ab\ncd".as_slice());
     let bytes = read_bytes(rt.alloc(), &mut reader)?;
-    assert_eq!(rt; bytes.as_slice(), b"ab\ncd".as_slice());
+    expect_eq(&rt, bytes.as_slice(), b"ab\ncd".as_slice());
     Ok(())
 }
 
 #[test]
 fn words_are_read(rt: HostRuntime) {
-    assert_eq!(rt; token_of(b"-12"), Ok(-12));
-    assert_eq!(rt; token_of(b""), Err(WordFault::Malformed));
-    assert_eq!(rt; token_of(b"2147483648"), Err(WordFault::OutOfRange));
+    expect_eq(&rt, token_of(b"-12"), Ok(-12));
+    expect_eq(&rt, token_of(b""), Err(WordFault::Malformed));
+    expect_eq(&rt, token_of(b"2147483648"), Err(WordFault::OutOfRange));
 }

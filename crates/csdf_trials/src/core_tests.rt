@@ -1,6 +1,6 @@
 ghost use Rattle.std.specs.Prelude.{◌≡◌, ◌≤◌, All, length, IfOk};
 
-use crate::shared::{CHAIN, accepted_in};
+use crate::shared::{CHAIN, accepted_in, expect_eq};
 use csdf_analysis::Accepted;
 use csdf_core::{Core, Move, Played, Reply, Setup, play};
 use csdf_graph::{Actor, Kernel};
@@ -355,6 +355,6 @@ fn shows_its_cells(rt: HostRuntime) -> Result<(), Fail> {
         "begin 0 / read 0 / write 0 1 2 / finish 0 / begin 0 / read 0 / write 0 3 4 / finish 0 / \
         begin 1 / read 1 / write 1 9 / finish 1 / begin 0 / read 0 / write 0 5 6";
     let state = state_after(rt.alloc(), CHAIN, &AMPLE, script)?;
-    assert_eq!(rt; state.as_str(), STATE);
+    expect_eq(&rt, state.as_str(), STATE);
     Ok(())
 }

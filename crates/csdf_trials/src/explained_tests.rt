@@ -1,3 +1,4 @@
+use crate::shared::expect_eq;
 use csdf_answers::explain_fault;
 use csdf_graph::{read_graph, read_script};
 use std::alloc::{AllocError, Global};
@@ -179,7 +180,7 @@ fn explains_refused_scripts(rt: HostRuntime) -> Result<(), Fail> {
             return Err(Fail::from("a script is taken"));
         };
         let told = explain_fault(rt.alloc(), text.as_bytes(), fault)?;
-        assert_eq!(rt; told.as_str(), *wanted);
+        expect_eq(&rt, told.as_str(), *wanted);
     }
     Ok(())
 }
@@ -198,6 +199,6 @@ channel = [
 ]
 "#;
     let told = explained(rt.alloc(), text.as_bytes())?;
-    assert_eq!(rt; told.as_str(), "no channels join c with a\n");
+    expect_eq(&rt, told.as_str(), "no channels join c with a\n");
     Ok(())
 }

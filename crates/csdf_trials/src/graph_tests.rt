@@ -1,3 +1,4 @@
+use crate::shared::expect_eq;
 use csdf_graph::{
     Actor, At, Channel, Graph, GraphFault, Kernel, Script, read_graph, read_graph_and_script,
     read_script,
@@ -82,7 +83,7 @@ fn expect_edited(
     fault: Option<GraphFault>,
 ) -> Result<(), Fail> {
     let text = PAIR.replace(rt.alloc(), old, new)?;
-    assert_eq!(rt; refusal(rt, text.as_str()), fault);
+    expect_eq(rt, refusal(rt, text.as_str()), fault);
     Ok(())
 }
 
@@ -93,29 +94,29 @@ fn copy_of(rt: &impl AllocGlobal, text: &str) -> Result<Graph, Fail> {
 }
 
 fn check_names(rt: &impl Abort, graph: &Graph) {
-    assert_eq!(rt; graph.actor_number("snk"), Some(1));
-    assert_eq!(rt; graph.actor_number("x"), None);
-    assert_eq!(rt; graph.channel_number("x"), Some(0));
+    expect_eq(rt, graph.actor_number("snk"), Some(1));
+    expect_eq(rt, graph.actor_number("x"), None);
+    expect_eq(rt, graph.channel_number("x"), Some(0));
 }
 
 fn check_channel(rt: &impl Abort, channel: &Channel) {
-    assert_eq!(rt; (channel.from, channel.to), (0, 1));
-    assert_eq!(rt; channel.produce.as_slice(), [2, 1].as_slice());
-    assert_eq!(rt; channel.consume.as_slice(), [3].as_slice());
-    assert_eq!(rt; channel.initial.len(), 0);
-    assert_eq!(rt; channel.capacity, Some(3));
+    expect_eq(rt, (channel.from, channel.to), (0, 1));
+    expect_eq(rt, channel.produce.as_slice(), [2, 1].as_slice());
+    expect_eq(rt, channel.consume.as_slice(), [3].as_slice());
+    expect_eq(rt, channel.initial.len(), 0);
+    expect_eq(rt, channel.capacity, Some(3));
 }
 
 fn check_rates(rt: &impl Abort, channel: &Channel) {
-    assert_eq!(rt; (channel.production(4), channel.produced(5)), (2, 8));
-    assert_eq!(rt; (channel.consumption(4), channel.consumed(5)), (3, 15));
+    expect_eq(rt, (channel.production(4), channel.produced(5)), (2, 8));
+    expect_eq(rt, (channel.consumption(4), channel.consumed(5)), (3, 15));
 }
 
 #[test]
 fn reads_the_pair(rt: HostRuntime) -> Result<(), Fail> {
     let graph = copy_of(&rt, PAIR)?;
-    assert_eq!(rt; (graph.actors().len(), graph.channels().len()), (2, 1));
-    assert_eq!(rt; graph.cells(), None);
+    expect_eq(&rt, (graph.actors().len(), graph.channels().len()), (2, 1));
+    expect_eq(&rt, graph.cells(), None);
     check_names(&rt, &graph);
     Ok(())
 }
@@ -137,10 +138,15 @@ fn reads_the_tables_of_the_pair(rt: HostRuntime) -> Result<(), Fail> {
 fn gathers_channels_of_two(rt: HostRuntime) -> Result<(), Fail> {
     let pair = read_graph(rt.alloc(), PAIR.as_bytes())?;
     assert_eq!(rt; pair.actors().len(), 2);
-    assert_eq!(rt; (pair.inputs(0).len(), pair.inputs(1)), (0, [0].as_slice()));
-    assert_eq!(rt;
+    expect_eq(
+        &rt,
+        (pair.inputs(0).len(), pair.inputs(1)),
+        (0, [0].as_slice()),
+    );
+    expect_eq(
+        &rt,
         (pair.outputs(0), pair.outputs(1).len()),
-        ([0].as_slice(), 0)
+        ([0].as_slice(), 0),
     );
     Ok(())
 }
@@ -149,9 +155,10 @@ fn gathers_channels_of_two(rt: HostRuntime) -> Result<(), Fail> {
 fn gathers_channels_of_one(rt: HostRuntime) -> Result<(), Fail> {
     let own = copy_of(&rt, LOOP)?;
     assert_eq!(rt; own.actors().len(), 1);
-    assert_eq!(rt;
+    expect_eq(
+        &rt,
         (own.inputs(0), own.outputs(0)),
-        ([0].as_slice(), [0].as_slice())
+        ([0].as_slice(), [0].as_slice()),
     );
     Ok(())
 }
@@ -232,9 +239,9 @@ capacity = 0
 
 #[test]
 fn refuses_texts(rt: HostRuntime) {
-    assert_eq!(rt; refusal(&rt, APART), Some(GraphFault::NotConnected));
-    assert_eq!(rt; refusal(&rt, "[[actor"), Some(GraphFault::NotToml));
-    assert_eq!(rt; refusal(&rt, ""), Some(GraphFault::Shape(At::File)));
+    expect_eq(&rt, refusal(&rt, APART), Some(GraphFault::NotConnected));
+    expect_eq(&rt, refusal(&rt, "[[actor"), Some(GraphFault::NotToml));
+    expect_eq(&rt, refusal(&rt, ""), Some(GraphFault::Shape(At::File)));
 }
 
 #[test]
@@ -250,7 +257,7 @@ fn refuses_cells(rt: HostRuntime) -> Result<(), Fail> {
         ("cells = 8388481\n", Some(GraphFault::Range(At::File))),
     ] {
         let text = format!(in rt.alloc(); "{cells}{LOOP}")?;
-        assert_eq!(rt; refusal(&rt, text.as_str()), fault);
+        expect_eq(&rt, refusal(&rt, text.as_str()), fault);
     }
     Ok(())
 }
@@ -259,7 +266,7 @@ fn refuses_cells(rt: HostRuntime) -> Result<(), Fail> {
 fn reads_cells(rt: HostRuntime) -> Result<(), Fail> {
     let text = format!(in rt.alloc(); "cells = 8388480\n{LOOP}")?;
     let graph = read_graph(rt.alloc(), text.as_bytes())?;
-    assert_eq!(rt; graph.cells(), Some(8_388_480));
+    expect_eq(&rt, graph.cells(), Some(8_388_480));
     Ok(())
 }
 
@@ -272,15 +279,15 @@ fn expect_script_fault(
 ) -> Result<(), Fail> {
     let text = PAIR.replace(rt.alloc(), old, new)?;
     let answer = read_script(rt.alloc(), text.as_bytes());
-    assert_eq!(rt; answer.err(), Some(fault));
+    expect_eq(rt, answer.err(), Some(fault));
     Ok(())
 }
 
 fn check_script(rt: &impl Abort, script: &Script) {
-    assert_eq!(rt; (script.limit, script.supply), (1_000_000, 1_000_000));
-    assert_eq!(rt; script.firings, None);
+    expect_eq(rt, (script.limit, script.supply), (1_000_000, 1_000_000));
+    expect_eq(rt, script.firings, None);
     assert_eq!(rt; script.lines.len(), 12);
-    assert_eq!(rt; script.lines[2].as_str(), "write src 5 6");
+    expect_eq(rt, script.lines[2].as_str(), "write src 5 6");
 }
 
 #[test]
@@ -293,7 +300,7 @@ fn reads_scripts(rt: HostRuntime) -> Result<(), Fail> {
 #[test]
 fn reads_no_script(rt: HostRuntime) -> Result<(), Fail> {
     let none = read_script(rt.alloc(), LOOP.as_bytes())?;
-    assert_eq!(rt; (none.limit, none.lines.len()), (1_000_000, 0));
+    expect_eq(&rt, (none.limit, none.lines.len()), (1_000_000, 0));
     Ok(())
 }
 
@@ -301,7 +308,7 @@ fn reads_no_script(rt: HostRuntime) -> Result<(), Fail> {
 fn reads_the_limit_on_firings(rt: HostRuntime) -> Result<(), Fail> {
     let text = PAIR.replace(rt.alloc(), "[script]\n", "[script]\nfirings = 1\n")?;
     let script = read_script(rt.alloc(), text.as_bytes())?;
-    assert_eq!(rt; script.firings, Some(1));
+    expect_eq(&rt, script.firings, Some(1));
     Ok(())
 }
 
@@ -330,8 +337,8 @@ fn refuses_scripts(rt: HostRuntime) -> Result<(), Fail> {
 #[test]
 fn reads_graphs_with_scripts(rt: HostRuntime) -> Result<(), Fail> {
     let read = read_graph_and_script(rt.alloc(), PAIR.as_bytes())?;
-    assert_eq!(rt; read.graph.actors().len(), 2);
-    assert_eq!(rt; read.script.lines.len(), 12);
+    expect_eq(&rt, read.graph.actors().len(), 2);
+    expect_eq(&rt, read.script.lines.len(), 12);
     Ok(())
 }
 
@@ -347,7 +354,7 @@ fn refuses_graphs_with_scripts(rt: HostRuntime) {
     ];
     for (text, fault) in table {
         let answer = read_graph_and_script(rt.alloc(), text.as_bytes());
-        assert_eq!(rt; answer.err(), Some(fault));
+        expect_eq(&rt, answer.err(), Some(fault));
     }
 }
 
@@ -355,6 +362,6 @@ fn refuses_graphs_with_scripts(rt: HostRuntime) {
 fn refuses_a_script_beside_a_graph(rt: HostRuntime) -> Result<(), Fail> {
     let text = PAIR.replace(rt.alloc(), "[script]\n", "[script]\nlimit = -1\n")?;
     let answer = read_graph_and_script(rt.alloc(), text.as_bytes());
-    assert_eq!(rt; answer.err(), Some(GraphFault::Range(At::Script)));
+    expect_eq(&rt, answer.err(), Some(GraphFault::Range(At::Script)));
     Ok(())
 }

@@ -3,7 +3,7 @@
 
 use crate::analysis_tests::graph;
 use crate::core_tests::{AMPLE, PAIR, moves_in, setup_of, shown, text_of};
-use crate::shared::{CHAIN, accepted_in};
+use crate::shared::{CHAIN, accepted_in, expect_eq};
 use csdf_analysis::{AcceptFault, Accepted, accept, capacities, repetition};
 use csdf_core::{Core, Move, Reply, play_on};
 use csdf_graph::Graph;
@@ -20,13 +20,13 @@ fn capacities_of(alloc: Global, graph: &Graph) -> Result<Vec<u32>, Fail> {
 fn finds_capacities_of_a_vector(rt: HostRuntime) -> Result<(), Fail> {
     let chain = graph(&rt, CHAIN)?;
     let found = capacities_of(rt.alloc(), &chain)?;
-    assert_eq!(rt; found.as_slice(), [4, 2].as_slice());
+    expect_eq(&rt, found.as_slice(), [4, 2].as_slice());
     Ok(())
 }
 
 fn check_chain(rt: &impl Abort, accepted: &Accepted) {
-    assert_eq!(rt; accepted.vector().q.as_slice(), [3, 2, 1].as_slice());
-    assert_eq!(rt; accepted.capacities(), [4, 2].as_slice());
+    expect_eq(rt, accepted.vector().q.as_slice(), [3, 2, 1].as_slice());
+    expect_eq(rt, accepted.capacities(), [4, 2].as_slice());
 }
 
 /// Where memory is wanting the graph comes back, and is accepted once there is some.
@@ -35,7 +35,7 @@ fn hands_the_graph_back(rt: HostRuntime) -> Result<(), Fail> {
     match accept(rt.alloc(), graph(&rt, CHAIN)?) {
         Ok(accepted) => check_chain(&rt, &accepted),
         Err((chain, fault)) => {
-            assert_eq!(rt; fault, AcceptFault::Memory);
+            expect_eq(&rt, fault, AcceptFault::Memory);
             match accept(rt.alloc(), chain) {
                 Ok(accepted) => check_chain(&rt, &accepted),
                 Err((_, fault)) => return Err(fault.into()),
@@ -110,7 +110,7 @@ fn play_front(
 
 fn check_replies(rt: &impl Abort, alloc: Global, replies: &[Reply]) -> Result<(), Fail> {
     let text = text_of(alloc, replies)?;
-    assert_eq!(rt; text.as_str(), REPLIES);
+    expect_eq(rt, text.as_str(), REPLIES);
     Ok(())
 }
 

@@ -1,5 +1,5 @@
 //! Printed schedules, played over and over.
-use crate::shared::accepted_in;
+use crate::shared::{accepted_in, expect_eq};
 use csdf_analysis::{Accepted, schedule};
 use csdf_core::{Core, Setup};
 use csdf_graph::Kernel;
@@ -158,7 +158,7 @@ fn play_three(
     for _ in 0..3 {
         play_period(rt, alloc, core, firings)?;
         let now = lengths(alloc, core)?;
-        assert_eq!(rt; now.as_slice(), first.as_slice());
+        expect_eq(rt, now.as_slice(), first.as_slice());
     }
     Ok(())
 }

@@ -1,6 +1,6 @@
 //! Worked examples of questions.
 
-use crate::shared::{CHAIN, DISAGREEING, STUCK_CYCLE};
+use crate::shared::{CHAIN, DISAGREEING, STUCK_CYCLE, expect_eq};
 use csdf_answers::{Question, describe};
 use csdf_graph::ToWriter;
 use std::process::Abort;
@@ -17,7 +17,7 @@ fn answer_to(
     match describe(rt.alloc(), question, graph.as_bytes(), &mut writer) {
         Ok(()) => Ok(String::from_utf8(written)?),
         Err(fault) => {
-            assert_eq!(rt; written.len(), 0);
+            expect_eq(rt, written.len(), 0);
             Ok(format!(in rt.alloc(); "{fault}")?)
         }
     }
@@ -31,7 +31,7 @@ fn expect(
     want: &str,
 ) -> Result<(), Fail> {
     let answer = answer_to(rt, question, graph)?;
-    assert_eq!(rt; answer.as_str(), want);
+    expect_eq(rt, answer.as_str(), want);
     Ok(())
 }
 

@@ -1,7 +1,7 @@
 //! Worked examples of scripts.
 
 use crate::core_tests::LOOP;
-use crate::shared::{CHAIN, DISAGREEING, STUCK_CYCLE};
+use crate::shared::{CHAIN, DISAGREEING, STUCK_CYCLE, expect_eq};
 use csdf_answers::{Name, Stream, ToolFault, play_script};
 use csdf_graph::{At, Fused, GraphFault, ToWriter};
 use std::process::Abort;
@@ -59,7 +59,7 @@ fn answer_to(rt: &(impl Abort + AllocGlobal), graph: &str, script: &str) -> Resu
     match play_script(rt.alloc(), file.as_bytes(), &mut writer) {
         Ok(()) => Ok(String::from_utf8(written)?),
         Err(fault) => {
-            assert_eq!(rt; written.len(), 0);
+            expect_eq(rt, written.len(), 0);
             Ok(format!(in rt.alloc(); "{fault}")?)
         }
     }
@@ -73,7 +73,7 @@ fn expect(
     want: &str,
 ) -> Result<(), Fail> {
     let answer = answer_to(rt, graph, script)?;
-    assert_eq!(rt; answer.as_str(), want);
+    expect_eq(rt, answer.as_str(), want);
     Ok(())
 }
 
@@ -333,7 +333,7 @@ fn a_failing_writer_is_told(rt: HostRuntime) -> Result<(), Fail> {
         return Err(Fail::from("the writer failed"));
     };
     let line = format!(in rt.alloc(); "{fault}")?;
-    assert_eq!(rt; line.as_str(), "csdf: device: standard output");
+    expect_eq(&rt, line.as_str(), "csdf: device: standard output");
     Ok(())
 }
 
@@ -345,8 +345,8 @@ fn expect_told(
     status: u8,
 ) -> Result<(), Fail> {
     let text = format!(in rt.alloc(); "{fault}")?;
-    assert_eq!(rt; text.as_str(), line);
-    assert_eq!(rt; fault.status(), status);
+    expect_eq(rt, text.as_str(), line);
+    expect_eq(rt, fault.status(), status);
     Ok(())
 }
 

@@ -3,6 +3,8 @@
 use csdf_analysis::{Accepted, accept};
 use csdf_graph::read_graph;
 use std::alloc::Global;
+use std::fmt::Debug;
+use std::process::Abort;
 use std::test::Fail;
 
 /// A source that gives 2, a stage that takes 3 and gives 1, and a sink that takes 2.
@@ -43,4 +45,20 @@ pub(crate) fn accepted_in(alloc: Global, text: &str) -> Result<Accepted, Fail> {
         Ok(accepted) => Ok(accepted),
         Err((_, fault)) => Err(fault.into()),
     }
+}
+
+/// Asserts that what is found is as wanted: a call of this is proved in a fraction of the time that the
+/// macro takes in its place.
+pub(crate) fn expect_eq<T: PartialEq + Debug + Drop>(rt: &impl Abort, found: T, want: T) {
+    assert_eq!(rt; found, want);
+}
+
+/// Asserts the same of what a text gives.
+pub(crate) fn expect_eq_of<T: PartialEq + Debug + Drop>(
+    rt: &impl Abort,
+    found: T,
+    want: T,
+    text: &str,
+) {
+    assert_eq!(rt; found, want, "of {text}");
 }
