@@ -14,7 +14,7 @@ ghost use Rattle.csdf_core.specs.State.{opening, present};
 ghost use Rattle.csdf_core.specs.Step.{count, given, stage, refusal, is_over, producer};
 ghost use Rattle.csdf_kernel.specs.Value.{HasFilterInRange};
 ghost use Rattle.csdf_floor.specs.Journal.{IsHonest, inputs, output_counts, value, reads_of, state_of};
-ghost use Rattle.csdf_floor.specs.Work.{program, feed_of, feeds_in, is_sink_kernel};
+ghost use Rattle.csdf_floor.specs.Work.{IsWork, program, feed_of, feeds_in, is_sink_kernel};
 ghost use Rattle.csdf_floor.specs.Floor.{IsUnderWay, task_of};
 ghost use Rattle.csdf_floor.specs.Outcome.{report_of, report_on};
 ghost use Rattle.csdf_floor.specs.Inside.{AreClosed, HasGiven, HasRoom, HasTaken, IsBook, IsNext, is_due};
@@ -32,13 +32,24 @@ use std::alloc::{AllocError, Global};
 use std::marker::Model;
 
 /// What is run, its core, the moves that brought the core where it is, and what the sinks took.
-#[derive(Drop)]
 pub(crate) struct Book {
     work: Work,
     core: Core,
     moves: Vec<Move>,
     sinks: Lists,
     reads: Vec<Vec<i32>>,
+}
+
+impl Drop for Book {
+    fn drop(self) {
+        let Book {
+            work: _,
+            core: _,
+            moves: _,
+            sinks: _,
+            reads: _,
+        } = self;
+    }
 }
 
 impl Model for Book {
@@ -86,6 +97,7 @@ fn core_of(alloc: Global, work: &Work) -> Result<Core, AllocError>
     ensures plan { IfOk result (λ core. core.plan ≡ (program work.now).plan) }
     ensures opening { IfOk result (λ core. Shows core (opening core.plan)) }
     ensures peaks { IfOk result (λ core. core.peaks ≡ map length (map (λ (c : ChannelModel). c.initial) core.plan.channels)) }
+    ensures work { IfOk result (λ core. IsWork work.now) }
 {
     let setup = work.setup(alloc)?;
     Core::new(alloc, setup)
@@ -393,7 +405,13 @@ impl Book {
         ensures moves { map move_of result.0.items ≡ self.shown.journal }
         ensures sinks { feeds_in result.1.items ≡ self.shown.sinks }
     {
-        let Book { moves, sinks, .. } = self;
+        let Book {
+            work: _,
+            core: _,
+            moves,
+            sinks,
+            reads: _,
+        } = self;
         (moves, sinks.into_lists())
     }
 

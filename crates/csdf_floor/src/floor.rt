@@ -29,9 +29,14 @@ use std::marker::Model;
 ///
 /// Each actor is idle, or has read the tokens of its firing, whose job is under way. A channel is
 /// closed exactly where its producer is idle and makes no firing more.
-#[derive(Drop)]
 pub struct Floor {
     book: Book,
+}
+
+impl Drop for Floor {
+    fn drop(self) {
+        let Floor { book: _ } = self;
+    }
 }
 
 impl Model for Floor {
@@ -209,7 +214,8 @@ impl Floor {
     {
         let report = self.book.report(alloc)?;
         let ending = ending_of(self.book.core());
-        let (journal, sinks) = self.book.into_parts();
+        let Floor { book } = self;
+        let (journal, sinks) = book.into_parts();
         Ok(Outcome {
             ending,
             sinks,

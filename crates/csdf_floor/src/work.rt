@@ -11,7 +11,7 @@ ghost use Rattle.csdf_core.specs.Step.{is_source, producer};
 ghost use Rattle.csdf_kernel.specs.Value.{HasFilterInRange};
 ghost use Rattle.csdf_floor.specs.Journal.{output_counts};
 ghost use Rattle.csdf_floor.specs.Inside.{consumed_at, consumer, produced_at, production_at, put_into, taken_out_of};
-ghost use Rattle.csdf_floor.specs.Work.{AreFeeds, IsFeed, feeds_in, feed_of, is_sink_kernel, is_source_of, program};
+ghost use Rattle.csdf_floor.specs.Work.{AreFeeds, IsFeed, IsWork, feeds_in, feed_of, is_sink_kernel, is_source_of, program};
 
 use crate::same::{are_same_feeds, is_same_accepted, is_same_limit};
 use csdf_analysis::Accepted;
@@ -22,12 +22,22 @@ use std::alloc::{AllocError, Global};
 use std::marker::Model;
 
 /// So many periods of an accepted graph over the contents of its sources' files.
-#[derive(Drop)]
 pub(crate) struct Work {
     accepted: Accepted,
     feeds: Vec<Vec<i32>>,
     periods: u32,
     firings: Option<u32>,
+}
+
+impl Drop for Work {
+    fn drop(self) {
+        let Work {
+            accepted: _,
+            feeds: _,
+            periods: _,
+            firings: _,
+        } = self;
+    }
 }
 
 impl Model for Work {
@@ -218,6 +228,7 @@ impl Work {
         ensures limits { IfOk result (λ setup. length setup.limits.items ≡ length setup.accepted.now.graph.actors) }
         ensures supply { IfOk result (λ setup. length setup.supply.items ≡ length setup.accepted.now.graph.actors) }
         ensures few { IfOk result (λ setup. All (λ n. n ≤ 16_384_000) setup.limits.items) }
+        ensures work { IsWork self.now }
     {
         let accepted = &self.accepted;
         let limits = limits_of(alloc, accepted, self.periods)?;

@@ -18,5 +18,5 @@ invariant_of-result c =
     ∙ ap (λ (n : ℕ). replicate n []) c.actors.ensures.value in
     subst (λ (ms : List MoveCode). IsBook (floor_of w c.in_ok-core.core (map move_of ms) c.in_ok-sinks.sinks.lists) (feeds_in c.in_ok-sinks.reads.items))
     (sym c.new.ensures.items)
-    (book_opened w c.in_ok-core.core c.in_ok-sinks.sinks.lists (feeds_in c.in_ok-sinks.reads.items) (subst IsWork c.work.view_is c.work.invariant) plan
+    (book_opened w c.in_ok-core.core c.in_ok-sinks.sinks.lists (feeds_in c.in_ok-sinks.reads.items) c.in_ok-core.ensures.work plan
     c.in_ok-core.ensures.opening c.in_ok-core.ensures.peaks none each)
