@@ -4,8 +4,8 @@ use Rattle.std.specs.Fmt.{decimal}
 use Rattle.csdf_graph.specs.declared.fault.GraphFault.{GraphFault}
 use Rattle.csdf_graph.specs.declared.fault.GraphFault.TheVariants as graph
 use Rattle.csdf_graph.specs.FaultPlace.{place_text}
-use Rattle.csdf_graph.specs.declared.intake.InputFault.{InputFault}
-use Rattle.csdf_graph.specs.declared.intake.InputFault.TheVariants as input
+use Rattle.csdf_bytes.specs.declared.intake.InputFault.{InputFault}
+use Rattle.csdf_bytes.specs.declared.intake.InputFault.TheVariants as input
 use Rattle.csdf_analysis.specs.declared.fault.AcceptFault.{AcceptFault}
 use Rattle.csdf_analysis.specs.declared.fault.AcceptFault.TheVariants as accept
 use Rattle.csdf_answers.specs.declared.fault.LineEnd.{LineEnd}

@@ -6,7 +6,7 @@ use Rattle.std.specs.Result.{result_ok}
 use Rattle.csdf_graph.specs.Graph.{Graph, Actor, Channel}
 use Rattle.csdf_graph.specs.Links.{number_in}
 use Rattle.csdf_graph.specs.Names.{is_name}
-use Rattle.csdf_graph.specs.TokenText.{token_in}
+use Rattle.csdf_bytes.specs.TokenText.{token_in}
 use Rattle.csdf_graph.specs.Tree.{all_some}
 use Rattle.csdf_core.specs.Moves.{Move, Begin, Read, Write, Finish, Close, move_of}
 use Rattle.csdf_answers.specs.declared.line.Line.{Line as LineCode}

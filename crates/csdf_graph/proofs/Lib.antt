@@ -12,8 +12,3 @@ pub mod CopyLemmas
 pub mod JoinedLemmas
 pub mod PortLemmas
 pub mod RateLemmas
-pub mod DeviceLemmas
-pub mod TokenLineLemmas
-pub mod TokenWordLemmas
-pub mod TokenTextLemmas
-pub mod WrittenLemmas

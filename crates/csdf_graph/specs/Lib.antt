@@ -1,6 +1,5 @@
 pub mod Checks
 pub mod Connected
-pub mod Device
 pub mod FaultPlace
 pub mod Graph
 pub mod GraphText
@@ -14,6 +13,5 @@ pub mod Ranges
 pub mod Rates
 pub mod ScriptText
 pub mod Shape
-pub mod TokenText
 pub mod Tree
 pub mod WellFormed

@@ -90,7 +90,7 @@ impl<T: Drop> From<AllocFailed<T>> for GraphFault {
 }
 
 /// Why a table was not read: it has a fault, or memory ran out.
-#[derive(Clone, Copy, Debug, PartialEq, Eq)]
+#[derive(Clone, Copy)]
 pub(crate) enum Misfit {
     Fault,
     Memory,

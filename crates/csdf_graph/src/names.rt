@@ -10,7 +10,7 @@ use indexmap::IndexSet;
 use std::alloc::Global;
 
 /// What has a name.
-#[derive(Clone, Copy, Debug, PartialEq, Eq)]
+#[derive(Clone, Copy)]
 pub(crate) enum Kind {
     Actor,
     Channel,

@@ -9,7 +9,7 @@ use std::alloc::{AllocError, Global};
 
 /// The numbers of an actor's channels, in file order. A channel from an actor to itself is among
 /// both.
-#[derive(Debug, Drop)]
+#[derive(Drop)]
 pub(crate) struct Ports {
     /// The channels that end at it.
     pub(crate) inputs: Vec<u32>,

@@ -159,7 +159,7 @@ fn ranged_actors(alloc: Global, drafts: &[ActorDraft<'_>]) -> Result<Vec<Actor>,
 }
 
 /// A channel in range, with its ends by name.
-#[derive(Debug, Drop)]
+#[derive(Drop)]
 pub(crate) struct RangedChannel<'a> {
     pub(crate) name: &'a str,
     pub(crate) from: &'a str,
@@ -258,7 +258,7 @@ fn cells_within(channels: &[ChannelDraft<'_>], cells: Option<i64>) -> Option<Opt
 }
 
 /// A file whose numbers are in range.
-#[derive(Debug, Drop)]
+#[derive(Drop)]
 pub(crate) struct Ranged<'a> {
     pub(crate) actors: Vec<Actor>,
     pub(crate) channels: Vec<RangedChannel<'a>>,

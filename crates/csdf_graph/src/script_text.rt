@@ -14,7 +14,7 @@ use std::alloc::{AllocError, Global};
 use toml::Table;
 
 /// A script with its numbers as they stand in the file.
-#[derive(Debug, Drop)]
+#[derive(Drop)]
 struct ScriptDraft<'a> {
     limit: i64,
     supply: i64,

@@ -15,7 +15,7 @@ use std::alloc::{AllocError, Global};
 use toml::Table;
 
 /// A kernel with its numbers as they stand in the file.
-#[derive(Debug, Drop)]
+#[derive(Drop)]
 pub(crate) enum KernelDraft {
     Source,
     Sink,
@@ -25,11 +25,20 @@ pub(crate) enum KernelDraft {
 }
 
 /// An actor with its numbers as they stand in the file.
-#[derive(Debug, Drop)]
 pub(crate) struct ActorDraft<'a> {
     pub(crate) name: &'a str,
     pub(crate) kernel: KernelDraft,
     pub(crate) phases: i64,
+}
+
+impl Drop for ActorDraft<'_> {
+    fn drop(self) {
+        let ActorDraft {
+            name: _,
+            kernel: _,
+            phases: _,
+        } = self;
+    }
 }
 
 const ACTOR_KEYS: [&str; 5] = ["name", "kernel", "phases", "weights", "shift"];
@@ -93,7 +102,6 @@ fn actor_of(alloc: Global, table: &Table) -> Result<Option<ActorDraft<'_>>, Allo
 }
 
 /// A channel with its numbers and ends as they stand in the file.
-#[derive(Debug, Drop)]
 pub(crate) struct ChannelDraft<'a> {
     pub(crate) name: &'a str,
     pub(crate) from: &'a str,
@@ -102,6 +110,20 @@ pub(crate) struct ChannelDraft<'a> {
     pub(crate) consume: Vec<i64>,
     pub(crate) initial: Vec<i64>,
     pub(crate) capacity: Option<i64>,
+}
+
+impl Drop for ChannelDraft<'_> {
+    fn drop(self) {
+        let ChannelDraft {
+            name: _,
+            from: _,
+            to: _,
+            produce: _,
+            consume: _,
+            initial: _,
+            capacity: _,
+        } = self;
+    }
 }
 
 const CHANNEL_KEYS: [&str; 7] = [
@@ -201,11 +223,20 @@ fn file_tables(alloc: Global, file: &Table) -> Result<FileTables<'_>, Misfit>
 }
 
 /// A file that has the right shape.
-#[derive(Debug, Drop)]
 pub(crate) struct Draft<'a> {
     pub(crate) actors: Vec<ActorDraft<'a>>,
     pub(crate) channels: Vec<ChannelDraft<'a>>,
     pub(crate) cells: Option<i64>,
+}
+
+impl Drop for Draft<'_> {
+    fn drop(self) {
+        let Draft {
+            actors: _,
+            channels: _,
+            cells: _,
+        } = self;
+    }
 }
 
 /// The file's tables, read, or the first that is out of shape.

@@ -2,8 +2,8 @@
 use Rattle.std.specs.Prelude.{◌≡◌, ◌⊎◌, ℕ, true, List, [], ◌∷◌, ◌++◌, Result, Ok, Err, codes, drop, if◌then◌else◌, slice_index_or}
 use Rattle.std.specs.List.{Any}
 use Rattle.csdf_graph.specs.declared.fault.GraphFault.{GraphFault}
-use Rattle.csdf_graph.specs.declared.tokens.TokenFault.{TokenFault}
-use Rattle.csdf_graph.specs.declared.tokens.TokenFault.TheVariants as token
+use Rattle.csdf_bytes.specs.declared.tokens.TokenFault.{TokenFault}
+use Rattle.csdf_bytes.specs.declared.tokens.TokenFault.TheVariants as token
 use Rattle.csdf_graph.specs.Graph.{Actor, Graph}
 use Rattle.csdf_graph.specs.GraphText.{IsGraphOf}
 use Rattle.csdf_core.specs.Layout.{is_source_kernel}

@@ -1,6 +1,6 @@
 use Rattle.std.proofs.Common.{◌≡◌, ◌++◌, drop, option_map, map}
 use Rattle.std.specs.Result.{result_ok}
-use Rattle.csdf_graph.specs.TokenText.{token_in}
+use Rattle.csdf_bytes.specs.TokenText.{token_in}
 use Rattle.csdf_graph.specs.Tree.{all_some}
 use Rattle.csdf_answers.proofs.words.tokens_of.Given as goal
 

@@ -1,5 +1,5 @@
 use Rattle.std.proofs.Common.{◌≡◌, ◌++◌, drop, string_bytes}
-use Rattle.csdf_graph.specs.TokenText.{token_text}
+use Rattle.csdf_bytes.specs.TokenText.{token_text}
 use Rattle.csdf_run.proofs.texts.text_of.Given as goal
 
 abbrev pub invariant-loop-token : goal.invariant-loop-token

@@ -1,5 +1,5 @@
 use Rattle.std.proofs.Common.{◌≡◌, Ok, Err, sym, ◌∙◌}
-use Rattle.csdf_graph.specs.declared.intake.InputFault.TheVariants as input
+use Rattle.csdf_bytes.specs.declared.intake.InputFault.TheVariants as input
 use Rattle.csdf_answers.specs.declared.fault.ToolFault.TheVariants as fault
 use Rattle.csdf_answers.specs.declared.fault.Stream.TheVariants.{Input, Output}
 use Rattle.csdf_answers.proofs.AnswerLemmas.{refusal_by_file}

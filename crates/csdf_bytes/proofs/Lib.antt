@@ -1,0 +1,5 @@
+pub mod DeviceLemmas
+pub mod TokenLineLemmas
+pub mod TokenWordLemmas
+pub mod TokenTextLemmas
+pub mod WrittenLemmas

@@ -1,0 +1,13 @@
+use Rattle.std.proofs.Common.{ℕ, arith, length-take}
+use Rattle.csdf_bytes.proofs.DeviceLemmas.{TakesAtMost-more}
+use Rattle.csdf_bytes.proofs.intake.read_bytes.Goals as goal
+
+pub returns-then-count-len-clause-few : goal.returns-then-count-len-clause-few
+returns-then-count-len-clause-few g c =
+    λ _. TakesAtMost-more _ _ _ c.loop-count.bytes.items c.fetch.new.buffer c.in-Ok.count 16777217 c.loop-count.invariant.so_far c.in-Ok.ensures.fetched
+    (omega (arith, length-take {A = ℕ}))
+
+pub returns-then-is_err-clause-few : goal.returns-then-is_err-clause-few
+returns-then-is_err-clause-few g c =
+    λ _. TakesAtMost-more _ _ _ c.loop-count.bytes.items c.fetch.new.buffer c.in-Ok.count 16777217 c.loop-count.invariant.so_far c.in-Ok.ensures.fetched
+    (omega (arith, length-take {A = ℕ}))
