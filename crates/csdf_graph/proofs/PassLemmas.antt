@@ -1,7 +1,7 @@
 -- Passes as loops make them.
-use Rattle.std.proofs.Common.{◌≡◌, ℕ, suc, ◌+◌, ◌≤◌, List, [], ◌∷◌, ◌++◌, length, map, drop, Option, Result, Ok, Err, refl, sym, ap, ◌∙◌, append_assoc}
+use Rattle.std.proofs.Common.{◌≡◌, ℕ, suc, ◌+◌, ◌<◌, ◌≤◌, List, [], ◌∷◌, ◌++◌, length, map, get_or, drop, Option, Result, Ok, Err, refl, sym, ap, ◌∙◌, append_assoc}
 use Rattle.std.proofs.Common.{append-nil, add-one}
-use Rattle.std.proofs.lemmas.List.{drop_all, length_push, map_push}
+use Rattle.std.proofs.lemmas.List.{drop_more, drop_all, length_push, map_push}
 use Rattle.csdf_graph.specs.declared.fault.GraphFault.{GraphFault}
 use Rattle.csdf_graph.specs.declared.fault.Misfit.{Misfit}
 use Rattle.csdf_graph.specs.declared.fault.Misfit.TheVariants as misfit
@@ -15,6 +15,10 @@ regroup : {B : Type 0} (front : List B) (y : B) (read : Result (List B) GraphFau
     → with_front front (read >>= λ ys. Ok (y ∷ ys)) ≡ with_front (front ++ y ∷ []) read
 regroup front y (Ok ys) = ap (λ zs. Ok zs) (simp append_assoc)
 regroup front y (Err f) = refl
+
+-- the element at a place, and what is left after it
+pub at_place : {A : Type 0} (xs : List A) (i : ℕ) (x : A) → i < length xs → x ≡ get_or xs i x → drop i xs ≡ x ∷ drop (i + 1) xs
+at_place xs i x lt is = rw (drop_more xs i x lt, ← is) refl
 
 module _ {A B C : Type 0} (f : ℕ → B → Result C GraphFault) (v : A → B) (xs : List A) where
   pub each-goes_on : (i : ℕ) (x : A) (front : List C) (y : C) (total : Result (List C) GraphFault) → drop i xs ≡ x ∷ drop (i + 1) xs → f i (v x) ≡ Ok y

@@ -1,13 +1,9 @@
 -- A loop that writes weights over zeros.
-use Rattle.std.proofs.Common.{◌≡◌, ℕ, ℤ, pos, ◌+◌, ◌-◌, ◌<◌, ◌≤◌, List, [], ◌∷◌, ◌++◌, length, get_or, take, drop, set, replicate, Option, Some, None}
-use Rattle.std.proofs.Common.{option_map, refl, sym, ap, ◌∙◌, append_assoc, arith, length-set}
+use Rattle.std.proofs.Common.{◌≡◌, ℕ, ℤ, pos, ◌+◌, ◌-◌, ◌<◌, ◌≤◌, List, ◌++◌, length, get_or, take, drop, set, replicate, Option, Some}
+use Rattle.std.proofs.Common.{option_map, sym, ap, ◌∙◌, arith, length-set}
 use Rattle.std.proofs.lemmas.List.{drop_more, take_more_set, drop-replicate, drop-drop, drop-set-lt}
 use Rattle.csdf_graph.specs.Tree.{all_some}
-
-regroup : {B : Type 0} (front : List B) (y : B) (found : Option (List B))
-    → option_map (λ ys. front ++ ys) (option_map (λ ys. y ∷ ys) found) ≡ option_map (λ ys. (front ++ y ∷ []) ++ ys) found
-regroup front y None = refl
-regroup front y (Some ys) = ap (λ zs. Some zs) (simp append_assoc)
+use Rattle.csdf_graph.proofs.TreeLemmas.{regroup}
 
 pub padded-step : (f : ℤ → Option ℤ) (weights numbers : List ℤ) (i : ℕ) (d z : ℤ) (total : Option (List ℤ)) → length weights ≡ 16 → i < length numbers
     → length numbers ≤ 16 → f (get_or numbers i d) ≡ Some z

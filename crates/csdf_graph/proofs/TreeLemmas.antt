@@ -1,6 +1,6 @@
 -- The tree beside the values that the code reads.
-use Rattle.std.proofs.Common.{◌≡◌, ℕ, ◌<◌, ◌≤◌, ◌++◌, Option, Some, None, option_map, get_or, drop, append-nil, Bool, List, [], ◌∷◌, ◌&&◌, ◌||◌, map, length}
-use Rattle.std.proofs.Common.{String, Global, string_bytes, refl, ap, subst, ◌∙◌}
+use Rattle.std.proofs.Common.{◌≡◌, ℕ, ◌+◌, ◌<◌, ◌≤◌, ◌++◌, Option, Some, None, option_map, get_or, drop, append-nil, Bool, List, [], ◌∷◌, ◌&&◌, ◌||◌, map, length}
+use Rattle.std.proofs.Common.{String, Global, string_bytes, refl, sym, ap, subst, ◌∙◌, append_assoc}
 use Rattle.std.proofs.lemmas.Iterator.{YieldsList}
 use Rattle.std.proofs.lemmas.Iterator.Consumers.{YieldsList-from_shown}
 use Rattle.std.specs.Map.Iter.{TakesFirst, deref}
@@ -31,16 +31,35 @@ pub yields_keys : {K : Type 0} (s ks : List K) → s ≡ ks → YieldsList (Take
 yields_keys s ks e = subst (YieldsList (TakesFirst deref) deref s) e (YieldsList-from_shown (TakesFirst deref) deref (λ x. x) (λ a b h. ap length h.0)
     (λ a x b h. h) s)
 
--- a loop that takes what `f` finds in each element
-module _ {A B C : Type 0} (f : B → Option C) (v : A → B) (xs : List A) where
-  pub all_some-stops : (i : ℕ) (x : A) (front : List C) (total : Option (List C)) → i < length xs → x ≡ get_or xs i x → f (v x) ≡ None
-      → option_map (λ ys. front ++ ys) (all_some f (map v (drop i xs))) ≡ total → None ≡ total
-  all_some-stops i x front total lt is none so_far =
-      let one : None ≡ option_map (λ ys. front ++ ys) (all_some f (map v (drop i xs))) = rw (drop_more xs i x lt, ← is, none) refl in
+-- what is left of a list, as a view shows it
+pub left_more : {A B : Type 0} (v : A → B) (xs : List A) (i : ℕ) (x : A) → i < length xs → x ≡ get_or xs i x
+    → map v (drop i xs) ≡ v x ∷ map v (drop (i + 1) xs)
+left_more v xs i x lt is = rw (drop_more xs i x lt, ← is) refl
+
+pub left_none : {A B : Type 0} (v : A → B) (xs : List A) (i : ℕ) → length xs ≤ i → map v (drop i xs) ≡ []
+left_none v xs i le = ap (map v) (drop_all i xs le)
+
+-- a loop that takes what `f` finds in each element: the list that is left, and what was taken before
+pub regroup : {C : Type 0} (front : List C) (y : C) (found : Option (List C))
+    → option_map (λ ys. front ++ ys) (option_map (λ ys. y ∷ ys) found) ≡ option_map (λ ys. (front ++ y ∷ []) ++ ys) found
+regroup front y None = refl
+regroup front y (Some ys) = ap (λ zs. Some zs) (simp append_assoc)
+
+module _ {B C : Type 0} (f : B → Option C) (left : List B) (front : List C) (total : Option (List C))
+    (so_far : option_map (λ ys. front ++ ys) (all_some f left) ≡ total) where
+  pub all_some-goes_on : (x : B) (rest : List B) (y : C) (new : List C) → left ≡ x ∷ rest → f x ≡ Some y → new ≡ front ++ y ∷ []
+      → option_map (λ ys. new ++ ys) (all_some f rest) ≡ total
+  all_some-goes_on x rest y new taken found made =
+      let one : option_map (λ ys. front ++ ys) (all_some f left) ≡ option_map (λ ys. new ++ ys) (all_some f rest) =
+      rw (taken, found, made) (regroup front y (all_some f rest)) in
+      sym one ∙ so_far
+
+  pub all_some-stops : (x : B) (rest : List B) → left ≡ x ∷ rest → f x ≡ None → None ≡ total
+  all_some-stops x rest taken none =
+      let one : None ≡ option_map (λ ys. front ++ ys) (all_some f left) = rw (taken, none) refl in
       one ∙ so_far
 
-  pub all_some-ends : (i : ℕ) (front : List C) (total : Option (List C)) → length xs ≤ i
-      → option_map (λ ys. front ++ ys) (all_some f (map v (drop i xs))) ≡ total → Some front ≡ total
-  all_some-ends i front total le so_far =
-      let one : Some front ≡ option_map (λ ys. front ++ ys) (all_some f (map v (drop i xs))) = rw (drop_all i xs le, append-nil front) refl in
+  pub all_some-ends : left ≡ [] → Some front ≡ total
+  all_some-ends taken =
+      let one : Some front ≡ option_map (λ ys. front ++ ys) (all_some f left) = rw (taken, append-nil front) refl in
       one ∙ so_far
