@@ -5,13 +5,15 @@ ghost use Rattle.std.specs.Io.KnownBytes.{Appends};
 ghost use Rattle.csdf_analysis.specs.Repetition.{IsRepetition};
 ghost use Rattle.csdf_answers.specs.Described.{RefusesRepetition, IsCheck, IsRepetitionTold, IsScheduleTold, IsCapacityTold, IsDotTold, IsTold, IsDescription};
 ghost use Rattle.csdf_answers.specs.Faults.{Tells};
+ghost use Rattle.csdf_answers.specs.declared.fault.Stream.{Stream};
 
 use crate::drawing::dot_text;
-use crate::fault::{Stream, ToolFault};
+use crate::fault::ToolFault;
 use crate::question::{Question, capacity_text, check_text, repetition_text, schedule_text};
+use crate::sending::send;
 use crate::session::{accept_fault, accepted_of};
 use csdf_analysis::{Vector, repetition};
-use csdf_graph::{Graph, Outlet, read_graph, write_bytes};
+use csdf_graph::{Graph, Outlet, read_graph};
 use std::alloc::Global;
 
 /// The least repetition vector, or why there is none, as the program tells it.
@@ -114,8 +116,6 @@ pub fn describe<O: Outlet>(
         → ((text : List ℕ) × IsDescription question bytes.now (Ok text)) × (O.failed writer.new ≡ true) }
 {
     let text = description_of(alloc, question, bytes)?;
-    match write_bytes(writer, text.as_bytes()) {
-        Ok(()) => Ok(()),
-        Err(_) => Err(ToolFault::Device(Stream::Output)),
-    }
+    send(writer, text.as_bytes())?;
+    Ok(())
 }

@@ -4,14 +4,16 @@ ghost use Rattle.std.specs.Prelude.{◌≡◌, ◌≢◌, ◌⊎◌, ◌<◌, �
 ghost use Rattle.std.specs.Io.KnownBytes.{Appends};
 ghost use Rattle.csdf_analysis.specs.Acceptance.{IsNotAccepted};
 ghost use Rattle.csdf_answers.specs.Explained.{ExplainsFault, ExplainsGraph, IsExplained, TellsRefusal, TellsStall, TellsUnbalanced, accepted_text};
+ghost use Rattle.csdf_answers.specs.declared.fault.Stream.{Stream};
 
 use crate::explanation::{heading, push_waits, too_large_text, unbalanced_text};
-use crate::fault::{Stream, ToolFault};
+use crate::fault::ToolFault;
 use crate::misfits::explain_fault;
 use crate::printed::name_at;
 use crate::question::actor_name;
+use crate::sending::send;
 use csdf_analysis::{AcceptFault, Bounds, accept, demand_of, repetition, stall_of};
-use csdf_graph::{Graph, GraphFault, Outlet, read_graph, write_bytes};
+use csdf_graph::{Graph, GraphFault, Outlet, read_graph};
 use std::alloc::Global;
 
 /// What the channel asks of its two actors, and what those before it ask.
@@ -117,8 +119,6 @@ pub fn explain<O: Outlet>(alloc: Global, bytes: &[u8], writer: &mut O) -> Result
         → ((text : List ℕ) × IsExplained bytes.now (Ok text)) × (O.failed writer.new ≡ true) }
 {
     let text = explanation_of(alloc, bytes)?;
-    match write_bytes(writer, text.as_bytes()) {
-        Ok(()) => Ok(()),
-        Err(_) => Err(ToolFault::Device(Stream::Output)),
-    }
+    send(writer, text.as_bytes())?;
+    Ok(())
 }

@@ -12,6 +12,7 @@ mod misfits;
 mod printed;
 mod question;
 mod replay;
+mod sending;
 mod session;
 mod turns;
 mod words;

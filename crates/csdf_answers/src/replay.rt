@@ -6,13 +6,15 @@ ghost use Rattle.csdf_graph.specs.ScriptText.{script_view};
 ghost use Rattle.csdf_answers.specs.Faults.{Tells};
 ghost use Rattle.csdf_answers.specs.Lines.{line_view};
 ghost use Rattle.csdf_answers.specs.Session.{IsReplay, IsReplayOf, IsAnswer};
+ghost use Rattle.csdf_answers.specs.declared.fault.Stream.{Stream};
 
-use crate::fault::{Stream, ToolFault};
+use crate::fault::ToolFault;
 use crate::line::Line;
+use crate::sending::send;
 use crate::session::{accepted_of, lines_of, opening_core};
 use crate::turns::turn_all;
 use csdf_analysis::Accepted;
-use csdf_graph::{Graph, Outlet, Script, read_graph_and_script, write_bytes};
+use csdf_graph::{Graph, Outlet, Script, read_graph_and_script};
 use std::alloc::{AllocError, Global};
 
 /// The text of lines on an accepted graph.
@@ -65,8 +67,6 @@ pub fn play_script<O: Outlet>(alloc: Global, bytes: &[u8], writer: &mut O) -> Re
         → ((text : List ℕ) × IsAnswer bytes.now (Ok text)) × (O.failed writer.new ≡ true) }
 {
     let text = text_of(alloc, bytes)?;
-    match write_bytes(writer, text.as_bytes()) {
-        Ok(()) => Ok(()),
-        Err(_) => Err(ToolFault::Device(Stream::Output)),
-    }
+    send(writer, text.as_bytes())?;
+    Ok(())
 }
