@@ -4,7 +4,8 @@ ghost use Rattle.std.specs.Prelude.{◌≡◌, ◌≤◌, ◌<◌, All, IfOk, If
 ghost use Rattle.csdf_floor.specs.Journal.{program_for};
 ghost use Rattle.csdf_floor.specs.Work.{AreFeeds, feeds_in};
 ghost use Rattle.csdf_floor.specs.Outcome.{HasHonestJournal, EndsSettled, TakesInOrder, StaysWithinCapacities, LeavesClosedAlone};
-ghost use Rattle.csdf_floor.specs.Outcome.{TellsSinks, TellsReport, TellsEnding, IsAsSequentialRun, CompletesWhereAmple};
+ghost use Rattle.csdf_floor.specs.Outcome.{TellsSinks, TellsReport, TellsEnding, IsAsSequentialRun, CompletesWhereAmple, IsOutcome};
+ghost use Rattle.csdf_run.specs.Texts.{work_for};
 
 use crate::gate::Gate;
 use crate::hall::Hall;
@@ -202,6 +203,36 @@ fn hall_of(
     Ok(Hall::new(floor, hints, may_wait))
 }
 
+/// What [`run`] answers, in one word.
+fn outcome_of<R: Threads + Wait + Sync, G: Gate>(
+    rt: &R,
+    alloc: Global,
+    accepted: &Accepted,
+    feeds: &[Vec<i32>],
+    workers: u32,
+    periods: u32,
+    firings: Option<u32>,
+    gate: &G,
+) -> Result<Outcome, RunFault>
+    requires fed { AreFeeds accepted.now.graph (feeds_in feeds.now) }
+    requires some_period { 1 ≤ periods }
+    requires few_periods { periods ≤ 1000 }
+    ensures { IfOk result (IsOutcome (work_for accepted.now (feeds_in feeds.now) periods firings)) }
+{
+    let hall = hall_of(alloc, accepted, feeds, periods, firings, gate.may_wait())?;
+    let actors = accepted.graph().actors().len();
+    let totals = run_hall(rt, alloc, &hall, actors as u32, workers, gate)?;
+    settle(
+        alloc,
+        hall.into_floor(),
+        accepted,
+        feeds,
+        periods,
+        firings,
+        totals.as_slice(),
+    )
+}
+
 /// Runs so many periods of an accepted graph over these feeds by worker threads: each firing is computed
 /// by one worker, without the lock, and up to `workers` at the same time. With `firings` given, no more
 /// firings than that are made.
@@ -240,16 +271,6 @@ pub fn run<R: Threads + Wait + Sync, G: Gate>(
     ensures sequential { IfOk result (IsAsSequentialRun (program_for accepted.now (feeds_in feeds.now) periods firings)) }
     ensures complete { IfOk result (CompletesWhereAmple accepted.now (feeds_in feeds.now) periods firings) }
 {
-    let hall = hall_of(alloc, accepted, feeds, periods, firings, gate.may_wait())?;
-    let actors = accepted.graph().actors().len();
-    let totals = run_hall(rt, alloc, &hall, actors as u32, workers, gate)?;
-    settle(
-        alloc,
-        hall.into_floor(),
-        accepted,
-        feeds,
-        periods,
-        firings,
-        totals.as_slice(),
-    )
+    let outcome = outcome_of(rt, alloc, accepted, feeds, workers, periods, firings, gate)?;
+    Ok(outcome)
 }
