@@ -8,12 +8,12 @@ ghost use Rattle.csdf_answers.specs.declared.fault.Stream.{Stream};
 
 use crate::explanation::{heading, push_waits, too_large_text, unbalanced_text};
 use crate::fault::ToolFault;
-use crate::misfits::explain_fault;
 use crate::printed::name_at;
 use crate::question::actor_name;
 use crate::sending::send;
 use csdf_analysis::{AcceptFault, Bounds, accept, demand_of, repetition, stall_of};
 use csdf_graph::{Graph, GraphFault, Outlet, read_graph};
+use csdf_misfits::explain_fault;
 use std::alloc::Global;
 
 /// What the channel asks of its two actors, and what those before it ask.

@@ -1,7 +1,7 @@
 //! Kernels without the channels that they ask.
 
-use crate::misfits::misfit::{Found, Misfit, Wanted, entries_at, table_at};
-use crate::misfits::names::name_of;
+use crate::misfit::{Found, Misfit, Wanted, entries_at, table_at};
+use crate::names::name_of;
 use csdf_graph::At;
 use toml::{Table, Value};
 

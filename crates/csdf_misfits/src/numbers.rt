@@ -1,6 +1,6 @@
 //! The first number or count that is outside its limits.
 
-use crate::misfits::misfit::{Found, Misfit, Wanted, entries_at, table_at};
+use crate::misfit::{Found, Misfit, Wanted, entries_at, table_at};
 use csdf_graph::At;
 use toml::Table;
 

@@ -1,7 +1,7 @@
 //! Actors that no channels join.
 
-use crate::misfits::misfit::{entries_at, table_at};
-use crate::misfits::names::name_of;
+use crate::misfit::{entries_at, table_at};
+use crate::names::name_of;
 use csdf_graph::At;
 use std::alloc::{AllocError, Global};
 use toml::{Table, Value};

@@ -1,4 +1,5 @@
 //! Why a graph file is refused, in words for those who wrote it.
+#![tactic(auto)]
 
 mod joined;
 mod keys;
@@ -8,13 +9,13 @@ mod numbers;
 mod ports;
 mod rates;
 
-use crate::misfits::joined::push_unjoined;
-use crate::misfits::keys::shape_misfit;
-use crate::misfits::misfit::{Misfit, table_at};
-use crate::misfits::names::{end_misfit, name_misfit, name_of};
-use crate::misfits::numbers::range_misfit;
-use crate::misfits::ports::ports_misfit;
-use crate::misfits::rates::{length_misfit, zero_misfit};
+use crate::joined::push_unjoined;
+use crate::keys::shape_misfit;
+use crate::misfit::{Misfit, table_at};
+use crate::names::{end_misfit, name_misfit, name_of};
+use crate::numbers::range_misfit;
+use crate::ports::ports_misfit;
+use crate::rates::{length_misfit, zero_misfit};
 use csdf_graph::{At, GraphFault, is_name};
 use std::alloc::{AllocError, Global};
 use toml::Table;

@@ -1,6 +1,6 @@
 //! The keys of each table, and the first that is missing, of the wrong kind or unknown.
 
-use crate::misfits::misfit::{Found, Misfit, Wanted, entries_at, table_at};
+use crate::misfit::{Found, Misfit, Wanted, entries_at, table_at};
 use csdf_graph::At;
 use toml::{Table, Value};
 

@@ -1,7 +1,7 @@
 //! Rate lists that have not an entry for each phase, or that sum to 0.
 
-use crate::misfits::misfit::{Found, Misfit, Wanted, entries_at, table_at};
-use crate::misfits::names::actor_named;
+use crate::misfit::{Found, Misfit, Wanted, entries_at, table_at};
+use crate::names::actor_named;
 use csdf_graph::At;
 use toml::Table;
 

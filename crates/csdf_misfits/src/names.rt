@@ -1,6 +1,6 @@
 //! Names of a wrong form, names that stand twice, and ends that name no actor.
 
-use crate::misfits::misfit::{Found, Misfit, Wanted, entries_at, table_at};
+use crate::misfit::{Found, Misfit, Wanted, entries_at, table_at};
 use csdf_graph::{At, is_name};
 use toml::Table;
 
