@@ -9,12 +9,12 @@ use Rattle.std.proofs.lemmas.Bool.{cases_Bool, eqb-true, eqb-false}
 use Rattle.std.proofs.lemmas.List.Elements.{All-head, All-tail, All-get_or, All-more}
 use Rattle.std.proofs.lemmas.Option.{slice_get-get_or}
 use Rattle.std.proofs.Math.ListN.{get_or-map}
-use Rattle.csdf_graph.specs.declared.parts.Actor.{Actor as ActorCode}
-use Rattle.csdf_graph.specs.declared.parts.Channel.{Channel as ChannelCode}
-use Rattle.csdf_graph.specs.Graph.{Actor, Channel, actor_view, channel_view, phases_of}
-use Rattle.csdf_graph.specs.Rates.{rate, total}
-use Rattle.csdf_graph.specs.WellFormed.{IsActor, AreRates, IsChannel}
-use Rattle.csdf_graph.proofs.RateLemmas.{total_front}
+use Rattle.csdf_model.specs.declared.parts.Actor.{Actor as ActorCode}
+use Rattle.csdf_model.specs.declared.parts.Channel.{Channel as ChannelCode}
+use Rattle.csdf_model.specs.Graph.{Actor, Channel, actor_view, channel_view, phases_of}
+use Rattle.csdf_model.specs.Rates.{rate, total}
+use Rattle.csdf_model.specs.WellFormed.{IsActor, AreRates, IsChannel}
+use Rattle.csdf_model.proofs.RateLemmas.{total_front}
 use Rattle.csdf_analysis.specs.Repetition.{IsWithin, HaveRoom, full_capacity, IsFirstOver}
 use Rattle.csdf_analysis.specs.Members.{IsLink}
 use Rattle.csdf_analysis.proofs.LeastLemmas.{channel_at}

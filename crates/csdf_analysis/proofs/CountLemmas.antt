@@ -5,7 +5,7 @@ use Rattle.std.specs.Prelude.{slice_index}
 use Rattle.std.proofs.lemmas.Bool.{cases_Bool, eqb-true, eqb-false, ltb-true, ltb-false}
 use Rattle.std.proofs.lemmas.List.{get_or-set_same, get_or-set_other, length-set}
 use Rattle.std.proofs.lemmas.List.Sums.{sum_by-cons, sum_by-set}
-use Rattle.csdf_graph.specs.Rates.{rate, total}
+use Rattle.csdf_model.specs.Rates.{rate, total}
 use Rattle.csdf_analysis.specs.Period.{fired}
 use Rattle.csdf_analysis.specs.Laws.{IsWithinAll}
 

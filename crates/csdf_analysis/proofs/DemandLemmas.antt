@@ -8,10 +8,10 @@ use Rattle.std.proofs.lemmas.Bool.{cases_Bool, eq-eqb, ne_eqb}
 use Rattle.std.proofs.lemmas.List.{length-map, take-map}
 use Rattle.std.proofs.lemmas.List.Elements.{All-map}
 use Rattle.std.proofs.lemmas.Option.{slice_get-get_or}
-use Rattle.csdf_graph.specs.declared.parts.Actor.{Actor as ActorCode}
-use Rattle.csdf_graph.specs.declared.parts.Channel.{Channel as ChannelCode}
-use Rattle.csdf_graph.specs.Graph.{Actor, Channel, Graph, actor_view, channel_view}
-use Rattle.csdf_graph.specs.WellFormed.{IsWellFormed}
+use Rattle.csdf_model.specs.declared.parts.Actor.{Actor as ActorCode}
+use Rattle.csdf_model.specs.declared.parts.Channel.{Channel as ChannelCode}
+use Rattle.csdf_model.specs.Graph.{Actor, Channel, Graph, actor_view, channel_view}
+use Rattle.csdf_model.specs.WellFormed.{IsWellFormed}
 use Rattle.csdf_analysis.specs.declared.demand.Demand.{Demand}
 use Rattle.csdf_analysis.specs.declared.demand.Ratio.{Ratio}
 use Rattle.csdf_analysis.specs.declared.members.Member.{Member}

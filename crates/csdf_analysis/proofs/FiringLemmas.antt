@@ -5,8 +5,8 @@ use Rattle.std.specs.Prelude.{All, slice_get, Some}
 use Rattle.std.proofs.Math.Nat.{suc-mod, mod-lt, mod-eq_of_lt, mod_self}
 use Rattle.std.proofs.lemmas.Bool.{cases_Bool, eq-eqb, ne_eqb, false≢true}
 use Rattle.std.proofs.lemmas.List.{get_or-set_same, get_or-set_other, length-set}
-use Rattle.csdf_graph.specs.Graph.{Actor, Channel, phases_of, numbers_from}
-use Rattle.csdf_graph.specs.Rates.{rate, produced, consumed, production, consumption}
+use Rattle.csdf_model.specs.Graph.{Actor, Channel, phases_of, numbers_from}
+use Rattle.csdf_model.specs.Rates.{rate, produced, consumed, production, consumption}
 use Rattle.csdf_analysis.specs.Period.{held, fired, CanGo, IsReached}
 use Rattle.csdf_analysis.specs.Fitting.{IsFit, IsPhased}
 use Rattle.csdf_analysis.specs.Running.{AreHeld, AreInPhase}

@@ -5,8 +5,8 @@ use Rattle.std.specs.Prelude.{All, slice_get, Some}
 use Rattle.std.proofs.lemmas.List.{get_or_append_left, get_or_default, length_push}
 use Rattle.std.proofs.lemmas.Bool.{eqb-true}
 use Rattle.std.proofs.lemmas.Option.{slice_get_within, get_or_from_slice_get}
-use Rattle.csdf_graph.specs.Graph.{Channel, numbers_from, inputs_of, outputs_of}
-use Rattle.csdf_graph.specs.Rates.{produced}
+use Rattle.csdf_model.specs.Graph.{Channel, numbers_from, inputs_of, outputs_of}
+use Rattle.csdf_model.specs.Rates.{produced}
 use Rattle.csdf_analysis.specs.Repetition.{full_capacity}
 use Rattle.csdf_analysis.specs.Laws.{IsWithinAll}
 use Rattle.csdf_analysis.specs.Fitting.{IsBetween, IsFit}

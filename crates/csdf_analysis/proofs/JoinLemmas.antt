@@ -4,7 +4,7 @@ use Rattle.std.proofs.Common.{arith, mul-le-mul}
 use Rattle.std.specs.Prelude.{All, slice_index, slice_index_or, Option, Some, None}
 use Rattle.std.proofs.lemmas.List.{length-map, get_or_default}
 use Rattle.std.proofs.lemmas.List.Elements.{All-push, All-same, All-get_or, All-from_get_or}
-use Rattle.csdf_graph.specs.Graph.{Actor, Channel}
+use Rattle.csdf_model.specs.Graph.{Actor, Channel}
 use Rattle.csdf_analysis.specs.declared.members.Member.{Member}
 use Rattle.csdf_analysis.specs.declared.members.Merge.{Merge}
 use Rattle.csdf_analysis.specs.Divisor.{IsGreatestDivisor}

@@ -6,8 +6,8 @@ use Rattle.std.proofs.Math.Seq.{take-suc}
 use Rattle.std.proofs.lemmas.List.{length-map}
 use Rattle.std.proofs.lemmas.List.FromFn.{get_or-map-range_with_len, length-map-range_with_len}
 use Rattle.std.proofs.lemmas.List.Elements.{All-nil, All-map, All-get_or, All-from_get_or}
-use Rattle.csdf_graph.specs.declared.parts.Channel.{Channel as ChannelCode}
-use Rattle.csdf_graph.specs.Graph.{Actor, Channel, channel_view}
+use Rattle.csdf_model.specs.declared.parts.Channel.{Channel as ChannelCode}
+use Rattle.csdf_model.specs.Graph.{Actor, Channel, channel_view}
 use Rattle.csdf_analysis.specs.declared.members.Member.{Member}
 use Rattle.csdf_analysis.specs.Repetition.{cycle_produced, cycle_consumed, Balances, IsVector, IsSmall, IsLeastRepetition, CanBalance, IsFirstUnbalanced}
 use Rattle.csdf_analysis.specs.Members.{nobody, group_at, entry_at, AreEntries, AreMembers, alone}

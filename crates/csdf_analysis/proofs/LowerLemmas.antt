@@ -10,9 +10,9 @@ use Rattle.std.proofs.lemmas.List.{get_or-set_same, get_or-set_other, length-set
 use Rattle.std.proofs.lemmas.List.Elements.{All-set, All-map, All-get_or}
 use Rattle.std.proofs.lemmas.List.Sums.{sum_by-le}
 use Rattle.std.proofs.lemmas.Option.{slice_get_within, slice_get_read}
-use Rattle.csdf_graph.specs.Graph.{Channel, Graph, channel_view}
-use Rattle.csdf_graph.specs.declared.parts.Channel.{Channel as ChannelCode}
-use Rattle.csdf_graph.specs.WellFormed.{IsWellFormed, IsChannel, IsCapacity}
+use Rattle.csdf_model.specs.Graph.{Channel, Graph, channel_view}
+use Rattle.csdf_model.specs.declared.parts.Channel.{Channel as ChannelCode}
+use Rattle.csdf_model.specs.WellFormed.{IsWellFormed, IsChannel, IsCapacity}
 use Rattle.csdf_analysis.specs.Repetition.{full_capacity, IsRepetition}
 use Rattle.csdf_analysis.specs.Period.{HoldInitial, CompletesPeriod}
 use Rattle.csdf_analysis.specs.Capacities.{Agrees, AreLeastCapacities, IsLeastCapacity, IsTooTight, full_capacities}

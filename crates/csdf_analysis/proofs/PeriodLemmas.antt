@@ -5,8 +5,8 @@ use Rattle.std.specs.Prelude.{slice_get, Some}
 use Rattle.std.proofs.Math.Nat.{eq-or-lt_of_le}
 use Rattle.std.proofs.lemmas.Bool.{eq-eqb, ne_eqb}
 use Rattle.std.proofs.lemmas.List.{length-replicate}
-use Rattle.csdf_graph.specs.Graph.{Channel}
-use Rattle.csdf_graph.specs.Rates.{produced, consumed, consumption}
+use Rattle.csdf_model.specs.Graph.{Channel}
+use Rattle.csdf_model.specs.Rates.{produced, consumed, consumption}
 use Rattle.csdf_analysis.specs.Period.{held, own_consumption, held_after, CanFire, fired, IsSchedule, counts_after, no_firings, IsReached, CompletesPeriod}
 use Rattle.csdf_analysis.specs.Period.{CanGo}
 use Rattle.csdf_analysis.specs.Laws.{IsWithinAll}

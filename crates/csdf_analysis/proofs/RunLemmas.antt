@@ -7,8 +7,8 @@ use Rattle.std.proofs.lemmas.List.{length-replicate}
 use Rattle.std.proofs.Math.Nat.{zero-mod}
 use Rattle.std.proofs.lemmas.List.Folds.{sum_by-replicate}
 use Rattle.std.proofs.lemmas.Bool.{eqb-true, eq-eqb, ne_eqb}
-use Rattle.csdf_graph.specs.Graph.{Actor, Channel, inputs_of, outputs_of, phases_of}
-use Rattle.csdf_graph.specs.Rates.{produced, consumed, production, consumption}
+use Rattle.csdf_model.specs.Graph.{Actor, Channel, inputs_of, outputs_of, phases_of}
+use Rattle.csdf_model.specs.Rates.{produced, consumed, production, consumption}
 use Rattle.csdf_analysis.specs.Period.{held, own_consumption, held_after, fired, no_firings, IsReached, HoldInitial, CompletesPeriod, CanGo}
 use Rattle.csdf_analysis.specs.Laws.{IsWithinAll}
 use Rattle.csdf_analysis.specs.Fitting.{IsFit, IsPhased}

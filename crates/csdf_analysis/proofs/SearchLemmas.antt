@@ -7,11 +7,11 @@ use Rattle.std.proofs.lemmas.List.Sums.{sum_by-le}
 use Rattle.std.proofs.lemmas.List.Elements.{All-from_get_or, All-get_or}
 use Rattle.std.proofs.lemmas.Option.{slice_get_within}
 use Rattle.std.proofs.lemmas.Bool.{eqb-true, eq-eqb}
-use Rattle.csdf_graph.specs.Graph.{Actor, Channel, Graph, phases_of}
-use Rattle.csdf_graph.specs.Rates.{produced}
+use Rattle.csdf_model.specs.Graph.{Actor, Channel, Graph, phases_of}
+use Rattle.csdf_model.specs.Rates.{produced}
 use Rattle.std.proofs.Math.Nat.{mul-le-mul_left}
 use Rattle.csdf_analysis.proofs.FitLemmas.{at as at_channel}
-use Rattle.csdf_graph.specs.WellFormed.{IsWellFormed, IsActor}
+use Rattle.csdf_model.specs.WellFormed.{IsWellFormed, IsActor}
 use Rattle.std.proofs.lemmas.List.Elements.{All-head, All-tail}
 use Rattle.csdf_analysis.specs.Repetition.{IsRepetition}
 use Rattle.csdf_analysis.specs.Period.{held_after, CanFire, fired, IsSchedule, counts_after, no_firings, IsReached, HoldInitial, CompletesPeriod, CanGo}

@@ -6,8 +6,8 @@ use Rattle.std.proofs.Math.Seq.{get_or-append_seam}
 use Rattle.std.proofs.lemmas.Bool.{cases_Bool, eqb-true, eqb-false, ltb-true, lt-ltb}
 use Rattle.std.proofs.lemmas.List.{length-replicate, get_or_append_left}
 use Rattle.std.proofs.lemmas.Option.{slice_get_within}
-use Rattle.csdf_graph.specs.Graph.{Channel}
-use Rattle.csdf_graph.specs.Rates.{consumption}
+use Rattle.csdf_model.specs.Graph.{Channel}
+use Rattle.csdf_model.specs.Rates.{consumption}
 use Rattle.csdf_analysis.specs.declared.stall.Stall.{Stall}
 use Rattle.csdf_analysis.specs.declared.stall.Wait.{Wait}
 use Rattle.csdf_analysis.specs.Laws.{IsWithinAll}

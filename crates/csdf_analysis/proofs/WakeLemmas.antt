@@ -10,8 +10,8 @@ use Rattle.std.proofs.lemmas.Nat.{and_le_l}
 use Rattle.std.proofs.lemmas.Nat.Bits.{bit_at-zero, bit_at-lt, bit_at_and, bit_at_or, bit_at_above, bit_at_set_same, bit_at_set_other, bit_at_clear_same}
 use Rattle.std.proofs.lemmas.Nat.Bits.{bit_at_clear_other, bit_at-trailing_zeros}
 use Rattle.std.proofs.lemmas.Bool.{eq-eqb}
-use Rattle.csdf_graph.specs.Graph.{Channel, inputs_of, outputs_of}
-use Rattle.csdf_graph.specs.Rates.{produced, consumed, production, consumption}
+use Rattle.csdf_model.specs.Graph.{Channel, inputs_of, outputs_of}
+use Rattle.csdf_model.specs.Rates.{produced, consumed, production, consumption}
 use Rattle.csdf_analysis.specs.Period.{held, held_after, fired, CanGo}
 use Rattle.csdf_analysis.specs.Waking.{IsIn, IsLowest, ProducersIn, ConsumersIn, AreWoken, AreActors, AreNeighbours, HasAble}
 use Rattle.csdf_analysis.proofs.CountLemmas.{same_or_not, less_or_not, fired_other, fired_length}

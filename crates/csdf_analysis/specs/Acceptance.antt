@@ -1,7 +1,7 @@
 -- Graphs that are accepted, and why others are not.
 use Rattle.std.specs.Prelude.{ℕ, ◌≤◌, List, All, sum, unwrap_or}
-use Rattle.csdf_graph.specs.Graph.{Graph}
-use Rattle.csdf_graph.specs.WellFormed.{IsWellFormed}
+use Rattle.csdf_model.specs.Graph.{Graph}
+use Rattle.csdf_model.specs.WellFormed.{IsWellFormed}
 use Rattle.csdf_analysis.specs.declared.fault.AcceptFault.{AcceptFault}
 use Rattle.csdf_analysis.specs.declared.fault.AcceptFault.TheVariants as fault
 use Rattle.csdf_analysis.specs.Repetition.{IsRepetition, IsFirstUnbalanced, IsFirstTooLarge}

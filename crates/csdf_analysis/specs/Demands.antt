@@ -1,6 +1,6 @@
 -- What a channel asks of its two actors, and what the channels before it ask of these.
 use Rattle.std.specs.Prelude.{◌≡◌, ◌≢◌, ◌↔◌, ℕ, ◌*◌, ◌/◌, ◌≤◌, List, Option, Some, None, take, slice_get, slice_index}
-use Rattle.csdf_graph.specs.Graph.{Actor, Channel}
+use Rattle.csdf_model.specs.Graph.{Actor, Channel}
 use Rattle.csdf_analysis.specs.declared.demand.Demand.{Demand}
 use Rattle.csdf_analysis.specs.declared.demand.Ratio.{Ratio}
 use Rattle.csdf_analysis.specs.Divisor.{IsGreatestDivisor}

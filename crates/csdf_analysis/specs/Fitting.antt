@@ -1,7 +1,7 @@
 -- What a run plays: channels and the firings of a period, within the limits of a graph.
 use Rattle.std.specs.Prelude.{◌≡◌, ℕ, ◌<◌, ◌≤◌, List, length, All, sum, slice_index}
-use Rattle.csdf_graph.specs.Graph.{Actor, Channel, phases_of}
-use Rattle.csdf_graph.specs.Rates.{produced}
+use Rattle.csdf_model.specs.Graph.{Actor, Channel, phases_of}
+use Rattle.csdf_model.specs.Rates.{produced}
 use Rattle.csdf_analysis.specs.Repetition.{HaveRoom}
 
 -- actors and channels, and the firings of each actor in a period

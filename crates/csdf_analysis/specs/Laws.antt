@@ -1,6 +1,6 @@
 -- Laws of periods and capacities.
 use Rattle.std.specs.Prelude.{◌≡◌, ℕ, ◌≤◌, min, List, length, slice_index, slice_get, Some}
-use Rattle.csdf_graph.specs.Graph.{Channel}
+use Rattle.csdf_model.specs.Graph.{Channel}
 use Rattle.csdf_analysis.specs.Period.{CompletesPeriod, IsSchedule, counts_after, no_firings}
 use Rattle.csdf_analysis.specs.Repetition.{full_capacity}
 

@@ -1,6 +1,6 @@
 -- How the least capacities are found: channel by channel, in file order.
 use Rattle.std.specs.Prelude.{◌≡◌, ◌⊎◌, ℕ, ◌<◌, ◌≤◌, List, All, map, slice_index, slice_get, Some, unwrap_or}
-use Rattle.csdf_graph.specs.Graph.{Channel}
+use Rattle.csdf_model.specs.Graph.{Channel}
 use Rattle.csdf_analysis.specs.Repetition.{full_capacity}
 use Rattle.csdf_analysis.specs.Period.{CompletesPeriod}
 use Rattle.csdf_analysis.specs.Capacities.{Agrees, IsBefore}

@@ -1,7 +1,7 @@
 -- Periods: schedules of firings under capacities (Lee and Messerschmitt 1987; with phases, Bilsen et al. 1996).
 use Rattle.std.specs.Prelude.{◌≡◌, ℕ, suc, ◌+◌, ◌-◌, ◌<◌, ◌≤◌, ◌==◌, if◌then◌else◌, List, [], ◌∷◌, length, replicate, slice_index, slice_set, slice_get, Some}
-use Rattle.csdf_graph.specs.Graph.{Channel}
-use Rattle.csdf_graph.specs.Rates.{produced, consumed, production, consumption}
+use Rattle.csdf_model.specs.Graph.{Channel}
+use Rattle.csdf_model.specs.Rates.{produced, consumed, production, consumption}
 
 -- how many tokens a channel holds once each actor has fired so often
 abbrev pub held : Channel → List ℕ → ℕ

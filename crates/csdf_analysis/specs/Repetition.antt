@@ -1,7 +1,7 @@
 -- The least repetition vector: how often each actor fires in a period (Lee and Messerschmitt 1987).
 use Rattle.std.specs.Prelude.{◌≡◌, ℕ, suc, ◌+◌, ◌*◌, ◌<◌, ◌≤◌, List, length, take, All, EachIndex, slice_index, slice_get, Some}
-use Rattle.csdf_graph.specs.Graph.{Actor, Channel, phases_of}
-use Rattle.csdf_graph.specs.Rates.{produced, consumed}
+use Rattle.csdf_model.specs.Graph.{Actor, Channel, phases_of}
+use Rattle.csdf_model.specs.Rates.{produced, consumed}
 use Rattle.csdf_analysis.specs.declared.fault.AcceptFault.{AcceptFault}
 use Rattle.csdf_analysis.specs.declared.fault.AcceptFault.TheVariants as fault
 

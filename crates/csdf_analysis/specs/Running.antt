@@ -1,7 +1,7 @@
 -- Where a run of a period stands.
 use Rattle.std.specs.Prelude.{◌≡◌, ℕ, ◌<◌, ◌≤◌, ◌%◌, List, length, sum, slice_index, slice_set, slice_get, Some}
-use Rattle.csdf_graph.specs.Graph.{Actor, Channel, phases_of}
-use Rattle.csdf_graph.specs.Rates.{consumption}
+use Rattle.csdf_model.specs.Graph.{Actor, Channel, phases_of}
+use Rattle.csdf_model.specs.Rates.{consumption}
 use Rattle.csdf_analysis.specs.declared.run.Run.{Run}
 use Rattle.csdf_analysis.specs.Period.{held as held_by, held_after, IsReached, CompletesPeriod, CanGo}
 use Rattle.csdf_analysis.specs.Laws.{IsWithinAll}

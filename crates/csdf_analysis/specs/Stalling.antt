@@ -1,7 +1,7 @@
 -- Where a run of a period stands still, and what its actors wait for there.
 use Rattle.std.specs.Prelude.{◌≡◌, ℕ, ◌<◌, List, Option, Some, None, EachIndex, length, slice_index, slice_index_or, slice_get}
-use Rattle.csdf_graph.specs.Graph.{Channel}
-use Rattle.csdf_graph.specs.Rates.{consumption}
+use Rattle.csdf_model.specs.Graph.{Channel}
+use Rattle.csdf_model.specs.Rates.{consumption}
 use Rattle.csdf_analysis.specs.declared.stall.Bounds.{Bounds}
 use Rattle.csdf_analysis.specs.declared.stall.Bounds.TheVariants as by
 use Rattle.csdf_analysis.specs.declared.stall.Stall.{Stall}

@@ -1,7 +1,7 @@
 -- The actors that may be able to fire, of which a run looks at no others: the bits of one number.
 use Rattle.std.specs.Prelude.{◌≡◌, ℕ, ◌<◌, List, length, slice_get, slice_index, Some}
 use Rattle.std.specs.Int.{bit_at}
-use Rattle.csdf_graph.specs.Graph.{Channel}
+use Rattle.csdf_model.specs.Graph.{Channel}
 use Rattle.csdf_analysis.specs.Period.{CanGo}
 
 -- the actor's bit is set

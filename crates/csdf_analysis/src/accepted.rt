@@ -7,7 +7,7 @@ use crate::calls::capacities::capacities;
 use crate::calls::repetition::repetition;
 use crate::fault::AcceptFault;
 use crate::vector::Vector;
-use csdf_graph::Graph;
+use csdf_model::Graph;
 use std::alloc::{AllocError, Global};
 use std::marker::Model;
 

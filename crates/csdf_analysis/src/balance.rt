@@ -1,14 +1,14 @@
 //! The least vector that balances the channels, group by group.
 
 ghost use Rattle.std.specs.Prelude.{◌≡◌, ◌*◌, ◌≤◌, ◌<◌, All, IfOk, IfErr, length, map, option_map};
-ghost use Rattle.csdf_graph.specs.Graph.{actor_view, channel_view, phases_of};
+ghost use Rattle.csdf_model.specs.Graph.{actor_view, channel_view, phases_of};
 ghost use Rattle.csdf_analysis.specs.Repetition.{cycle_produced, cycle_consumed, IsRefused};
 ghost use Rattle.csdf_analysis.specs.Members.{IsLink, AreEntries, AreMembers, IsMergeOf, Joins};
 
 use crate::fault::AcceptFault;
 use crate::gcd::gcd;
 use crate::members::{Member, Merge, alone, merged};
-use csdf_graph::{Actor, Channel};
+use csdf_model::{Actor, Channel};
 use std::alloc::{AllocError, Global};
 
 /// How many phases an actor has, and none where there is no such actor.

@@ -4,7 +4,7 @@ ghost use Rattle.std.specs.Prelude.{◌≡◌, ◌<◌, ◌≤◌, ℕ, IfOk, le
 ghost use Rattle.csdf_analysis.specs.Waking.{AreActors, AreNeighbours, AreWoken, ConsumersIn, IsIn, ProducersIn};
 
 use crate::mask::with_actor;
-use csdf_graph::Graph;
+use csdf_model::Graph;
 use std::alloc::{AllocError, Global};
 
 /// The set with those that put tokens into the actor's inputs.

@@ -1,14 +1,14 @@
 //! What a run plays: a graph and the firings of a period.
 
 ghost use Rattle.std.specs.Prelude.{◌≡◌, ◌+◌, ◌%◌, ◌<◌, ◌≤◌, ℕ, All, IfOk, Some, length, slice_get, slice_index, sum};
-ghost use Rattle.csdf_graph.specs.Graph.{Channel as ChannelModel, channel_view, inputs_of, outputs_of, phases_of};
+ghost use Rattle.csdf_model.specs.Graph.{Channel as ChannelModel, channel_view, inputs_of, outputs_of, phases_of};
 ghost use Rattle.csdf_analysis.specs.Fitting.{IsFit, IsPhased};
 ghost use Rattle.csdf_analysis.specs.Waking.{AreActors, AreWoken, IsIn};
 
 use crate::balance::phases_of;
 use crate::mask::joined;
 use crate::neighbours::neighbours;
-use csdf_graph::{Channel, Graph};
+use csdf_model::{Channel, Graph};
 use std::alloc::{AllocError, Global};
 use std::marker::Model;
 

@@ -2,8 +2,8 @@
 
 ghost use Rattle.std.specs.Prelude.{◌≡◌, ◌+◌, ◌-◌, ◌%◌, ◌<◌, ◌≤◌, ◌↔◌, ◌==◌, if◌then◌else◌, ◌⊎◌, ℕ, IfOk, IsTrue, MatchOption, Some, length, replicate};
 ghost use Rattle.std.specs.Prelude.{slice_get, slice_index, slice_set, sum};
-ghost use Rattle.csdf_graph.specs.Graph.{Channel as ChannelModel, phases_of};
-ghost use Rattle.csdf_graph.specs.Rates.{consumption};
+ghost use Rattle.csdf_model.specs.Graph.{Channel as ChannelModel, phases_of};
+ghost use Rattle.csdf_model.specs.Rates.{consumption};
 ghost use Rattle.csdf_analysis.specs.Fitting.{IsFit, IsPhased};
 ghost use Rattle.csdf_analysis.specs.Period.{CanGo, IsNext, fired, held, held_after, no_firings};
 ghost use Rattle.csdf_analysis.specs.Waking.{AreActors, AreWaiting, IsIn};

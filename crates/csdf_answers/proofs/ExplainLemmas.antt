@@ -1,9 +1,9 @@
 -- The text of a stall, by what the code has seen of a graph.
 use Rattle.std.proofs.Common.{◌≡◌, ℕ, ◌++◌, List, map, ap, ◌∙◌}
 use Rattle.std.specs.List.{enumerate_from}
-use Rattle.csdf_graph.specs.declared.parts.Actor.{Actor as ActorCode}
-use Rattle.csdf_graph.specs.declared.parts.Channel.{Channel as ChannelCode}
-use Rattle.csdf_graph.specs.Graph.{Actor, Channel, Graph, actor_view, channel_view}
+use Rattle.csdf_model.specs.declared.parts.Actor.{Actor as ActorCode}
+use Rattle.csdf_model.specs.declared.parts.Channel.{Channel as ChannelCode}
+use Rattle.csdf_model.specs.Graph.{Actor, Channel, Graph, actor_view, channel_view}
 use Rattle.csdf_analysis.specs.declared.stall.Bounds.{Bounds}
 use Rattle.csdf_analysis.specs.declared.stall.Stall.{Stall}
 use Rattle.csdf_answers.specs.Described.{actor_names}

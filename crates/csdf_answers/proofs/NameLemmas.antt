@@ -2,9 +2,9 @@
 use Rattle.std.proofs.Common.{◌≡◌, ℕ, ◌<◌, List, [], length, get_or, map, ap, ◌∙◌, sym, arith}
 use Rattle.std.proofs.lemmas.List.{get_or-map, length-map}
 use Rattle.std.specs.String.{string_bytes}
-use Rattle.csdf_graph.specs.Graph.{Actor, Channel, actor_view, channel_view}
-use Rattle.csdf_graph.specs.declared.parts.Actor.{Actor as ActorCode}
-use Rattle.csdf_graph.specs.declared.parts.Channel.{Channel as ChannelCode}
+use Rattle.csdf_model.specs.Graph.{Actor, Channel, actor_view, channel_view}
+use Rattle.csdf_model.specs.declared.parts.Actor.{Actor as ActorCode}
+use Rattle.csdf_model.specs.declared.parts.Channel.{Channel as ChannelCode}
 use Rattle.csdf_answers.specs.Printed.{names_of, name_at}
 use Rattle.csdf_answers.specs.Described.{actor_names}
 

@@ -2,8 +2,8 @@
 use Rattle.std.proofs.Common.{◌≡◌, ℕ, List, ◌++◌, length, map, Result, Ok, sym, ap, ◌∙◌}
 use Rattle.std.specs.Prelude.{replicate}
 use Rattle.std.proofs.lemmas.List.{length-map}
-use Rattle.csdf_graph.specs.declared.parts.Actor.{Actor as ActorCode}
-use Rattle.csdf_graph.specs.Graph.{actor_view}
+use Rattle.csdf_model.specs.declared.parts.Actor.{Actor as ActorCode}
+use Rattle.csdf_model.specs.Graph.{actor_view}
 use Rattle.csdf_graph.specs.ScriptText.{Script}
 use Rattle.csdf_graph.proofs.ReadLemmas.{map_map}
 use Rattle.csdf_analysis.specs.Acceptance.{Accepted, IsAccepted}

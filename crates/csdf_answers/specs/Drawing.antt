@@ -2,9 +2,9 @@
 use Rattle.std.specs.Prelude.{ℕ, nat_le, List, [], ◌∷◌, ◌++◌, ℤ, codes, if◌then◌else◌, length, slice_index}
 use Rattle.std.specs.List.{enumerate_from, flat_map}
 use Rattle.std.specs.Fmt.{decimal}
-use Rattle.csdf_graph.specs.declared.parts.Kernel.{Kernel}
-use Rattle.csdf_graph.specs.declared.parts.Kernel.TheVariants as kernel
-use Rattle.csdf_graph.specs.Graph.{Actor, Channel}
+use Rattle.csdf_model.specs.declared.parts.Kernel.{Kernel}
+use Rattle.csdf_model.specs.declared.parts.Kernel.TheVariants as kernel
+use Rattle.csdf_model.specs.Graph.{Actor, Channel}
 use Rattle.csdf_analysis.specs.Acceptance.{Accepted}
 use Rattle.csdf_answers.specs.Printed.{spaced}
 

@@ -3,7 +3,7 @@ use Rattle.std.specs.Prelude.{◌≡◌, ◌⊎◌, ℕ, List, [], ◌++◌, Opt
 use Rattle.std.specs.List.{enumerate_from, flat_map}
 use Rattle.std.specs.Fmt.{decimal}
 use Rattle.csdf_graph.specs.declared.fault.GraphFault.{GraphFault}
-use Rattle.csdf_graph.specs.Graph.{Channel, Graph}
+use Rattle.csdf_model.specs.Graph.{Channel, Graph}
 use Rattle.csdf_graph.specs.GraphText.{IsGraphOf}
 use Rattle.csdf_analysis.specs.declared.demand.Demand.{Demand}
 use Rattle.csdf_analysis.specs.declared.demand.Ratio.{Ratio}

@@ -3,9 +3,8 @@ use Rattle.std.specs.Prelude.{ℕ, ◌==◌, nat_lt, Bool, List, [], ◌∷◌, 
 use Rattle.std.specs.List.{filter, slice_split}
 use Rattle.std.specs.Str.{bytes_eq}
 use Rattle.std.specs.Result.{result_ok}
-use Rattle.csdf_graph.specs.Graph.{Graph, Actor, Channel}
-use Rattle.csdf_graph.specs.Links.{number_in}
-use Rattle.csdf_graph.specs.Names.{is_name}
+use Rattle.csdf_model.specs.Graph.{Graph, Actor, Channel}
+use Rattle.csdf_model.specs.Names.{is_name, number_in}
 use Rattle.csdf_bytes.specs.TokenText.{token_in}
 use Rattle.csdf_graph.specs.Tree.{all_some}
 use Rattle.csdf_core.specs.Moves.{Move, Begin, Read, Write, Finish, Close, move_of}

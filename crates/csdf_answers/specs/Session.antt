@@ -1,7 +1,7 @@
 -- What a script plays, and what the program prints for it.
 use Rattle.std.specs.Prelude.{◌≡◌, ◌≢◌, ℕ, suc, List, [], ◌∷◌, ◌++◌, Option, Some, None, MatchResult, Result, Ok, Err, length, map, replicate, if◌then◌else◌}
 use Rattle.csdf_graph.specs.declared.fault.GraphFault.{GraphFault}
-use Rattle.csdf_graph.specs.Graph.{Graph, Actor}
+use Rattle.csdf_model.specs.Graph.{Graph, Actor}
 use Rattle.csdf_graph.specs.GraphText.{IsGraphOf}
 use Rattle.csdf_graph.specs.ScriptText.{Script, script_of}
 use Rattle.csdf_pool.specs.Pool.{Shared, held_tokens, IsPartition}

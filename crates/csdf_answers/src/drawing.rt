@@ -2,7 +2,7 @@
 
 ghost use Rattle.std.specs.Prelude.{◌≡◌, ◌++◌, length, map, string_bytes, IfOk, OnOk};
 ghost use Rattle.std.specs.List.{enumerate_from};
-ghost use Rattle.csdf_graph.specs.Graph.{actor_view, channel_view};
+ghost use Rattle.csdf_model.specs.Graph.{actor_view, channel_view};
 ghost use Rattle.csdf_answers.specs.Drawing.{kernel_text, dots, actor_line, rates_text, facts_text, channel_line, actor_lines, channel_lines, dot_text};
 ghost use Rattle.csdf_answers.specs.Printed.{spaced};
 

@@ -2,7 +2,7 @@
 
 ghost use Rattle.std.specs.Prelude.{◌≡◌, ◌++◌, length, map, slice_index, string_bytes, IfOk, OnOk};
 ghost use Rattle.std.specs.List.{enumerate_from};
-ghost use Rattle.csdf_graph.specs.Graph.{actor_view, channel_view};
+ghost use Rattle.csdf_model.specs.Graph.{actor_view, channel_view};
 ghost use Rattle.csdf_answers.specs.Described.{actor_names};
 ghost use Rattle.csdf_answers.specs.Explained.{asked_text, before_text, heading, ratio_text, room_line, tokens_line, too_large_text, unbalanced_text};
 ghost use Rattle.csdf_answers.specs.Explained.{wait_line, wait_lines, wait_text};

@@ -2,7 +2,7 @@
 
 ghost use Rattle.std.specs.Prelude.{◌≡◌, ◌<◌, ◌≤◌, ◌++◌, length, map, string_bytes, OnOk};
 ghost use Rattle.std.specs.List.{enumerate_from};
-ghost use Rattle.csdf_graph.specs.Graph.{channel_view};
+ghost use Rattle.csdf_model.specs.Graph.{channel_view};
 ghost use Rattle.csdf_pool.specs.Pool.{chain_of};
 ghost use Rattle.csdf_core.specs.Shows.{as_reply};
 ghost use Rattle.csdf_answers.specs.Printed.{names_of, name_at, spaced, spaced_tokens, refusal_text, reply_text, reply_line, chain_line, chain_lines, cells_text};

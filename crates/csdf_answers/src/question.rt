@@ -2,7 +2,7 @@
 
 ghost use Rattle.std.specs.Prelude.{◌≡◌, ◌++◌, length, map, string_bytes, IfOk, OnOk};
 ghost use Rattle.std.specs.List.{enumerate_from};
-ghost use Rattle.csdf_graph.specs.Graph.{actor_view, channel_view};
+ghost use Rattle.csdf_model.specs.Graph.{actor_view, channel_view};
 ghost use Rattle.csdf_answers.specs.Described.{actor_names, check_text, repetition_text, schedule_text, capacity_lines, capacity_text, TellsSchedule};
 ghost use Rattle.csdf_answers.specs.Printed.{names_of, name_at};
 

@@ -1,7 +1,7 @@
 //! What a script plays on a graph.
 
 ghost use Rattle.std.specs.Prelude.{◌≡◌, ◌≢◌, length, map, string_bytes, IfErr, IfOk};
-ghost use Rattle.csdf_graph.specs.Graph.{actor_view};
+ghost use Rattle.csdf_model.specs.Graph.{actor_view};
 ghost use Rattle.csdf_graph.specs.ScriptText.{script_view};
 ghost use Rattle.csdf_analysis.specs.Acceptance.{IsAccepted};
 ghost use Rattle.csdf_core.specs.Shows.{Shows};

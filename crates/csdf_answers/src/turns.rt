@@ -1,7 +1,7 @@
 //! Playing the lines of a script on a core.
 
 ghost use Rattle.std.specs.Prelude.{◌≡◌, ◌≤◌, length, map, string_bytes, IfOk, OnOk};
-ghost use Rattle.csdf_graph.specs.Graph.{channel_view};
+ghost use Rattle.csdf_model.specs.Graph.{channel_view};
 ghost use Rattle.csdf_core.specs.Moves.{move_of};
 ghost use Rattle.csdf_answers.specs.Lines.{Play, line_view};
 ghost use Rattle.csdf_answers.specs.Printed.{names_of};

@@ -5,7 +5,7 @@ use Rattle.std.specs.Prelude.{slice_index}
 use Rattle.std.specs.List.{zip, position_from, AllByRecursion}
 use Rattle.std.proofs.lemmas.List.{length-drop}
 use Rattle.std.proofs.lemmas.Bool.Decides.{eqb_tells}
-use Rattle.csdf_graph.specs.Rates.{rate, total}
+use Rattle.csdf_model.specs.Rates.{rate, total}
 use Rattle.csdf_analysis.proofs.CountLemmas.{total_mono}
 use Rattle.csdf_core.specs.Plan.{Channel, Plan, takes_of, gives_of}
 use Rattle.csdf_core.specs.Rows.{Row, is_short, is_full}

@@ -6,7 +6,7 @@ use Rattle.std.specs.List.{zip, range_with_len}
 use Rattle.std.proofs.lemmas.List.Sums.{sum_by-cons}
 use Rattle.std.proofs.lemmas.Bool.{ltb-true}
 use Rattle.std.proofs.lemmas.Bool.Decides.{eqb_tells}
-use Rattle.csdf_graph.specs.Rates.{rate}
+use Rattle.csdf_model.specs.Rates.{rate}
 use Rattle.csdf_core.specs.declared.stage.Stage.{Stage}
 use Rattle.csdf_core.specs.declared.stage.Stage.TheVariants.{Idle, Begun, Fetched, Written}
 use Rattle.csdf_core.specs.declared.refusal.Refusal.{Refusal}

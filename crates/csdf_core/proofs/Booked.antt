@@ -3,7 +3,7 @@ use Rattle.std.proofs.Common.{◌≡◌, ℕ, suc, ◌<◌, List, [], ◌∷◌,
 use Rattle.std.specs.Prelude.{ℤ}
 use Rattle.std.specs.List.{zip, AllByRecursion}
 use Rattle.std.proofs.lemmas.List.{length-map, length-replicate}
-use Rattle.csdf_graph.specs.Rates.{total}
+use Rattle.csdf_model.specs.Rates.{total}
 use Rattle.csdf_core.specs.declared.stage.Stage.{Stage}
 use Rattle.csdf_core.specs.declared.stage.Stage.TheVariants.{Idle, Begun, Fetched, Written}
 use Rattle.csdf_core.specs.Moves.{Move}

@@ -5,7 +5,7 @@ use Rattle.std.specs.List.{AllByRecursion}
 use Rattle.std.proofs.lemmas.Bool.{ne_eqb}
 use Rattle.std.proofs.lemmas.List.{length-map}
 use Rattle.std.proofs.lemmas.List.Sums.{sum_by-cons}
-use Rattle.csdf_graph.specs.Rates.{rate}
+use Rattle.csdf_model.specs.Rates.{rate}
 use Rattle.csdf_pool.specs.Pool.{Held, held_tokens}
 use Rattle.csdf_core.specs.Plan.{Channel, takes_of, gives_of}
 use Rattle.csdf_core.specs.Rows.{need, gift}

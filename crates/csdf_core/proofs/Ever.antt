@@ -9,10 +9,10 @@ use Rattle.std.proofs.lemmas.List.Folds.{sum_by-replicate}
 use Rattle.std.proofs.lemmas.List.{length-map, length-replicate, length-drop, get_or-set_same}
 use Rattle.std.proofs.lemmas.Bool.{lt-leb}
 use Rattle.std.proofs.lemmas.Bool.Decides.{eqb_tells}
-use Rattle.csdf_graph.specs.Graph as graph
-use Rattle.csdf_graph.specs.Graph.{phases_of}
+use Rattle.csdf_model.specs.Graph as graph
+use Rattle.csdf_model.specs.Graph.{phases_of}
 use Rattle.std.proofs.Math.Nat.{mul-mod_right}
-use Rattle.csdf_graph.specs.Rates.{total, produced, consumed}
+use Rattle.csdf_model.specs.Rates.{total, produced, consumed}
 use Rattle.csdf_analysis.specs.Acceptance.{Accepted, IsAccepted, cells_of}
 use Rattle.csdf_analysis.specs.Period.{CanFire, IsSchedule, counts_after, fired as fired_counts, no_firings, IsScheduleFrom}
 use Rattle.csdf_analysis.proofs.CountLemmas.{fired_length, fired_same, fired_other, fired_sum, none_at, sum_within}

@@ -6,9 +6,9 @@ use Rattle.std.proofs.Common.{◌%◌}
 use Rattle.std.specs.Prelude.{All, slice_get}
 use Rattle.std.specs.List.{AllByRecursion}
 use Rattle.std.proofs.lemmas.List.Elements.{recursion_from_All}
-use Rattle.csdf_graph.specs.Rates.{rate}
-use Rattle.csdf_graph.specs.Graph as graph
-use Rattle.csdf_graph.specs.Graph.{numbers_from}
+use Rattle.csdf_model.specs.Rates.{rate}
+use Rattle.csdf_model.specs.Graph as graph
+use Rattle.csdf_model.specs.Graph.{numbers_from}
 use Rattle.csdf_core.specs.Plan.{Channel}
 use Rattle.csdf_core.specs.Layout.{with_capacity}
 

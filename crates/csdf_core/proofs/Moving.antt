@@ -3,7 +3,7 @@ use Rattle.std.proofs.Common.{◌≡◌, ℕ, ◌+◌, ◌-◌, ◌<◌, ◌≤�
 use Rattle.std.proofs.Common.{false, cond}
 use Rattle.std.specs.Prelude.{ℤ}
 use Rattle.std.specs.List.{zip, AllByRecursion}
-use Rattle.csdf_graph.specs.Rates.{rate}
+use Rattle.csdf_model.specs.Rates.{rate}
 use Rattle.csdf_core.specs.Moves.{Read}
 use Rattle.csdf_core.specs.Plan.{Channel, Plan, gives_of}
 use Rattle.csdf_core.specs.Rows.{taken, left, joined, shares, need, gift, AreThere}

@@ -5,11 +5,11 @@ use Rattle.std.specs.Prelude.{sum_by, slice_get, if◌then◌else◌}
 use Rattle.std.specs.List.{zip, AllByRecursion}
 use Rattle.std.proofs.lemmas.List.Sums.{sum_by-cons}
 use Rattle.std.proofs.lemmas.Bool.Decides.{eqb_tells}
-use Rattle.csdf_graph.specs.Graph as graph
-use Rattle.csdf_graph.specs.Graph.{phases_of}
-use Rattle.csdf_graph.specs.Rates.{total, produced, consumed}
-use Rattle.csdf_graph.specs.WellFormed.{IsChannel}
-use Rattle.csdf_graph.proofs.RateLemmas.{total_front, total_after, total_cycles}
+use Rattle.csdf_model.specs.Graph as graph
+use Rattle.csdf_model.specs.Graph.{phases_of}
+use Rattle.csdf_model.specs.Rates.{total, produced, consumed}
+use Rattle.csdf_model.specs.WellFormed.{IsChannel}
+use Rattle.csdf_model.proofs.RateLemmas.{total_front, total_after, total_cycles}
 use Rattle.csdf_analysis.specs.Acceptance.{Accepted, IsAccepted}
 use Rattle.csdf_analysis.specs.Period.{CanFire, fired as fired_counts}
 use Rattle.csdf_analysis.specs.Repetition.{IsBalanced}

@@ -8,9 +8,9 @@ use Rattle.std.specs.List.{zip, flat_map, position_from, AllByRecursion}
 use Rattle.std.proofs.lemmas.List.Sums.{sum_by-cons}
 use Rattle.std.proofs.lemmas.Bool.{cases_Bool, le-ltb, eq-eqb, ne_eqb}
 use Rattle.csdf_pool.specs.Pool.{Held, held_tokens}
-use Rattle.csdf_graph.specs.Graph.{numbers_from}
-use Rattle.csdf_graph.specs.Rates.{rate}
-use Rattle.csdf_graph.proofs.PortLemmas as graph
+use Rattle.csdf_model.specs.Graph.{numbers_from}
+use Rattle.csdf_model.specs.Rates.{rate}
+use Rattle.csdf_model.proofs.PortLemmas as graph
 use Rattle.csdf_core.specs.Plan.{Channel, takes_of}
 use Rattle.csdf_core.specs.Rows.{Row, is_closed, is_short, is_full, first, cut, joined, need, gift}
 use Rattle.csdf_core.specs.Shows.{raised}

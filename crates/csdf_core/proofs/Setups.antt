@@ -5,9 +5,9 @@ use Rattle.std.specs.List.{zip, AllByRecursion}
 use Rattle.std.proofs.lemmas.List.{length-map}
 use Rattle.std.proofs.lemmas.List.Sums.{sum_by-cons, sum_by-le}
 use Rattle.std.proofs.lemmas.List.Elements.{recursion_from_All}
-use Rattle.csdf_graph.specs.Graph as graph
-use Rattle.csdf_graph.specs.Graph.{Graph, inputs_of, outputs_of}
-use Rattle.csdf_graph.specs.WellFormed.{IsChannel, IsCells, initial_total}
+use Rattle.csdf_model.specs.Graph as graph
+use Rattle.csdf_model.specs.Graph.{Graph, inputs_of, outputs_of}
+use Rattle.csdf_model.specs.WellFormed.{IsChannel, IsCells, initial_total}
 use Rattle.csdf_analysis.specs.Period.{HoldInitial}
 use Rattle.csdf_analysis.specs.Acceptance.{Accepted, IsAccepted, cells_of}
 use Rattle.csdf_core.specs.Plan.{Channel}

@@ -5,7 +5,7 @@ use Rattle.std.specs.List.{AllByRecursion}
 use Rattle.std.proofs.lemmas.List.Sums.{sum_by-cons}
 use Rattle.std.proofs.lemmas.List.{length-drop, length-append, length-take-le}
 use Rattle.std.proofs.lemmas.Bool.Decides.{eqb_tells}
-use Rattle.csdf_graph.specs.Rates.{rate, total}
+use Rattle.csdf_model.specs.Rates.{rate, total}
 use Rattle.csdf_core.specs.Plan.{Channel, gives_of}
 use Rattle.csdf_core.specs.Rows.{shares, gift}
 use Rattle.csdf_core.specs.State.{Stream}

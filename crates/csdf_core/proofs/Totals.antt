@@ -4,7 +4,7 @@ use Rattle.std.specs.Prelude.{sum_by, slice_index, nat_lt, ◌&&◌, if◌then�
 use Rattle.std.proofs.lemmas.List.Sums.{sum_by-cons}
 use Rattle.csdf_core.specs.Plan.{Channel}
 use Rattle.csdf_core.specs.Plan.{Plan}
-use Rattle.csdf_graph.specs.Rates.{total}
+use Rattle.csdf_model.specs.Rates.{total}
 use Rattle.csdf_core.specs.Plan.{gives_of}
 use Rattle.csdf_core.specs.Rows.{gift}
 use Rattle.csdf_core.specs.Step.{given, is_source}

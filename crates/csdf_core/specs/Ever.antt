@@ -13,7 +13,7 @@ use Rattle.csdf_core.specs.Rows.{gift}
 use Rattle.csdf_core.specs.State.{State, Present, present, opening}
 use Rattle.csdf_core.specs.Step.{Reply, count, stage, given, is_source, refused, replies_of, state_after}
 use Rattle.csdf_core.specs.Streams.{AreWithin, initial, length_of, part}
-use Rattle.csdf_graph.specs.Graph.{phases_of}
+use Rattle.csdf_model.specs.Graph.{phases_of}
 
 -- the moves begin with a whole firing of the actor, its number k, and go on with the rest; it writes any tokens, as many as the firing gives
 pub record IsFiring (plan : Plan) (a k : ℕ) (moves rest : List Move) : Type 0 where

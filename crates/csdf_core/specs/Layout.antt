@@ -1,11 +1,11 @@
 -- What a core keeps of its setup, and what it plays by it.
 use Rattle.std.specs.Prelude.{◌≡◌, ℕ, Bool, true, false, List, Option, length, map}
 use Rattle.std.specs.List.{zip}
-use Rattle.csdf_graph.specs.declared.parts.Kernel.{Kernel}
-use Rattle.csdf_graph.specs.declared.parts.Kernel.TheVariants as kernel
-use Rattle.csdf_graph.specs.Graph as graph
-use Rattle.csdf_graph.specs.Graph.{Graph}
-use Rattle.csdf_graph.specs.WellFormed.{IsWellFormed}
+use Rattle.csdf_model.specs.declared.parts.Kernel.{Kernel}
+use Rattle.csdf_model.specs.declared.parts.Kernel.TheVariants as kernel
+use Rattle.csdf_model.specs.Graph as graph
+use Rattle.csdf_model.specs.Graph.{Graph}
+use Rattle.csdf_model.specs.WellFormed.{IsWellFormed}
 use Rattle.csdf_analysis.specs.Acceptance.{Accepted, cells_of}
 use Rattle.csdf_core.specs.Plan.{Channel, Plan}
 use Rattle.csdf_core.specs.Playable.{IsPlayable}

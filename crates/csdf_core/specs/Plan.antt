@@ -1,6 +1,6 @@
 -- What a core plays: a graph whose channels have their capacities, the limits on firings, and the number of cells.
 use Rattle.std.specs.Prelude.{ℕ, ◌≤◌, Bool, ◌==◌, if◌then◌else◌, ℤ, List, Option, sum_by}
-use Rattle.csdf_graph.specs.Rates.{rate}
+use Rattle.csdf_model.specs.Rates.{rate}
 
 -- a channel with its capacity
 pub record Channel : Type 0 where

@@ -1,8 +1,8 @@
 -- What a firing does to its actor's own channels, one after another.
 use Rattle.std.specs.Prelude.{ℕ, ◌+◌, ◌-◌, ◌≤◌, ◌==◌, max, Bool, false, not, nat_lt, List, [], ◌∷◌, ◌++◌, ℤ, length, take, drop, map, slice_index}
 use Rattle.std.specs.Prelude.{slice_index_or, slice_set}
-use Rattle.csdf_graph.specs.Graph.{numbers_from}
-use Rattle.csdf_graph.specs.Rates.{rate}
+use Rattle.csdf_model.specs.Graph.{numbers_from}
+use Rattle.csdf_model.specs.Rates.{rate}
 use Rattle.csdf_pool.specs.Pool.{Shared, held_tokens}
 use Rattle.csdf_core.specs.Plan.{Channel, takes_of}
 

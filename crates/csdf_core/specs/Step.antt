@@ -2,7 +2,7 @@
 use Rattle.std.specs.Prelude.{ℕ, suc, ◌≡◌, ◌≢◌, ◌<◌, ◌+◌, ◌-◌, ◌==◌, ◌&&◌, ◌||◌, Bool, true, false, not, nat_lt, nat_le, if◌then◌else◌, List, [], ◌∷◌, ◌++◌, ℤ}
 use Rattle.std.specs.Prelude.{Option, Some, None, Result, Ok, Err, length, map, sum, sum_by, count_by, slice_index, slice_index_or, slice_set, option_map}
 use Rattle.std.specs.List.{zip, range_with_len}
-use Rattle.csdf_graph.specs.Rates.{total}
+use Rattle.csdf_model.specs.Rates.{total}
 use Rattle.csdf_core.specs.declared.stage.Stage.{Stage}
 use Rattle.csdf_core.specs.declared.stage.Stage.TheVariants.{Idle, Begun, Fetched, Written}
 use Rattle.csdf_core.specs.Moves.{Move}

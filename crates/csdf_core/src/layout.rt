@@ -3,13 +3,13 @@
 ghost use Rattle.std.specs.Prelude.{◌≡◌, ◌<◌, ◌≤◌, length, map, slice_get, slice_index, slice_index_or, false, All, IfOk, Some};
 ghost use Rattle.csdf_core.specs.Plan.{Channel as ChannelModel};
 ghost use Rattle.csdf_core.specs.Layout.{is_source_kernel, plan_for, with_capacity};
-ghost use Rattle.csdf_graph.specs.Graph.{channel_view};
+ghost use Rattle.csdf_model.specs.Graph.{channel_view};
 ghost use Rattle.csdf_core.specs.Playable.{IsPlayable};
 ghost use Rattle.csdf_core.specs.Streams.{part};
 ghost use Rattle.csdf_core.specs.Ports.{inputs_at, outputs_at, take_at, give_at};
 
 use crate::setup::Setup;
-use csdf_graph::{Channel, Graph, Kernel};
+use csdf_model::{Channel, Graph, Kernel};
 use std::alloc::{AllocError, Global};
 use std::marker::Model;
 

@@ -5,8 +5,8 @@ use Rattle.std.specs.Prelude.{ℤ, pos}
 use Rattle.std.specs.List.{zip, AllByRecursion}
 use Rattle.std.proofs.lemmas.List.{take-append-le, take-take, take_all, drop-take, length-take-le, get_or-take}
 use Rattle.std.proofs.lemmas.Bool.Decides.{eqb_tells}
-use Rattle.csdf_graph.specs.Rates.{rate, total}
-use Rattle.csdf_graph.specs.declared.parts.Kernel.{Kernel}
+use Rattle.csdf_model.specs.Rates.{rate, total}
+use Rattle.csdf_model.specs.declared.parts.Kernel.{Kernel}
 use Rattle.csdf_analysis.proofs.CountLemmas.{total_mono, less_or_not}
 use Rattle.csdf_core.specs.declared.stage.Stage.TheVariants.{Idle, Fetched}
 use Rattle.csdf_core.specs.Moves.{Move}

@@ -4,7 +4,7 @@ use Rattle.std.proofs.Common.{append_assoc}
 use Rattle.std.specs.Prelude.{ℤ}
 use Rattle.std.specs.List.{zip, AllByRecursion}
 use Rattle.std.proofs.lemmas.List.{take_all, take-append-drop, ext_get_or}
-use Rattle.csdf_graph.specs.Rates.{total}
+use Rattle.csdf_model.specs.Rates.{total}
 use Rattle.csdf_analysis.proofs.CountLemmas.{total_mono}
 use Rattle.csdf_core.specs.declared.stage.Stage.TheVariants.{Idle}
 use Rattle.csdf_core.specs.Moves.{Move}

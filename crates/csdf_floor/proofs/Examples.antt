@@ -1,7 +1,7 @@
 -- The sequential run and an honest journal, computed on worked examples.
 use Rattle.std.proofs.Common.{◌≡◌, ℕ, zero, suc, ◌<◌, ◌⊎◌, inl, inr, List, [], ◌∷◌, true, false, Some, None, refl, arith}
 use Rattle.std.specs.Prelude.{pos}
-use Rattle.csdf_graph.specs.declared.parts.Kernel.TheVariants as kernel
+use Rattle.csdf_model.specs.declared.parts.Kernel.TheVariants as kernel
 use Rattle.csdf_kernel.specs.Value.{value_of, places, clamp}
 use Rattle.csdf_core.specs.Moves.{Move}
 use Rattle.csdf_core.specs.Moves.{Begin, Read, Write, Finish, Close}

@@ -2,7 +2,7 @@
 use Rattle.std.proofs.Common.{◌≡◌, ℕ, ◌<◌, List, [], ◌∷◌, ◌++◌, length, get_or, refl, ap, sym, ◌∙◌, append-nil, append_assoc, Option, Some, None}
 use Rattle.std.specs.Prelude.{ℤ, Ok}
 use Rattle.std.proofs.lemmas.List.{get_or-set_other, get_or-set_same}
-use Rattle.csdf_graph.specs.declared.parts.Kernel.TheVariants.{Sink}
+use Rattle.csdf_model.specs.declared.parts.Kernel.TheVariants.{Sink}
 use Rattle.csdf_kernel.specs.Value.{value_of}
 use Rattle.csdf_core.specs.declared.refusal.Refusal.{Refusal}
 use Rattle.csdf_core.specs.Moves.{Begin, Read, Write, Finish, Close}

@@ -4,7 +4,7 @@ use Rattle.std.specs.Prelude.{ℤ}
 use Rattle.std.specs.List.{zip, flat_map}
 use Rattle.std.proofs.lemmas.List.{length-drop, drop_at, take-append-le, drop-append-le, take-take}
 use Rattle.std.proofs.lemmas.Bool.Decides.{eqb_tells}
-use Rattle.csdf_graph.specs.Rates.{rate, total}
+use Rattle.csdf_model.specs.Rates.{rate, total}
 use Rattle.csdf_analysis.proofs.CountLemmas.{total_mono}
 use Rattle.csdf_core.specs.Plan.{Channel, takes_of, gives_of}
 use Rattle.csdf_core.specs.Rows.{shares, cut, taken}

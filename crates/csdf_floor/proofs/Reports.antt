@@ -2,7 +2,7 @@
 use Rattle.std.proofs.Common.{◌≡◌, ℕ, zero, suc, ◌+◌, ◌<◌, Bool, List, [], ◌∷◌, length, map, get_or, refl, ap, sym, subst, ◌∙◌, arith}
 use Rattle.std.specs.Prelude.{ℤ}
 use Rattle.std.proofs.lemmas.List.{get_or-map}
-use Rattle.csdf_graph.specs.Rates.{total}
+use Rattle.csdf_model.specs.Rates.{total}
 use Rattle.csdf_core.specs.declared.stage.Stage.TheVariants.{Idle}
 use Rattle.csdf_core.specs.Moves.{Move}
 use Rattle.csdf_core.specs.Plan.{Channel}

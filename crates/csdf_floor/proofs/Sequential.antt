@@ -4,8 +4,8 @@ use Rattle.std.proofs.Common.{arith, Bool, true, false, length-set}
 use Rattle.std.specs.Prelude.{ℤ, sum}
 use Rattle.std.proofs.lemmas.List.Sums.{sum_by-cons}
 use Rattle.std.proofs.lemmas.List.{get_or-set_same}
-use Rattle.csdf_graph.specs.Rates.{rate}
-use Rattle.csdf_graph.specs.declared.parts.Kernel.TheVariants.{Sink}
+use Rattle.csdf_model.specs.Rates.{rate}
+use Rattle.csdf_model.specs.declared.parts.Kernel.TheVariants.{Sink}
 use Rattle.csdf_kernel.proofs.ValueLemmas.{length_of_value}
 use Rattle.csdf_core.specs.declared.stage.Stage.TheVariants.{Idle, Begun, Fetched, Written}
 use Rattle.csdf_core.specs.Moves.{Begin, Read, Write}

@@ -6,13 +6,13 @@ use Rattle.std.specs.List.{zip}
 use Rattle.std.specs.Global.{Vec}
 use Rattle.std.proofs.lemmas.List.{length-map, get_or-map, get_or-set_same, get_or_past}
 use Rattle.std.proofs.lemmas.List.Elements.{All-get_or, All-from_get_or, All-from_recursion}
-use Rattle.csdf_graph.specs.declared.parts.Kernel.{Kernel}
-use Rattle.csdf_graph.specs.declared.parts.Kernel.TheVariants as kernel
-use Rattle.csdf_graph.specs.declared.parts.Actor.{Actor as ActorCode}
-use Rattle.csdf_graph.specs.Graph as graph
-use Rattle.csdf_graph.specs.Graph.{Actor, Graph, actor_view, numbers_from, outputs_of}
-use Rattle.csdf_graph.specs.Rates.{rate, produced, consumed, production}
-use Rattle.csdf_graph.specs.WellFormed.{IsWellFormed, IsActor, IsChannel, IsKernel}
+use Rattle.csdf_model.specs.declared.parts.Kernel.{Kernel}
+use Rattle.csdf_model.specs.declared.parts.Kernel.TheVariants as kernel
+use Rattle.csdf_model.specs.declared.parts.Actor.{Actor as ActorCode}
+use Rattle.csdf_model.specs.Graph as graph
+use Rattle.csdf_model.specs.Graph.{Actor, Graph, actor_view, numbers_from, outputs_of}
+use Rattle.csdf_model.specs.Rates.{rate, produced, consumed, production}
+use Rattle.csdf_model.specs.WellFormed.{IsWellFormed, IsActor, IsChannel, IsKernel}
 use Rattle.csdf_analysis.specs.Acceptance.{Accepted, IsAccepted}
 use Rattle.csdf_analysis.specs.Repetition.{IsRepetition}
 use Rattle.csdf_analysis.proofs.BoundLemmas.{firing_fits, phases_within, total_within}

@@ -2,8 +2,8 @@
 use Rattle.std.specs.Prelude.{ℕ, ◌≡◌, ◌≢◌, ◌==◌, ◌<◌, ◌≤◌, ◌&&◌, ◌⊎◌, not, nat_lt, Bool, false, if◌then◌else◌, List, [], ◌∷◌, ◌++◌, ℤ, Option, Some, None}
 use Rattle.std.specs.Prelude.{Result, Ok, Err, All, length, map, filter, slice_index, slice_index_or, option_map}
 use Rattle.std.specs.List.{range_with_len}
-use Rattle.csdf_graph.specs.declared.parts.Kernel.{Kernel}
-use Rattle.csdf_graph.specs.declared.parts.Kernel.TheVariants.{Sink}
+use Rattle.csdf_model.specs.declared.parts.Kernel.{Kernel}
+use Rattle.csdf_model.specs.declared.parts.Kernel.TheVariants.{Sink}
 use Rattle.csdf_kernel.specs.declared.Job.{Job}
 use Rattle.csdf_kernel.specs.Value.{value_of, HasFilterInRange}
 use Rattle.csdf_core.specs.declared.stage.Stage.TheVariants.{Idle, Fetched}

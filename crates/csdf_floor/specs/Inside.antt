@@ -1,9 +1,9 @@
 -- What the parts of a floor show, with the room that they have, and what they keep.
 use Rattle.std.specs.Prelude.{ℕ, suc, ◌≡◌, ◌+◌, ◌<◌, ◌≤◌, ◌==◌, ◌&&◌, ◌||◌, Bool, true, false, not, List, ℤ, [], ◌∷◌, length, map, slice_index, slice_index_or}
 use Rattle.std.specs.Prelude.{slice_set}
-use Rattle.csdf_graph.specs.declared.parts.Kernel.TheVariants.{Sink}
-use Rattle.csdf_graph.specs.Graph.{Channel as GraphChannel}
-use Rattle.csdf_graph.specs.Rates.{consumed, produced, production, total}
+use Rattle.csdf_model.specs.declared.parts.Kernel.TheVariants.{Sink}
+use Rattle.csdf_model.specs.Graph.{Channel as GraphChannel}
+use Rattle.csdf_model.specs.Rates.{consumed, produced, production, total}
 use Rattle.csdf_core.specs.declared.stage.Stage.TheVariants.{Idle, Fetched}
 use Rattle.csdf_core.specs.Moves.{Move}
 use Rattle.csdf_core.specs.Moves.{Begin, Read, Write, Finish}

@@ -1,9 +1,9 @@
 -- An honest journal: what a run, of however many threads, may have written down.
 use Rattle.std.specs.Prelude.{ℕ, suc, ◌≡◌, ◌==◌, true, List, [], ◌∷◌, ◌++◌, ℤ, None, Ok, Err, if◌then◌else◌, length, map, filter, replicate, slice_index_or}
 use Rattle.std.specs.Prelude.{slice_set, ◌*◌, Option, slice_range}
-use Rattle.csdf_graph.specs.declared.parts.Kernel.{Kernel}
-use Rattle.csdf_graph.specs.declared.parts.Kernel.TheVariants.{Sink}
-use Rattle.csdf_graph.specs.Graph.{Actor}
+use Rattle.csdf_model.specs.declared.parts.Kernel.{Kernel}
+use Rattle.csdf_model.specs.declared.parts.Kernel.TheVariants.{Sink}
+use Rattle.csdf_model.specs.Graph.{Actor}
 use Rattle.csdf_analysis.specs.Acceptance.{Accepted}
 use Rattle.csdf_kernel.specs.Value.{value_of}
 use Rattle.csdf_core.specs.declared.stage.Stage.TheVariants.{Idle}

@@ -1,7 +1,7 @@
 -- What a run answers: its ending, what its sinks took, its journal, and what is told of each channel.
 use Rattle.std.specs.Prelude.{ℕ, ◌≡◌, ◌<◌, ◌≤◌, ◌+◌, false, List, [], ℤ, None, Option, Result, Ok, Err, if◌then◌else◌, length, map, slice_index, slice_index_or}
 use Rattle.std.specs.List.{range_with_len}
-use Rattle.csdf_graph.specs.declared.parts.Kernel.TheVariants.{Sink}
+use Rattle.csdf_model.specs.declared.parts.Kernel.TheVariants.{Sink}
 use Rattle.csdf_analysis.specs.Acceptance.{Accepted}
 use Rattle.csdf_core.specs.Headline.{KeepsOrder, KeepsCapacities, KeepsClosed, capacity_of}
 use Rattle.csdf_core.specs.Moves.{Move, move_of}

@@ -1,9 +1,9 @@
 -- What a run is asked for.
 use Rattle.std.specs.Prelude.{ℕ, ◌≡◌, ◌≤◌, Bool, true, false, List, [], ℤ, Option, All, length, map, slice_index_or}
 use Rattle.std.specs.Global.{Vec}
-use Rattle.csdf_graph.specs.declared.parts.Kernel.{Kernel}
-use Rattle.csdf_graph.specs.declared.parts.Kernel.TheVariants as kernel
-use Rattle.csdf_graph.specs.Graph.{Graph, Actor}
+use Rattle.csdf_model.specs.declared.parts.Kernel.{Kernel}
+use Rattle.csdf_model.specs.declared.parts.Kernel.TheVariants as kernel
+use Rattle.csdf_model.specs.Graph.{Graph, Actor}
 use Rattle.csdf_analysis.specs.Acceptance.{Accepted, IsAccepted}
 use Rattle.csdf_core.specs.Layout.{is_source_kernel}
 use Rattle.csdf_floor.specs.Journal.{Program, program_for}

@@ -3,7 +3,7 @@
 ghost use Rattle.std.specs.Prelude.{ℕ, ◌≡◌, ◌≢◌, ◌↔◌, IsTrue, All, ◌+◌, ◌<◌, ◌≤◌, [], ◌∷◌, None, true, false, pos, IfOk, OnOk, length, map};
 ghost use Rattle.std.specs.Prelude.{replicate, slice_range, suc, slice_index, slice_index_or};
 ghost use Rattle.std.specs.List.{range_with_len};
-ghost use Rattle.csdf_graph.specs.declared.parts.Kernel.TheVariants.{Sink};
+ghost use Rattle.csdf_model.specs.declared.parts.Kernel.TheVariants.{Sink};
 ghost use Rattle.csdf_core.specs.declared.stage.Stage.TheVariants.{Idle, Begun, Fetched, Written};
 ghost use Rattle.csdf_core.specs.Moves.{Begin, Read, Write, Finish, Close, move_of};
 ghost use Rattle.csdf_core.specs.Plan.{Channel as ChannelModel};
@@ -26,8 +26,8 @@ use crate::outcome::ChannelReport;
 use crate::same::{are_same_tokens, is_same_kernel};
 use crate::work::Work;
 use csdf_core::{Core, Move, Stage};
-use csdf_graph::Kernel;
 use csdf_kernel::{Counts, Inputs, Job};
+use csdf_model::Kernel;
 use std::alloc::{AllocError, Global};
 use std::marker::Model;
 

@@ -3,12 +3,12 @@
 ghost use Rattle.std.specs.Prelude.{◌≡◌, ◌++◌, codes, map, string_bytes, IfOk, OnOk};
 ghost use Rattle.std.specs.Fmt.{decimal};
 ghost use Rattle.std.specs.List.{enumerate_from};
-ghost use Rattle.csdf_graph.specs.Graph.{channel_view};
+ghost use Rattle.csdf_model.specs.Graph.{channel_view};
 ghost use Rattle.csdf_floor.specs.Report.{ending_word, name_at, names_of, newline, report_line, report_lines, report_text, room_part, state_word, tokens_part};
 
 use crate::ending::Ending;
 use crate::outcome::{ChannelReport, Outcome};
-use csdf_graph::{Channel, Graph};
+use csdf_model::{Channel, Graph};
 use std::alloc::{AllocError, Global};
 
 /// The channel's name.

@@ -1,11 +1,11 @@
 //! Whether two values are the same.
 
 ghost use Rattle.std.specs.Prelude.{◌≡◌, ◌↔◌, IsTrue, map};
-ghost use Rattle.csdf_graph.specs.Graph.{actor_view, channel_view};
+ghost use Rattle.csdf_model.specs.Graph.{actor_view, channel_view};
 ghost use Rattle.csdf_floor.specs.Work.{feeds_in};
 
 use csdf_analysis::Accepted;
-use csdf_graph::{Actor, Channel, Graph, Kernel};
+use csdf_model::{Actor, Channel, Graph, Kernel};
 
 /// Whether two kernels are the same.
 pub(crate) fn is_same_kernel(left: &Kernel, right: &Kernel) -> bool

@@ -1,9 +1,9 @@
 //! What a run is asked for, and what its firings compute from.
 
 ghost use Rattle.std.specs.Prelude.{◌≡◌, ◌↔◌, ◌==◌, ◌+◌, ◌*◌, ◌^◌, ◌<◌, ◌≤◌, All, IsTrue, IfOk, filter, length, map, slice_index, slice_index_or, slice_range};
-ghost use Rattle.csdf_graph.specs.declared.parts.Kernel.TheVariants.{Sink};
-ghost use Rattle.csdf_graph.specs.Graph.{Actor as ActorModel, Channel as ChannelModel};
-ghost use Rattle.csdf_graph.specs.Rates.{production};
+ghost use Rattle.csdf_model.specs.declared.parts.Kernel.TheVariants.{Sink};
+ghost use Rattle.csdf_model.specs.Graph.{Actor as ActorModel, Channel as ChannelModel};
+ghost use Rattle.csdf_model.specs.Rates.{production};
 ghost use Rattle.csdf_core.specs.Headline.{capacity_of};
 ghost use Rattle.csdf_core.specs.Layout.{is_source_kernel, plan_for};
 ghost use Rattle.csdf_core.specs.Ports.{outputs_at};
@@ -16,8 +16,8 @@ ghost use Rattle.csdf_floor.specs.Work.{AreFeeds, IsFeed, IsWork, feeds_in, feed
 use crate::same::{are_same_feeds, is_same_accepted, is_same_limit};
 use csdf_analysis::Accepted;
 use csdf_core::Setup;
-use csdf_graph::{Graph, Kernel};
 use csdf_kernel::Counts;
+use csdf_model::{Graph, Kernel};
 use std::alloc::{AllocError, Global};
 use std::marker::Model;
 

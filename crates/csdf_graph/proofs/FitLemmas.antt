@@ -14,20 +14,21 @@ use Rattle.csdf_graph.specs.declared.fault.At.TheVariants as at
 use Rattle.csdf_graph.specs.declared.names.Kind.{Kind}
 use Rattle.csdf_graph.specs.FaultPlace.{fault_place}
 use Rattle.csdf_graph.specs.Passes.{or_fault, each, check}
-use Rattle.csdf_graph.specs.Names.{is_name, is_free, name_at, names_of}
+use Rattle.csdf_model.specs.Names.{is_name, number_in}
+use Rattle.csdf_graph.specs.Names.{is_free, name_at, names_of}
 use Rattle.csdf_graph.specs.Names as names
-use Rattle.csdf_graph.specs.Graph.{Actor, Channel, Graph, phases_of}
+use Rattle.csdf_model.specs.Graph.{Actor, Channel, Graph, phases_of}
 use Rattle.csdf_graph.specs.Shape.{ActorDraft, ChannelDraft, Draft}
 use Rattle.csdf_graph.specs.Ranges.{RangedChannel, Ranged, actor_within, channel_within, ranged_actor, ranged_channel, counts_fit, initial_count, cells_within}
 use Rattle.csdf_graph.specs.Ranges.{range_of}
-use Rattle.csdf_graph.specs.Links.{number_in, linked, linked_at}
-use Rattle.csdf_graph.specs.Checks.{phase_lengths_fit, has_rates, has_ports}
+use Rattle.csdf_graph.specs.Links.{linked, linked_at}
+use Rattle.csdf_model.specs.Checks.{phase_lengths_fit, has_rates, has_ports}
 use Rattle.csdf_graph.specs.GraphText.{parts_of}
 use Rattle.std.specs.List.{AllByRecursion}
 use Rattle.std.proofs.lemmas.List.Elements.{recursion_from_All}
-use Rattle.csdf_graph.specs.Joined.{HasEnds}
-use Rattle.csdf_graph.specs.WellFormed.{AreNames, IsActor, IsCapacity, IsChannel, IsCells, initial_total}
-use Rattle.csdf_graph.specs.Kept.{IsUnjoined}
+use Rattle.csdf_model.specs.Joined.{HasEnds}
+use Rattle.csdf_model.specs.WellFormed.{AreNames, IsActor, IsCapacity, IsChannel, IsCells, initial_total}
+use Rattle.csdf_model.specs.Kept.{IsUnjoined}
 use Rattle.csdf_graph.proofs.PassFacts.{ok_is, some_is, bind_ok, or_fault_ok, cond_ok, cond_some, bind_some, each_keeps, each_all, each_at, check_at}
 use Rattle.csdf_graph.proofs.RangeFacts.{IsRanged, actor_within_fits, channel_within_fits, cells_within_fits}
 

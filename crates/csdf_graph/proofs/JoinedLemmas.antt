@@ -6,10 +6,10 @@ use Rattle.std.specs.List.{list_all, range_with_len}
 use Rattle.std.proofs.lemmas.Bool.{cases_Bool, and_parts, and_from, eqb-true, eq-eqb}
 use Rattle.std.proofs.lemmas.Option.{slice_get-map, slice_get-get_or, same_Some}
 use Rattle.std.proofs.lemmas.List.FromFn.{length-range_with_len}
-use Rattle.csdf_graph.specs.Graph.{Channel}
+use Rattle.csdf_model.specs.Graph.{Channel}
 use Rattle.csdf_graph.specs.Connected.{relabel, merge, join_all, groups_of, are_one_group}
-use Rattle.csdf_graph.specs.Joined.{IsEdge, Joined, here, along, HasEnds, AreJoined}
-use Rattle.csdf_graph.proofs.LinkLemmas.{length_of_map}
+use Rattle.csdf_model.specs.Joined.{IsEdge, Joined, here, along, HasEnds, AreJoined}
+use Rattle.csdf_model.proofs.LinkLemmas.{length_of_map}
 
 -- ---- walks
 

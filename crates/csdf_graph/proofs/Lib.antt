@@ -2,13 +2,9 @@ pub mod TreeLemmas
 pub mod PassLemmas
 pub mod NameLemmas
 pub mod RangeLemmas
-pub mod LinkLemmas
 pub mod CheckLemmas
 pub mod ReadLemmas
 pub mod PassFacts
 pub mod RangeFacts
 pub mod FitLemmas
-pub mod CopyLemmas
 pub mod JoinedLemmas
-pub mod PortLemmas
-pub mod RateLemmas

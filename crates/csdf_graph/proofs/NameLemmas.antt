@@ -11,7 +11,8 @@ use Rattle.csdf_graph.specs.declared.fault.GraphFault.TheVariants.{Name}
 use Rattle.csdf_graph.specs.declared.names.Kind.{Kind}
 use Rattle.csdf_graph.specs.FaultPlace.{fault_place}
 use Rattle.csdf_graph.specs.Passes.{each}
-use Rattle.csdf_graph.specs.Names.{is_name, is_free, at, name_at, names_of}
+use Rattle.csdf_model.specs.Names.{is_name}
+use Rattle.csdf_graph.specs.Names.{is_free, at, name_at, names_of}
 use Rattle.csdf_graph.proofs.PassLemmas.{with_front, each-goes_on, each-fails}
 use Rattle.csdf_graph.proofs.TreeLemmas.{list_any_map}
 

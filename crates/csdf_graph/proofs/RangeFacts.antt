@@ -9,14 +9,14 @@ use Rattle.std.specs.Int.Signed.{le_z_yes}
 use Rattle.std.proofs.Math.Seq.{drop-append_seam}
 use Rattle.std.proofs.Common.{length-append}
 use Rattle.std.proofs.lemmas.List.{length-replicate}
-use Rattle.csdf_graph.specs.declared.parts.Kernel.{Kernel}
-use Rattle.csdf_graph.specs.declared.parts.Kernel.TheVariants as kernel
+use Rattle.csdf_model.specs.declared.parts.Kernel.{Kernel}
+use Rattle.csdf_model.specs.declared.parts.Kernel.TheVariants as kernel
 use Rattle.csdf_graph.specs.Tree.{all_some}
-use Rattle.csdf_graph.specs.Graph.{Actor}
+use Rattle.csdf_model.specs.Graph.{Actor}
 use Rattle.csdf_graph.specs.Shape.{KernelDraft, source, sink, copy, sum, fir, ActorDraft, ChannelDraft}
 use Rattle.csdf_graph.specs.Ranges.{number_within, signed_within, weights_within, kernel_within, actor_within, RangedChannel, rates_within, tokens_within}
 use Rattle.csdf_graph.specs.Ranges.{capacity_within, initial_count, cells_within, channel_within}
-use Rattle.csdf_graph.specs.WellFormed.{IsWeight, IsFilter, IsKernel, IsActor}
+use Rattle.csdf_model.specs.WellFormed.{IsWeight, IsFilter, IsKernel, IsActor}
 use Rattle.csdf_graph.proofs.PassFacts.{some_is, bind_some, map_some, cond_some, all_some_length, all_some_all}
 
 pub number_within_bounds : (low high : ℕ) (z : ℤ) (n : ℕ) → number_within low high z ≡ Some n → (low ≤ n) × (n ≤ high)

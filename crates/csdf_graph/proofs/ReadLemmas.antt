@@ -6,11 +6,11 @@ use Rattle.toml.specs.Data.{Members}
 use Rattle.toml.specs.Parse.{parse_document}
 use Rattle.std.proofs.Common.{sym, subst, Result, Ok, Err}
 use Rattle.std.specs.Prelude.{MatchResult, IsTrue, ◌↔◌}
-use Rattle.csdf_graph.specs.Joined.{AreJoined}
+use Rattle.csdf_model.specs.Joined.{AreJoined}
 use Rattle.csdf_graph.specs.declared.fault.GraphFault.{GraphFault}
 use Rattle.csdf_graph.specs.declared.fault.GraphFault.TheVariants.{NotToml}
 use Rattle.csdf_graph.specs.Passes.{or_fault}
-use Rattle.csdf_graph.specs.Graph.{Graph, Channel}
+use Rattle.csdf_model.specs.Graph.{Graph, Channel}
 use Rattle.csdf_graph.specs.GraphText.{unjoined_in, IsJudged, IsGraphIn, IsGraphOf, file_of}
 
 pub map_map : {A B C : Type 0} (f : B → C) (g : A → B) (xs : List A) → map f (map g xs) ≡ map (λ x. f (g x)) xs

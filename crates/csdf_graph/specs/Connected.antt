@@ -1,7 +1,7 @@
 -- How the test of connection goes: groups of actors, joined channel by channel.
 use Rattle.std.specs.Prelude.{ℕ, Bool, List, [], ◌∷◌, map, slice_index, Option, Some, None, slice_get, ◌==◌, if◌then◌else◌}
 use Rattle.std.specs.List.{list_all, range_with_len}
-use Rattle.csdf_graph.specs.Graph.{Channel}
+use Rattle.csdf_model.specs.Graph.{Channel}
 
 -- one group takes the number of another
 abbrev pub relabel : ℕ → ℕ → List ℕ → List ℕ

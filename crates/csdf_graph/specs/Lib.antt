@@ -1,17 +1,11 @@
-pub mod Checks
 pub mod Connected
 pub mod FaultPlace
-pub mod Graph
 pub mod GraphText
-pub mod Joined
-pub mod Kept
 pub mod Links
 pub mod Names
 pub mod Optional
 pub mod Passes
 pub mod Ranges
-pub mod Rates
 pub mod ScriptText
 pub mod Shape
 pub mod Tree
-pub mod WellFormed

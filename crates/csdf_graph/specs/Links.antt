@@ -1,17 +1,13 @@
 -- The ends of each channel are actors, by name in the file and by number in the graph.
-use Rattle.std.specs.Prelude.{ℕ, List, Option, Some, position, Result}
-use Rattle.std.specs.Str.{bytes_eq}
+use Rattle.std.specs.Prelude.{ℕ, List, Option, Some, Result}
+use Rattle.csdf_model.specs.Names.{number_in}
 use Rattle.csdf_graph.specs.declared.fault.GraphFault.{GraphFault}
 use Rattle.csdf_graph.specs.declared.fault.GraphFault.TheVariants as fault
-use Rattle.csdf_graph.specs.Graph.{Channel}
+use Rattle.csdf_model.specs.Graph.{Channel}
 use Rattle.csdf_graph.specs.Ranges.{RangedChannel}
 use Rattle.csdf_graph.specs.FaultPlace.{fault_place}
 use Rattle.csdf_graph.specs.Optional.{◌>>=◌}
 use Rattle.csdf_graph.specs.Passes.{or_fault}
-
--- the place of a name, which is its number
-abbrev pub number_in : List (List ℕ) → List ℕ → Option ℕ
-number_in names name = position (bytes_eq name) names
 
 unfoldable pub linked : List (List ℕ) → RangedChannel → Option Channel
 linked names c = do

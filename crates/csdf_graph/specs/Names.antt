@@ -1,8 +1,8 @@
 -- Names: each has the right form, and none is used twice.
-use Rattle.std.specs.Prelude.{ℕ, Bool, false, not, ◌&&◌, ◌||◌, ◌==◌, nat_le, List, [], ◌∷◌, length, take, if◌then◌else◌, Result, Ok, Err}
-use Rattle.std.specs.Char.{is_ascii_alphabetic, is_ascii_alphanumeric}
-use Rattle.std.specs.List.{list_any, list_all}
+use Rattle.std.specs.Prelude.{ℕ, Bool, not, ◌&&◌, List, take, if◌then◌else◌, Result, Ok, Err}
+use Rattle.std.specs.List.{list_any}
 use Rattle.std.specs.Str.{bytes_eq}
+use Rattle.csdf_model.specs.Names.{is_name}
 use Rattle.csdf_graph.specs.declared.fault.At.{At}
 use Rattle.csdf_graph.specs.declared.fault.At.TheVariants as place
 use Rattle.csdf_graph.specs.declared.names.Kind.{Kind}
@@ -11,14 +11,6 @@ use Rattle.csdf_graph.specs.declared.fault.GraphFault.{GraphFault}
 use Rattle.csdf_graph.specs.declared.fault.GraphFault.TheVariants.{Name}
 use Rattle.csdf_graph.specs.FaultPlace.{fault_place}
 use Rattle.csdf_graph.specs.Passes.{each}
-
-abbrev pub is_word_byte : ℕ → Bool
-is_word_byte c = is_ascii_alphanumeric c || c == 95
-
--- an ASCII letter, and at most 31 letters, digits or underscores
-abbrev pub is_name : List ℕ → Bool
-is_name [] = false
-is_name (c ∷ cs) = is_ascii_alphabetic c && (nat_le (length cs) 31 && list_all is_word_byte cs)
 
 -- a name that is none of these
 abbrev pub is_free : List ℕ → List (List ℕ) → Bool

@@ -4,11 +4,11 @@ use Rattle.std.specs.Prelude.{option_map, if◌then◌else◌, Result, Ok, Err}
 use Rattle.csdf_graph.specs.declared.fault.GraphFault.{GraphFault}
 use Rattle.csdf_graph.specs.declared.fault.GraphFault.TheVariants as fault
 use Rattle.csdf_graph.specs.declared.fault.At.TheVariants as at
-use Rattle.csdf_graph.specs.declared.parts.Kernel.{Kernel}
-use Rattle.csdf_graph.specs.declared.parts.Kernel.TheVariants as kernel
+use Rattle.csdf_model.specs.declared.parts.Kernel.{Kernel}
+use Rattle.csdf_model.specs.declared.parts.Kernel.TheVariants as kernel
 use Rattle.csdf_graph.specs.declared.ranges.RangedChannel.{RangedChannel as RangedCode}
 use Rattle.csdf_graph.specs.declared.ranges.Ranged.{Ranged as FileCode}
-use Rattle.csdf_graph.specs.Graph.{Actor, actor_view}
+use Rattle.csdf_model.specs.Graph.{Actor, actor_view}
 use Rattle.csdf_graph.specs.Shape.{KernelDraft, source, sink, copy, sum, fir, ActorDraft, ChannelDraft, Draft}
 use Rattle.csdf_graph.specs.Passes as passes
 use Rattle.csdf_graph.specs.FaultPlace.{fault_place}

@@ -12,7 +12,7 @@ use Rattle.csdf_graph.specs.Optional.{◌>>=◌}
 use Rattle.csdf_graph.specs.Passes.{or_fault}
 use Rattle.csdf_graph.specs.Tree.{found_or, has_only, integer_or, optional_integer_at, texts_or_none}
 use Rattle.csdf_graph.specs.Ranges.{number_within}
-use Rattle.csdf_graph.specs.Graph.{Graph}
+use Rattle.csdf_model.specs.Graph.{Graph}
 use Rattle.csdf_graph.specs.GraphText.{file_of, IsGraphOf}
 
 -- the greatest number of firings of each actor, the tokens of each source, the greatest number of firings of all, and the lines

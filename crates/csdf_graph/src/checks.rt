@@ -3,11 +3,11 @@
 ghost use Rattle.std.specs.Prelude.{◌≡◌, ◌==◌, not, map, sum};
 ghost use Rattle.csdf_graph.specs.declared.fault.GraphFault.TheVariants.{PhaseLength, ZeroRate, KernelPorts};
 ghost use Rattle.csdf_graph.specs.Passes.{Gives, check, itself};
-ghost use Rattle.csdf_graph.specs.Graph.{actor_view, channel_view, phases_of, input_count, output_count};
-ghost use Rattle.csdf_graph.specs.Checks.{phase_lengths_fit, has_rates, ports_fit, has_ports};
+ghost use Rattle.csdf_model.specs.Graph.{actor_view, channel_view, phases_of, input_count, output_count};
+ghost use Rattle.csdf_model.specs.Checks.{phase_lengths_fit, has_rates, ports_fit, has_ports};
 
 use crate::fault::{GraphFault, fault_place};
-use crate::parts::{Actor, Channel, Kernel};
+use csdf_model::{Actor, Channel, Kernel};
 
 /// How many phases an actor has, and none where there is no such actor.
 fn phases_of(actors: &[Actor], number: u32) -> usize

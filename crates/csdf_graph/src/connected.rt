@@ -2,11 +2,11 @@
 
 ghost use Rattle.std.specs.Prelude.{◌≡◌, ◌==◌, map, IfOk, IsTrue, slice_get, ◌↔◌};
 ghost use Rattle.std.specs.List.{list_all, range_with_len};
-ghost use Rattle.csdf_graph.specs.Graph.{channel_view};
-ghost use Rattle.csdf_graph.specs.Joined.{HasEnds, AreJoined};
+ghost use Rattle.csdf_model.specs.Graph.{channel_view};
+ghost use Rattle.csdf_model.specs.Joined.{HasEnds, AreJoined};
 ghost use Rattle.csdf_graph.specs.Connected.{relabel, merge, groups_of, are_one_group};
 
-use crate::parts::Channel;
+use csdf_model::Channel;
 use std::alloc::{AllocError, Global};
 
 fn relabeled(

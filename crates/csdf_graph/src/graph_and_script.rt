@@ -5,10 +5,10 @@ ghost use Rattle.csdf_graph.specs.GraphText.{IsGraphOf};
 ghost use Rattle.csdf_graph.specs.ScriptText.{script_view, script_of, IsFirstFaultOf};
 
 use crate::fault::GraphFault;
-use crate::graph::Graph;
 use crate::read::{file_of, graph_of};
 use crate::script::Script;
 use crate::script_text::script_in;
+use csdf_model::Graph;
 use std::alloc::Global;
 
 /// A graph, and the script that stands in its file.

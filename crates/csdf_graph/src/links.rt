@@ -2,24 +2,16 @@
 
 ghost use Rattle.std.specs.Prelude.{◌≡◌, map, string_bytes, ◌<◌, ◌≤◌, length, IfSome};
 ghost use Rattle.csdf_graph.specs.Passes.{Gives, Reads, each};
-ghost use Rattle.csdf_graph.specs.Graph.{channel_view};
+ghost use Rattle.csdf_model.specs.Graph.{channel_view};
 ghost use Rattle.csdf_graph.specs.Ranges.{ranged_view};
-ghost use Rattle.csdf_graph.specs.Links.{number_in, linked, linked_at};
+ghost use Rattle.csdf_model.specs.Names.{number_in};
+ghost use Rattle.csdf_graph.specs.Links.{linked, linked_at};
 
 use crate::fault::{GraphFault, Misfit, answer_of, fault_place};
-use crate::parts::Channel;
 use crate::ranges::RangedChannel;
+use csdf_model::{Channel, number_in};
 use indexmap::IndexSet;
 use std::alloc::Global;
-
-/// The number of a name.
-#[tactic(auto, using(crate::proofs::LinkLemmas::position_map, crate::proofs::LinkLemmas::length_of_map))]
-pub(crate) fn number_in(names: &IndexSet<String>, name: &str) -> Option<usize>
-    ensures value { result ≡ number_in (map string_bytes names.now.keys) name.now }
-    ensures within { IfSome result (λ i. i < length (map string_bytes names.now.keys)) }
-{
-    names.get_index_of(name)
-}
 
 /// The number of the actor with the name.
 fn end_of(names: &IndexSet<String>, name: &str) -> Option<u32>

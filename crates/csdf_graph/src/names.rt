@@ -3,7 +3,8 @@
 ghost use Rattle.std.specs.Prelude.{◌≡◌, map, string_bytes};
 ghost use Rattle.std.specs.List.{list_all};
 ghost use Rattle.csdf_graph.specs.Passes.{Gives};
-ghost use Rattle.csdf_graph.specs.Names.{is_word_byte, is_name, is_free, at, names_of};
+ghost use Rattle.csdf_model.specs.Names.{is_word_byte, is_name};
+ghost use Rattle.csdf_graph.specs.Names.{is_free, at, names_of};
 
 use crate::fault::{At, GraphFault, fault_place};
 use indexmap::IndexSet;

@@ -3,14 +3,14 @@
 ghost use Rattle.std.specs.Prelude.{◌≡◌, ◌-◌, ◌≤◌, ◌++◌, nat_le, pos, replicate, map, option_map, length, IfOk, OnSome};
 ghost use Rattle.csdf_graph.specs.Passes.{Gives, Reads, each};
 ghost use Rattle.csdf_graph.specs.Tree.{all_some};
-ghost use Rattle.csdf_graph.specs.Graph.{actor_view};
+ghost use Rattle.csdf_model.specs.Graph.{actor_view};
 ghost use Rattle.csdf_graph.specs.Shape.{kernel_view, actor_view as draft_of_actor, channel_view as draft_of_channel, draft_view};
 ghost use Rattle.csdf_graph.specs.Ranges.{number_within, signed_within, weights_within, kernel_within, actor_within, tokens_within, capacity_within};
 ghost use Rattle.csdf_graph.specs.Ranges.{initial_count, cells_within, channel_within, ranged_view, ranged_actor, ranged_channel, file_view, range_of};
 
 use crate::fault::{At, GraphFault, Misfit, answer_of, fault_place};
-use crate::parts::{Actor, Kernel};
 use crate::shape::{ActorDraft, ChannelDraft, Draft, KernelDraft};
+use csdf_model::{Actor, Kernel};
 use std::alloc::{AllocError, Global};
 
 pub(crate) fn number_within(low: u32, high: u32, number: i64) -> Option<u32>

@@ -1,6 +1,6 @@
 -- The definitions at worked examples.
 use Rattle.std.proofs.Common.{◌≡◌, [], ◌∷◌, pos, negsuc, refl}
-use Rattle.csdf_graph.specs.declared.parts.Kernel.TheVariants.{Copy, Sum, Fir}
+use Rattle.csdf_model.specs.declared.parts.Kernel.TheVariants.{Copy, Sum, Fir}
 use Rattle.csdf_kernel.specs.Value.{places, clamp, floor, copy_token, convolution, filter_token, value_of}
 
 sum_at_the_top : value_of Sum (2 ∷ []) (pos 2147483647 ∷ pos 1 ∷ []) ≡ pos 2147483647 ∷ pos 2147483647 ∷ []

@@ -5,8 +5,8 @@ use Rattle.std.proofs.lemmas.List.{length-replicate, replicate_more, replicate-a
 use Rattle.std.proofs.lemmas.List.Sums.{sum_by-cons}
 use Rattle.std.proofs.lemmas.Int.{ints}
 use Rattle.std.proofs.Math.Nat.{zero-div}
-use Rattle.csdf_graph.specs.declared.parts.Kernel.{Kernel}
-use Rattle.csdf_graph.specs.declared.parts.Kernel.TheVariants.{Source, Sink, Copy, Sum, Fir}
+use Rattle.csdf_model.specs.declared.parts.Kernel.{Kernel}
+use Rattle.csdf_model.specs.declared.parts.Kernel.TheVariants.{Source, Sink, Copy, Sum, Fir}
 use Rattle.csdf_kernel.specs.Value.{places, token_at, total, clamp, floor, copy_token, convolution, filter_token, value_of}
 use Rattle.csdf_kernel.proofs.PlaceLemmas.{length_places, places_none, places_more, length_channels}
 

@@ -12,7 +12,7 @@ mod outputs;
 #[cfg(test)]
 mod tests;
 
-use csdf_graph::Kernel;
+use csdf_model::Kernel;
 use outputs::{Outputs, outputs_of};
 use smallvec::SmallVec;
 use std::alloc::{AllocError, Global};

@@ -4,7 +4,7 @@ ghost use Rattle.csdf_kernel.specs.Value.{value_of, HasFilterInRange};
 
 use crate::channels::{push_copies, push_filtered, push_same, push_source};
 use crate::numbers::{clamped, sum_of};
-use csdf_graph::Kernel;
+use csdf_model::Kernel;
 use smallvec::SmallVec;
 use std::alloc::{AllocError, Global};
 

@@ -1,6 +1,6 @@
 //! The worked examples, and a job at its limits.
 use crate::{Counts, Inputs, Job, eval};
-use csdf_graph::Kernel;
+use csdf_model::Kernel;
 use std::alloc::Global;
 use std::process::Abort;
 use std::test::Fail;

@@ -9,7 +9,7 @@ use Rattle.std.proofs.lemmas.List.Elements.{All-from_get_or}
 use Rattle.std.proofs.lemmas.List.FromFn.{get_or-map-range_with_len}
 use Rattle.csdf_bytes.specs.declared.tokens.TokenFault.{TokenFault}
 use Rattle.csdf_bytes.specs.declared.tokens.TokenFault.TheVariants.{TooMany}
-use Rattle.csdf_graph.specs.Graph.{Actor, Graph, numbers_from}
+use Rattle.csdf_model.specs.Graph.{Actor, Graph, numbers_from}
 use Rattle.csdf_bytes.specs.TokenText.{collected, entry_of, no_more_than, token_text, tokens_in, tokens_up_to, words_from}
 use Rattle.csdf_core.specs.Layout.{is_source_kernel}
 use Rattle.csdf_core.specs.Streams.{IsPrefix}

@@ -5,7 +5,7 @@ use Rattle.std.specs.Result.{result_map_both}
 use Rattle.csdf_graph.specs.declared.fault.GraphFault.TheVariants as graph
 use Rattle.csdf_bytes.specs.declared.tokens.TokenFault.{TokenFault}
 use Rattle.csdf_bytes.specs.declared.tokens.TokenFault.TheVariants as token
-use Rattle.csdf_graph.specs.Graph.{Actor, Graph, numbers_from}
+use Rattle.csdf_model.specs.Graph.{Actor, Graph, numbers_from}
 use Rattle.csdf_graph.specs.GraphText.{IsGraphOf}
 use Rattle.csdf_bytes.specs.TokenText.{token_text, tokens_in}
 use Rattle.csdf_analysis.specs.Acceptance.{Accepted, IsAccepted, IsNotAccepted}

@@ -1,7 +1,7 @@
 //! A run from texts to texts.
 
 ghost use Rattle.std.specs.Prelude.{◌≡◌, ◌++◌, ◌∷◌, ◌≤◌, [], Ok, IfErr, IfOk, OnOk, length, map, slice_index_or, string_bytes};
-ghost use Rattle.csdf_graph.specs.Graph.{actor_view};
+ghost use Rattle.csdf_model.specs.Graph.{actor_view};
 ghost use Rattle.csdf_bytes.specs.TokenText.{token_line, token_text};
 ghost use Rattle.csdf_core.specs.Layout.{is_source_kernel};
 ghost use Rattle.csdf_run.specs.Texts.{AreTextsOf, IsFeedFault, IsFileFault, IsFileOf, IsReadFault, IsRefusal, TellOutcome, TellRun, TellSequentialRun};

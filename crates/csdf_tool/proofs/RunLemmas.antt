@@ -3,9 +3,9 @@ use Rattle.std.proofs.Common.{◌≡◌, ◌≢◌, ℕ, suc, zero, ◌+◌, ◌
 use Rattle.std.proofs.Common.{subst, ◌∙◌, arith, append_assoc, inl, inr, Ok}
 use Rattle.std.proofs.lemmas.List.{get_or-drop, get_or-map, length-map}
 use Rattle.std.specs.String.{string_bytes}
-use Rattle.csdf_graph.specs.Graph.{Actor, Graph, actor_view}
+use Rattle.csdf_model.specs.Graph.{Actor, Graph, actor_view}
 use Rattle.csdf_graph.specs.GraphText.{IsGraphOf}
-use Rattle.csdf_graph.specs.declared.parts.Actor.{Actor as ActorCode}
+use Rattle.csdf_model.specs.declared.parts.Actor.{Actor as ActorCode}
 use Rattle.csdf_core.specs.Layout.{is_source_kernel}
 use Rattle.csdf_floor.specs.Work.{is_sink_kernel}
 use Rattle.csdf_answers.specs.declared.fault.ToolFault.{ToolFault}

@@ -4,7 +4,7 @@ use Rattle.std.specs.List.{Any}
 use Rattle.csdf_graph.specs.declared.fault.GraphFault.{GraphFault}
 use Rattle.csdf_bytes.specs.declared.tokens.TokenFault.{TokenFault}
 use Rattle.csdf_bytes.specs.declared.tokens.TokenFault.TheVariants as token
-use Rattle.csdf_graph.specs.Graph.{Actor, Graph}
+use Rattle.csdf_model.specs.Graph.{Actor, Graph}
 use Rattle.csdf_graph.specs.GraphText.{IsGraphOf}
 use Rattle.csdf_core.specs.Layout.{is_source_kernel}
 use Rattle.csdf_floor.specs.declared.fault.RunFault.{RunFault}

@@ -2,7 +2,7 @@
 
 ghost use Rattle.std.specs.Prelude.{◌≡◌, ◌≢◌, ℕ, List, [], true, Ok, Err, length, map, slice_index_or, IfErr, IfOk, OnOk};
 ghost use Rattle.std.specs.Io.KnownBytes.{Appends};
-ghost use Rattle.csdf_graph.specs.Graph.{actor_view};
+ghost use Rattle.csdf_model.specs.Graph.{actor_view};
 ghost use Rattle.csdf_graph.specs.GraphText.{IsGraphOf};
 ghost use Rattle.csdf_core.specs.Layout.{is_source_kernel};
 ghost use Rattle.csdf_run.specs.Texts.{TellRun, TellSequentialRun, source_count, texts_in};

@@ -1,7 +1,7 @@
 //! The least capacities under which a period of a graph completes.
 
 ghost use Rattle.std.specs.Prelude.{◌≡◌, ◌≤◌, All, IfErr, IfOk, length, map};
-ghost use Rattle.csdf_graph.specs.Graph.{channel_view};
+ghost use Rattle.csdf_model.specs.Graph.{channel_view};
 ghost use Rattle.csdf_analysis.specs.Repetition.{HaveRoom, IsRepetition, IsWithin, full_capacity};
 ghost use Rattle.csdf_analysis.specs.Capacities.{AreLeastCapacities, HasNoCapacities, full_capacities};
 ghost use Rattle.csdf_analysis.specs.Lowering.{IsLowered, first_bound, first_bounds};
@@ -10,7 +10,7 @@ use crate::calls::raise::{completes, raise};
 use crate::calls::repetition::full_capacity;
 use crate::fault::AcceptFault;
 use crate::vector::Vector;
-use csdf_graph::{Channel, Graph};
+use csdf_model::{Channel, Graph};
 use std::alloc::{AllocError, Global};
 
 /// The initial tokens of each channel and all that its producer puts in within a period.

@@ -1,7 +1,7 @@
 //! What a channel asks of its two actors, and what the channels before it ask.
 
 ghost use Rattle.std.specs.Prelude.{All, ◌≡◌, ◌≤◌, ◌<◌, IfErr, IfOk, List, length, map, take};
-ghost use Rattle.csdf_graph.specs.Graph.{Channel as ChannelModel, actor_view, channel_view};
+ghost use Rattle.csdf_model.specs.Graph.{Channel as ChannelModel, actor_view, channel_view};
 ghost use Rattle.csdf_analysis.specs.Demands.{AskBefore, Asks, IsDemand, IsLowestOf};
 ghost use Rattle.csdf_analysis.specs.Members.{AreEntries, AreMembers, IsLink};
 ghost use Rattle.csdf_analysis.specs.Repetition.{IsRefused};
@@ -11,7 +11,7 @@ use crate::demand::{Demand, Ratio};
 use crate::fault::AcceptFault;
 use crate::gcd::gcd;
 use crate::members::Member;
-use csdf_graph::{Actor, Channel, Graph};
+use csdf_model::{Actor, Channel, Graph};
 use std::alloc::Global;
 
 /// The ratio in lowest terms.

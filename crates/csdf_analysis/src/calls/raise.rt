@@ -9,7 +9,7 @@ use crate::mask::all;
 use crate::net::Net;
 use crate::run::Run;
 use crate::vector::Vector;
-use csdf_graph::Graph;
+use csdf_model::Graph;
 use std::alloc::{AllocError, Global};
 
 /// The same numbers in a list of their own.

@@ -1,8 +1,8 @@
 //! How often each actor of a graph fires in a period.
 
 ghost use Rattle.std.specs.Prelude.{◌≡◌, ◌≤◌, ◌<◌, All, IfOk, IfErr, length, map};
-ghost use Rattle.csdf_graph.specs.Graph.{actor_view, channel_view};
-ghost use Rattle.csdf_graph.specs.WellFormed.{IsActor};
+ghost use Rattle.csdf_model.specs.Graph.{actor_view, channel_view};
+ghost use Rattle.csdf_model.specs.WellFormed.{IsActor};
 ghost use Rattle.csdf_analysis.specs.Repetition.{full_capacity, IsWithin, HaveRoom, IsFirstOver, AreFirings, IsLeastRepetition, IsRepetition, IsRefused};
 ghost use Rattle.csdf_analysis.specs.Members.{IsLink};
 
@@ -10,7 +10,7 @@ use crate::balance::balanced;
 use crate::fault::AcceptFault;
 use crate::members::Member;
 use crate::vector::Vector;
-use csdf_graph::{Actor, Channel, Graph};
+use csdf_model::{Actor, Channel, Graph};
 use std::alloc::{AllocError, Global};
 
 /// The greatest full capacity of a channel.

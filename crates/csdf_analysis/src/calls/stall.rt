@@ -11,7 +11,7 @@ use crate::run::Run;
 use crate::stall::{Bounds, Stall};
 use crate::vector::Vector;
 use crate::waits::waits_of;
-use csdf_graph::Graph;
+use csdf_model::Graph;
 use std::alloc::{AllocError, Global};
 
 /// The capacities that bound a run.

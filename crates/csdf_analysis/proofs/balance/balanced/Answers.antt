@@ -1,7 +1,7 @@
 use Rattle.std.proofs.Common.{◌<◌, List, [], length, map, subst, sym, ap, ◌∙◌, arith}
 use Rattle.std.specs.Prelude.{option_map}
 use Rattle.std.proofs.lemmas.List.{length-map}
-use Rattle.csdf_graph.specs.Graph.{actor_view, channel_view}
+use Rattle.csdf_model.specs.Graph.{actor_view, channel_view}
 use Rattle.csdf_analysis.specs.declared.members.Member.{Member}
 use Rattle.csdf_analysis.specs.Members.{IsLink, AreMembers, Joins, alone}
 use Rattle.csdf_analysis.proofs.LeastLemmas.{alone_members, first_unbalanced, next_members, channel_at, channel_has}

@@ -1,5 +1,5 @@
 use Rattle.std.proofs.Common.{map, take}
-use Rattle.csdf_graph.specs.Graph.{actor_view, channel_view}
+use Rattle.csdf_model.specs.Graph.{actor_view, channel_view}
 use Rattle.csdf_analysis.specs.Members.{AreMembers}
 use Rattle.csdf_analysis.proofs.balance.balanced.Given as goal
 

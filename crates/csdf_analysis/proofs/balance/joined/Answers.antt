@@ -1,7 +1,7 @@
 use Rattle.std.proofs.Common.{List, map, subst, sym, ◌∙◌}
 use Rattle.std.specs.Prelude.{option_map}
 use Rattle.std.proofs.lemmas.Result.{IfOk-weaker}
-use Rattle.csdf_graph.specs.Graph.{actor_view, channel_view}
+use Rattle.csdf_model.specs.Graph.{actor_view, channel_view}
 use Rattle.csdf_analysis.specs.declared.members.Member.{Member}
 use Rattle.csdf_analysis.specs.Members.{Moves}
 use Rattle.csdf_analysis.proofs.JoinLemmas.{merge_joins, merge_read, same_group_read, put_read, taken_read, same_keeps, same_refuses}

@@ -1,5 +1,5 @@
 use Rattle.std.proofs.Common.{◌≡◌, ◌<◌, length, get_or, below_more, inl, inr, subst, sym, arith}
-use Rattle.csdf_graph.specs.Graph.{Channel, channel_view}
+use Rattle.csdf_model.specs.Graph.{Channel, channel_view}
 use Rattle.csdf_analysis.specs.Waking.{IsIn}
 use Rattle.csdf_analysis.proofs.WakeLemmas.{consumers_all}
 use Rattle.csdf_analysis.proofs.LowerLemmas.{seen_ends}

@@ -1,6 +1,6 @@
 use Rattle.std.proofs.Common.{◌≡◌, ◌<◌, ℕ, Some, length}
 use Rattle.std.specs.Prelude.{slice_get, slice_index}
-use Rattle.csdf_graph.specs.Graph.{Channel}
+use Rattle.csdf_model.specs.Graph.{Channel}
 use Rattle.csdf_analysis.specs.Waking.{AreActors, IsIn}
 use Rattle.csdf_analysis.proofs.neighbours.with_producers.Given as goal
 

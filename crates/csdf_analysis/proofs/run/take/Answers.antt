@@ -1,5 +1,5 @@
 use Rattle.std.proofs.Common.{◌≡◌, ◌==◌, ◌+◌, ◌-◌, ◌<◌, length, get_or, refl, ap, sym, subst, ◌∙◌, arith}
-use Rattle.csdf_graph.specs.Graph.{Channel, phases_of}
+use Rattle.csdf_model.specs.Graph.{Channel, phases_of}
 use Rattle.csdf_analysis.proofs.FitLemmas.{input_end}
 use Rattle.csdf_analysis.proofs.FiringLemmas.{still, one_changed, all_changed, there}
 use Rattle.csdf_analysis.proofs.run.take.Goals as goal

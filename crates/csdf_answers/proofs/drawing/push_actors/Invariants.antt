@@ -1,6 +1,6 @@
 use Rattle.std.proofs.Common.{◌≡◌, ◌++◌, drop, map, string_bytes}
 use Rattle.std.specs.List.{enumerate_from}
-use Rattle.csdf_graph.specs.Graph.{actor_view}
+use Rattle.csdf_model.specs.Graph.{actor_view}
 use Rattle.csdf_answers.specs.Drawing.{actor_lines}
 use Rattle.csdf_answers.proofs.drawing.push_actors.Given as goal
 

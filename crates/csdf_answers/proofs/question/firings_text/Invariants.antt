@@ -1,5 +1,5 @@
 use Rattle.std.proofs.Common.{◌≡◌, map, take, string_bytes}
-use Rattle.csdf_graph.specs.Graph.{actor_view}
+use Rattle.csdf_model.specs.Graph.{actor_view}
 use Rattle.csdf_answers.specs.Described.{actor_names, schedule_text}
 use Rattle.csdf_answers.proofs.question.firings_text.Given as goal
 

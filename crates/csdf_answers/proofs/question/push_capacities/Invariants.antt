@@ -1,6 +1,6 @@
 use Rattle.std.proofs.Common.{◌≡◌, ◌++◌, drop, map, string_bytes}
 use Rattle.std.specs.List.{enumerate_from}
-use Rattle.csdf_graph.specs.Graph.{channel_view}
+use Rattle.csdf_model.specs.Graph.{channel_view}
 use Rattle.csdf_answers.specs.Printed.{names_of}
 use Rattle.csdf_answers.specs.Described.{capacity_lines}
 use Rattle.csdf_answers.proofs.question.push_capacities.Given as goal

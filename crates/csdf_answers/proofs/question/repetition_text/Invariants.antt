@@ -1,6 +1,6 @@
 use Rattle.std.proofs.Common.{◌≡◌, ◌++◌, drop, map, string_bytes}
 use Rattle.std.specs.List.{enumerate_from}
-use Rattle.csdf_graph.specs.Graph.{actor_view}
+use Rattle.csdf_model.specs.Graph.{actor_view}
 use Rattle.csdf_answers.specs.Described.{actor_names, repetition_text}
 use Rattle.csdf_answers.proofs.question.repetition_text.Given as goal
 

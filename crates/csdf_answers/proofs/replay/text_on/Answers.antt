@@ -1,5 +1,5 @@
 use Rattle.std.proofs.Common.{map, refl, ap, subst, ◌∙◌, string_bytes}
-use Rattle.csdf_graph.specs.Graph.{Graph}
+use Rattle.csdf_model.specs.Graph.{Graph}
 use Rattle.csdf_core.specs.State.{opening}
 use Rattle.csdf_answers.specs.Lines.{line_view}
 use Rattle.csdf_answers.specs.Printed.{names_of}

@@ -1,6 +1,6 @@
 use Rattle.std.proofs.Common.{◌+◌, ◌∷◌, map, drop, ap, sym, subst, ◌∙◌, string_bytes}
 use Rattle.std.proofs.lemmas.List.{drop_more, drop_all}
-use Rattle.csdf_graph.specs.Graph.{channel_view}
+use Rattle.csdf_model.specs.Graph.{channel_view}
 use Rattle.csdf_answers.specs.Lines.{line_view}
 use Rattle.csdf_answers.specs.Printed.{names_of}
 use Rattle.csdf_answers.proofs.TurnLemmas.{GoesOn, goes_on-more, goes_on-end}

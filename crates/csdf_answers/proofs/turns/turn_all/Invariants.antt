@@ -1,5 +1,5 @@
 use Rattle.std.proofs.Common.{drop, map, string_bytes}
-use Rattle.csdf_graph.specs.Graph.{channel_view}
+use Rattle.csdf_model.specs.Graph.{channel_view}
 use Rattle.csdf_answers.specs.Lines.{line_view}
 use Rattle.csdf_answers.specs.Printed.{names_of}
 use Rattle.csdf_answers.proofs.TurnLemmas.{GoesOn}

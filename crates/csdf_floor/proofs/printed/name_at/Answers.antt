@@ -1,5 +1,5 @@
 use Rattle.std.proofs.Common.{refl, map, [], ◌∙◌}
-use Rattle.csdf_graph.specs.Graph.{Channel, channel_view}
+use Rattle.csdf_model.specs.Graph.{Channel, channel_view}
 use Rattle.csdf_core.proofs.LayoutLemmas.{seen_at}
 use Rattle.csdf_floor.proofs.printed.name_at.Goals as goal
 

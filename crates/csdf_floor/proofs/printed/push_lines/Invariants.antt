@@ -1,6 +1,6 @@
 use Rattle.std.proofs.Common.{◌≡◌, ◌++◌, drop, map, string_bytes}
 use Rattle.std.specs.List.{enumerate_from}
-use Rattle.csdf_graph.specs.Graph.{channel_view}
+use Rattle.csdf_model.specs.Graph.{channel_view}
 use Rattle.csdf_floor.specs.Report.{names_of, report_lines}
 use Rattle.csdf_floor.proofs.printed.push_lines.Given as goal
 

@@ -1,5 +1,5 @@
 use Rattle.std.proofs.Common.{◌≡◌, map, take}
-use Rattle.csdf_graph.specs.Graph.{actor_view}
+use Rattle.csdf_model.specs.Graph.{actor_view}
 use Rattle.csdf_floor.proofs.same.are_same_actors.Given as goal
 
 abbrev pub invariant-loop-i : goal.invariant-loop-i

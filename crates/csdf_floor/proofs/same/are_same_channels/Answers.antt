@@ -1,5 +1,5 @@
 use Rattle.std.proofs.Common.{◌≡◌, ◌<◌, length, refl, arith}
-use Rattle.csdf_graph.specs.Graph.{channel_view}
+use Rattle.csdf_model.specs.Graph.{channel_view}
 use Rattle.csdf_floor.proofs.Sames.{same_more, same_item}
 use Rattle.csdf_floor.proofs.same.are_same_channels.Goals as goal
 

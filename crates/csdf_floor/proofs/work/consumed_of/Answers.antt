@@ -1,8 +1,8 @@
 use Rattle.std.proofs.Common.{◌≡◌, ◌<◌, ◌≤◌, ◌*◌, length, ap, subst, sym, ◌∙◌, arith}
 use Rattle.std.proofs.lemmas.List.{length-map}
-use Rattle.csdf_graph.specs.Graph.{channel_view}
-use Rattle.csdf_graph.specs.Graph as graph
-use Rattle.csdf_graph.specs.Rates.{consumed}
+use Rattle.csdf_model.specs.Graph.{channel_view}
+use Rattle.csdf_model.specs.Graph as graph
+use Rattle.csdf_model.specs.Rates.{consumed}
 use Rattle.csdf_core.proofs.LayoutLemmas.{seen_at}
 use Rattle.csdf_floor.specs.Inside.{consumed_at}
 use Rattle.csdf_floor.proofs.Works.{consumed_small}

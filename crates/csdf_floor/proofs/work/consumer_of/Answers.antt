@@ -1,7 +1,7 @@
 use Rattle.std.proofs.Common.{◌<◌, length, ap, sym, ◌∙◌, arith}
 use Rattle.std.proofs.lemmas.List.{length-map}
-use Rattle.csdf_graph.specs.Graph.{Channel, channel_view}
-use Rattle.csdf_graph.specs.declared.parts.Channel.{Channel as ChannelCode}
+use Rattle.csdf_model.specs.Graph.{Channel, channel_view}
+use Rattle.csdf_model.specs.declared.parts.Channel.{Channel as ChannelCode}
 use Rattle.csdf_core.proofs.LayoutLemmas.{seen_at}
 use Rattle.csdf_floor.proofs.work.consumer_of.Goals as goal
 

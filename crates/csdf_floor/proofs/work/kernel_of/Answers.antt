@@ -1,8 +1,8 @@
 use Rattle.std.proofs.Common.{◌≡◌, get_or, ap, subst, sym, ◌∙◌, map}
-use Rattle.csdf_graph.specs.declared.parts.Kernel.{Kernel}
-use Rattle.csdf_graph.specs.declared.parts.Kernel.TheVariants.{Sink}
-use Rattle.csdf_graph.specs.declared.parts.Actor.{Actor as ActorCode}
-use Rattle.csdf_graph.specs.Graph.{Actor}
+use Rattle.csdf_model.specs.declared.parts.Kernel.{Kernel}
+use Rattle.csdf_model.specs.declared.parts.Kernel.TheVariants.{Sink}
+use Rattle.csdf_model.specs.declared.parts.Actor.{Actor as ActorCode}
+use Rattle.csdf_model.specs.Graph.{Actor}
 use Rattle.csdf_kernel.specs.Value.{HasFilterInRange}
 use Rattle.csdf_floor.proofs.Works.{kernel_at, in_range}
 use Rattle.csdf_floor.proofs.work.kernel_of.Goals as goal

@@ -1,8 +1,8 @@
 use Rattle.std.proofs.Common.{◌≡◌, drop, map}
 use Rattle.csdf_graph.specs.declared.fault.GraphFault.TheVariants.{KernelPorts}
 use Rattle.csdf_graph.specs.Passes.{check}
-use Rattle.csdf_graph.specs.Graph.{actor_view, channel_view}
-use Rattle.csdf_graph.specs.Checks.{has_ports}
+use Rattle.csdf_model.specs.Graph.{actor_view, channel_view}
+use Rattle.csdf_model.specs.Checks.{has_ports}
 use Rattle.csdf_graph.proofs.checks.check_ports.Given as goal
 
 abbrev pub invariant-loop-place : goal.invariant-loop-place

@@ -1,5 +1,5 @@
 use Rattle.std.proofs.Common.{◌≡◌, map, drop}
-use Rattle.csdf_graph.specs.Graph.{channel_view}
+use Rattle.csdf_model.specs.Graph.{channel_view}
 use Rattle.csdf_graph.specs.Connected.{join_all, groups_of}
 use Rattle.csdf_graph.proofs.connected.groups_of.Given as goal
 

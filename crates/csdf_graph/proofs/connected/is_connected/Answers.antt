@@ -1,5 +1,5 @@
 use Rattle.std.proofs.Common.{sym, ◌∙◌, map}
-use Rattle.csdf_graph.specs.Graph.{channel_view}
+use Rattle.csdf_model.specs.Graph.{channel_view}
 use Rattle.csdf_graph.proofs.JoinedLemmas.{connected_joined, joined_connected}
 use Rattle.csdf_graph.proofs.connected.is_connected.Goals as goal
 

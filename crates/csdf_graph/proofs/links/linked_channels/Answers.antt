@@ -1,6 +1,6 @@
 use Rattle.std.proofs.Common.{map, string_bytes, arith, ◌≡◌, length}
 use Rattle.std.specs.Vec.Iter.{into_iter_items}
-use Rattle.csdf_graph.specs.Graph.{channel_view}
+use Rattle.csdf_model.specs.Graph.{channel_view}
 use Rattle.csdf_graph.specs.Ranges.{ranged_view}
 use Rattle.csdf_graph.specs.Links.{linked_at}
 use Rattle.csdf_graph.proofs.PassLemmas.{each_takes}

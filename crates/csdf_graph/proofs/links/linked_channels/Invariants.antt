@@ -1,7 +1,7 @@
 use Rattle.std.proofs.Common.{◌≡◌, length, map, string_bytes}
 use Rattle.std.specs.Vec.Iter.{into_iter_items}
 use Rattle.csdf_graph.specs.Passes.{each}
-use Rattle.csdf_graph.specs.Graph.{channel_view}
+use Rattle.csdf_model.specs.Graph.{channel_view}
 use Rattle.csdf_graph.specs.Ranges.{ranged_view}
 use Rattle.csdf_graph.specs.Links.{linked_at}
 use Rattle.csdf_graph.proofs.PassLemmas.{with_front}

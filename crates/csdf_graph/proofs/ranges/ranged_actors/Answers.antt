@@ -1,6 +1,6 @@
 use Rattle.std.proofs.Common.{map, ap, ◌∙◌}
 use Rattle.std.proofs.lemmas.List.{map_push}
-use Rattle.csdf_graph.specs.Graph.{actor_view}
+use Rattle.csdf_model.specs.Graph.{actor_view}
 use Rattle.csdf_graph.specs.Shape.{actor_view as draft_of_actor}
 use Rattle.csdf_graph.specs.Ranges.{ranged_actor}
 use Rattle.csdf_graph.proofs.PassLemmas.{at_place, each-goes_on, each-ends}

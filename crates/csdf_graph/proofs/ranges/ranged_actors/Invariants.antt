@@ -1,6 +1,6 @@
 use Rattle.std.proofs.Common.{◌≡◌, drop, map}
 use Rattle.csdf_graph.specs.Passes.{each}
-use Rattle.csdf_graph.specs.Graph.{actor_view}
+use Rattle.csdf_model.specs.Graph.{actor_view}
 use Rattle.csdf_graph.specs.Shape.{actor_view as draft_of_actor}
 use Rattle.csdf_graph.specs.Ranges.{ranged_actor}
 use Rattle.csdf_graph.proofs.PassLemmas.{with_front}

@@ -1,7 +1,7 @@
 use Rattle.std.proofs.Common.{◌≡◌, map, length, subst, refl, arith}
 use Rattle.std.proofs.lemmas.List.{length-map}
-use Rattle.csdf_graph.specs.Graph.{actor_view, channel_view}
-use Rattle.csdf_graph.specs.Joined.{HasEnds}
+use Rattle.csdf_model.specs.Graph.{actor_view, channel_view}
+use Rattle.csdf_model.specs.Joined.{HasEnds}
 use Rattle.csdf_graph.proofs.FitLemmas.{ends_of}
 use Rattle.csdf_graph.proofs.ReadLemmas.{joined_by, unjoined_by}
 use Rattle.csdf_graph.proofs.read.judged.Goals as goal

@@ -1,5 +1,5 @@
 use Rattle.std.proofs.Common.{◌≡◌, ◌≤◌, drop, map}
-use Rattle.csdf_graph.specs.Graph.{actor_view}
+use Rattle.csdf_model.specs.Graph.{actor_view}
 use Rattle.csdf_run.specs.Texts.{feeds_from, texts_in}
 use Rattle.csdf_floor.specs.Work.{feeds_in}
 use Rattle.csdf_run.proofs.FeedTexts.{with_front}

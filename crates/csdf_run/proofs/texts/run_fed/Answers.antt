@@ -1,7 +1,7 @@
 use Rattle.std.proofs.Common.{List, ap, ◌∙◌, subst}
 use Rattle.std.specs.Prelude.{ℤ}
 use Rattle.std.specs.Global.{Vec}
-use Rattle.csdf_graph.specs.Graph.{Graph}
+use Rattle.csdf_model.specs.Graph.{Graph}
 use Rattle.csdf_floor.specs.Outcome.{IsOutcome}
 use Rattle.csdf_floor.specs.Report.{names_of, report_text}
 use Rattle.csdf_run.specs.Texts.{sink_texts, work_for}

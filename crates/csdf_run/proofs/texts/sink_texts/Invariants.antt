@@ -1,5 +1,5 @@
 use Rattle.std.proofs.Common.{◌≡◌, ◌++◌, drop, map}
-use Rattle.csdf_graph.specs.Graph.{Actor, actor_view, numbers_from}
+use Rattle.csdf_model.specs.Graph.{Actor, actor_view, numbers_from}
 use Rattle.csdf_run.specs.Texts.{sink_texts, text_at, texts_in}
 use Rattle.csdf_floor.specs.Work.{feeds_in, is_sink_kernel}
 use Rattle.csdf_run.proofs.texts.sink_texts.Given as goal

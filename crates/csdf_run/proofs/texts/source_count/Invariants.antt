@@ -1,5 +1,5 @@
 use Rattle.std.proofs.Common.{◌≡◌, ◌+◌, ◌≤◌, drop, map}
-use Rattle.csdf_graph.specs.Graph.{actor_view}
+use Rattle.csdf_model.specs.Graph.{actor_view}
 use Rattle.csdf_run.specs.Texts.{source_count}
 use Rattle.csdf_run.proofs.texts.source_count.Given as goal
 

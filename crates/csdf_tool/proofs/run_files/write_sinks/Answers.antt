@@ -1,5 +1,5 @@
 use Rattle.std.proofs.Common.{ap, map, ◌∙◌}
-use Rattle.csdf_graph.specs.Graph.{actor_view}
+use Rattle.csdf_model.specs.Graph.{actor_view}
 use Rattle.csdf_run.specs.Texts.{texts_in}
 use Rattle.csdf_tool.specs.Running.{file_view, sink_files}
 use Rattle.csdf_tool.proofs.RunLemmas.{unwritten_here}

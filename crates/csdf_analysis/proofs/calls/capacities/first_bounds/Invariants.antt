@@ -1,5 +1,5 @@
 use Rattle.std.proofs.Common.{◌≡◌, ◌++◌, map, drop}
-use Rattle.csdf_graph.specs.Graph.{channel_view}
+use Rattle.csdf_model.specs.Graph.{channel_view}
 use Rattle.csdf_analysis.specs.Lowering.{first_bounds}
 use Rattle.csdf_analysis.proofs.calls.capacities.first_bounds.Given as goal
 

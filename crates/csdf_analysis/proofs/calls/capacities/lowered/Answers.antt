@@ -1,6 +1,6 @@
 use Rattle.std.proofs.Common.{◌≡◌, ◌+◌, suc, length, ap, subst, sym, arith}
 use Rattle.std.proofs.lemmas.List.{length-map}
-use Rattle.csdf_graph.specs.Graph.{channel_view}
+use Rattle.csdf_model.specs.Graph.{channel_view}
 use Rattle.csdf_analysis.specs.Capacities.{IsLeastCapacity}
 use Rattle.csdf_analysis.specs.Lowering.{IsLowered}
 use Rattle.csdf_analysis.proofs.LowerLemmas.{lowered_given, lowered_raised, seen_channel, none_of, some_of}

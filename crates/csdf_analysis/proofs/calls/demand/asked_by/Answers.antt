@@ -1,5 +1,5 @@
 use Rattle.std.proofs.Common.{◌≡◌, ◌*◌, map, ◌∙◌, arith}
-use Rattle.csdf_graph.specs.Graph.{actor_view, channel_view}
+use Rattle.csdf_model.specs.Graph.{actor_view, channel_view}
 use Rattle.csdf_analysis.specs.Repetition.{cycle_consumed, cycle_produced}
 use Rattle.csdf_analysis.proofs.DemandLemmas.{asks_of}
 use Rattle.csdf_analysis.proofs.calls.demand.asked_by.Goals as goal

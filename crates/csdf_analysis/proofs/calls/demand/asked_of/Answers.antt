@@ -1,5 +1,5 @@
 use Rattle.std.proofs.Common.{◌≤◌, map, subst, sym}
-use Rattle.csdf_graph.specs.Graph.{actor_view, channel_view}
+use Rattle.csdf_model.specs.Graph.{actor_view, channel_view}
 use Rattle.csdf_analysis.proofs.DemandLemmas.{ask_all, leave_free}
 use Rattle.csdf_analysis.proofs.JoinLemmas.{entry_few, entry_some}
 use Rattle.csdf_analysis.proofs.calls.demand.asked_of.Goals as goal

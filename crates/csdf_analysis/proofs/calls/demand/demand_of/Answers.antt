@@ -1,5 +1,5 @@
 use Rattle.std.proofs.Common.{List, map, subst}
-use Rattle.csdf_graph.specs.Graph.{Channel, actor_view, channel_view}
+use Rattle.csdf_model.specs.Graph.{Channel, actor_view, channel_view}
 use Rattle.csdf_analysis.specs.Demands.{AskBefore}
 use Rattle.csdf_analysis.specs.Members.{AreMembers}
 use Rattle.csdf_analysis.proofs.DemandLemmas.{demand_is, link_seen, links_seen}

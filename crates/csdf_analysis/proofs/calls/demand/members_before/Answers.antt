@@ -1,7 +1,7 @@
 use Rattle.std.proofs.Common.{List, map, subst, sym}
 use Rattle.std.specs.Prelude.{All, IfErr, IfOk}
 use Rattle.std.proofs.lemmas.List.Elements.{All-take}
-use Rattle.csdf_graph.specs.Graph.{Channel, actor_view, channel_view}
+use Rattle.csdf_model.specs.Graph.{Channel, actor_view, channel_view}
 use Rattle.csdf_analysis.specs.Members.{AreMembers, IsLink}
 use Rattle.csdf_analysis.specs.Repetition.{IsRefused}
 use Rattle.csdf_analysis.proofs.DemandLemmas.{front_seen}

@@ -1,5 +1,5 @@
 use Rattle.std.proofs.Common.{map, take}
-use Rattle.csdf_graph.specs.Graph.{channel_view}
+use Rattle.csdf_model.specs.Graph.{channel_view}
 use Rattle.csdf_analysis.specs.Repetition.{HaveRoom}
 use Rattle.csdf_analysis.proofs.calls.repetition.check_capacities.Given as goal
 

@@ -1,5 +1,5 @@
 use Rattle.std.proofs.Common.{List, ℕ, map, subst, sym, ap, ◌∙◌}
-use Rattle.csdf_graph.specs.Graph.{actor_view, channel_view}
+use Rattle.csdf_model.specs.Graph.{actor_view, channel_view}
 use Rattle.csdf_analysis.specs.Repetition.{IsLeastRepetition, IsSmall}
 use Rattle.csdf_analysis.proofs.LeastLemmas.{entries_of, entries_small, members_least}
 use Rattle.csdf_analysis.proofs.calls.repetition.cycles.Goals as goal

@@ -1,6 +1,6 @@
 use Rattle.std.proofs.Common.{◌≡◌, ◌*◌, length, map}
 use Rattle.std.specs.Prelude.{EachIndex, slice_index}
-use Rattle.csdf_graph.specs.Graph.{actor_view, phases_of}
+use Rattle.csdf_model.specs.Graph.{actor_view, phases_of}
 use Rattle.csdf_analysis.proofs.calls.repetition.firings.Given as goal
 
 abbrev pub invariant-loop-number : goal.invariant-loop-number

@@ -1,6 +1,6 @@
 use Rattle.std.proofs.Common.{List, map, subst, sym}
 use Rattle.std.specs.Prelude.{All}
-use Rattle.csdf_graph.specs.Graph.{Actor, Channel, channel_view}
+use Rattle.csdf_model.specs.Graph.{Actor, Channel, channel_view}
 use Rattle.csdf_analysis.specs.Members.{IsLink}
 use Rattle.csdf_analysis.proofs.BoundLemmas.{links_of}
 use Rattle.csdf_analysis.proofs.calls.repetition.repetition.Goals as goal

@@ -1,6 +1,6 @@
 use Rattle.std.proofs.Common.{◌≡◌, ◌<◌, ◌%◌, refl, ◌∙◌, sym, subst, get_or}
 use Rattle.std.proofs.lemmas.Bool.{false≢true}
-use Rattle.csdf_graph.specs.Graph.{phases_of}
+use Rattle.csdf_model.specs.Graph.{phases_of}
 use Rattle.csdf_analysis.proofs.FitLemmas.{input_end}
 use Rattle.csdf_analysis.proofs.RunLemmas.{tokens_all, tokens_some}
 use Rattle.csdf_analysis.proofs.run.Run.has_tokens.Goals as goal

@@ -1,7 +1,7 @@
 use Rattle.std.proofs.Common.{◌≡◌, ◌<◌, ◌≤◌, ℕ, Some}
 use Rattle.std.specs.Prelude.{slice_get, slice_index}
-use Rattle.csdf_graph.specs.Graph.{Channel}
-use Rattle.csdf_graph.specs.Rates.{consumption}
+use Rattle.csdf_model.specs.Graph.{Channel}
+use Rattle.csdf_model.specs.Rates.{consumption}
 use Rattle.csdf_analysis.specs.Period.{held}
 use Rattle.csdf_analysis.proofs.run.Run.has_tokens.Given as goal
 

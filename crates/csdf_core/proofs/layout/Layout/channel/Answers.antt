@@ -1,6 +1,6 @@
 use Rattle.std.proofs.Common.{◌<◌, length}
-use Rattle.csdf_graph.specs.Graph.{channel_view}
-use Rattle.csdf_graph.specs.WellFormed.{IsChannel}
+use Rattle.csdf_model.specs.Graph.{channel_view}
+use Rattle.csdf_model.specs.WellFormed.{IsChannel}
 use Rattle.csdf_core.proofs.LayoutLemmas.{in_graph, channel_seen, known_at}
 use Rattle.csdf_core.proofs.layout.Layout.channel.Goals as goal
 use Rattle.csdf_core.proofs.layout.Layout.channel.Goals.{After-channels, After-index-channels-channel}

@@ -1,7 +1,7 @@
 use Rattle.std.proofs.Common.{◌<◌, ◌==◌, subst, sym, ◌∙◌, refl, arith}
 use Rattle.std.specs.Prelude.{All}
 use Rattle.std.proofs.lemmas.List.{length-map}
-use Rattle.csdf_graph.specs.Graph as graph
+use Rattle.csdf_model.specs.Graph as graph
 use Rattle.csdf_core.specs.Layout.{is_source_kernel}
 use Rattle.csdf_core.proofs.LayoutLemmas.{numbers-capacities, length-capacities}
 use Rattle.csdf_core.proofs.layout.Layout.inputs.Goals as goal

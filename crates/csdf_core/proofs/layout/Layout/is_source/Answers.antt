@@ -1,7 +1,7 @@
 use Rattle.std.proofs.Common.{◌<◌, length, false, ap, sym, ◌∙◌, arith}
 use Rattle.std.proofs.lemmas.List.{length-map}
-use Rattle.csdf_graph.specs.Graph as graph
-use Rattle.csdf_graph.specs.Graph.{actor_view}
+use Rattle.csdf_model.specs.Graph as graph
+use Rattle.csdf_model.specs.Graph.{actor_view}
 use Rattle.csdf_core.specs.Layout.{is_source_kernel}
 use Rattle.csdf_core.proofs.LayoutLemmas.{seen_at}
 use Rattle.csdf_core.proofs.layout.Layout.is_source.Goals as goal

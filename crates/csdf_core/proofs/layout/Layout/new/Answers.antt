@@ -1,6 +1,6 @@
 use Rattle.std.proofs.Common.{ℕ, ◌∙◌, ap, sym, subst, List}
 use Rattle.std.specs.Prelude.{Option}
-use Rattle.csdf_graph.specs.Graph.{Graph}
+use Rattle.csdf_model.specs.Graph.{Graph}
 use Rattle.csdf_analysis.specs.Acceptance.{Accepted}
 use Rattle.csdf_core.specs.Plan.{Plan}
 use Rattle.csdf_core.specs.Playable.{IsPlayable}

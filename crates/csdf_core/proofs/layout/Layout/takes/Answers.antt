@@ -1,5 +1,5 @@
 use Rattle.std.proofs.Common.{◌≤◌, sym, subst, ◌∙◌}
-use Rattle.csdf_graph.specs.Rates.{rate}
+use Rattle.csdf_model.specs.Rates.{rate}
 use Rattle.csdf_core.proofs.LayoutLemmas.{part_at, rate_small}
 use Rattle.csdf_core.proofs.layout.Layout.takes.Goals as goal
 

@@ -1,7 +1,7 @@
 use Rattle.std.proofs.Common.{◌≡◌, List, map, filter, subst, ◌∙◌, ◌==◌, ap, ℕ}
 use Rattle.std.specs.Prelude.{◌↔◌, IsTrue}
-use Rattle.csdf_graph.specs.Graph.{Channel, Graph}
-use Rattle.csdf_graph.specs.Rates.{production}
+use Rattle.csdf_model.specs.Graph.{Channel, Graph}
+use Rattle.csdf_model.specs.Rates.{production}
 use Rattle.csdf_floor.specs.Journal.{output_counts}
 use Rattle.csdf_floor.specs.Work.{Work, program, feeds_in}
 use Rattle.csdf_floor.proofs.Works.{counts_are}

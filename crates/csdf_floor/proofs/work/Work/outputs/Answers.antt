@@ -1,5 +1,5 @@
 use Rattle.std.proofs.Common.{ap, sym, refl, ◌∙◌, ◌==◌}
-use Rattle.csdf_graph.specs.Graph.{Graph, outputs_of}
+use Rattle.csdf_model.specs.Graph.{Graph, outputs_of}
 use Rattle.csdf_core.proofs.LayoutLemmas.{numbers-capacities}
 use Rattle.csdf_floor.proofs.work.Work.outputs.Goals as goal
 

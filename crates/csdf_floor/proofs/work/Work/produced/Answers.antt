@@ -1,6 +1,6 @@
 use Rattle.std.proofs.Common.{◌≡◌, ℕ, List, ap, sym, refl, ◌∙◌, map, get_or}
-use Rattle.csdf_graph.specs.Graph.{Graph, Channel}
-use Rattle.csdf_graph.specs.Rates.{produced, total}
+use Rattle.csdf_model.specs.Graph.{Graph, Channel}
+use Rattle.csdf_model.specs.Rates.{produced, total}
 use Rattle.csdf_core.specs.Plan.{Channel as PlanChannel}
 use Rattle.csdf_core.proofs.LayoutLemmas.{map-capacities}
 use Rattle.csdf_floor.specs.Inside.{produced_at}

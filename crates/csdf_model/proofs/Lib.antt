@@ -1,0 +1,4 @@
+pub mod LinkLemmas
+pub mod CopyLemmas
+pub mod PortLemmas
+pub mod RateLemmas

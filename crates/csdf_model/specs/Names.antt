@@ -1,0 +1,17 @@
+-- Names, and the numbers that stand for them.
+use Rattle.std.specs.Prelude.{ℕ, Bool, false, ◌&&◌, ◌||◌, ◌==◌, nat_le, List, [], ◌∷◌, length, Option, position}
+use Rattle.std.specs.Char.{is_ascii_alphabetic, is_ascii_alphanumeric}
+use Rattle.std.specs.List.{list_all}
+use Rattle.std.specs.Str.{bytes_eq}
+
+abbrev pub is_word_byte : ℕ → Bool
+is_word_byte c = is_ascii_alphanumeric c || c == 95
+
+-- an ASCII letter, and at most 31 letters, digits or underscores
+abbrev pub is_name : List ℕ → Bool
+is_name [] = false
+is_name (c ∷ cs) = is_ascii_alphabetic c && (nat_le (length cs) 31 && list_all is_word_byte cs)
+
+-- the place of a name, which is its number
+abbrev pub number_in : List (List ℕ) → List ℕ → Option ℕ
+number_in names name = position (bytes_eq name) names
