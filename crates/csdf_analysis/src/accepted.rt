@@ -1,7 +1,9 @@
 //! Graphs that can run for ever in bounded buffers.
 
-ghost use Rattle.std.specs.Prelude.{◌≡◌, ◌<◌, ◌^◌, IfErr, IfOk, sum};
+ghost use Rattle.std.specs.Prelude.{◌≡◌, ◌<◌, ◌≤◌, ◌^◌, All, IfErr, IfOk, sum};
 ghost use Rattle.csdf_analysis.specs.Acceptance.{IsAccepted, IsNotAccepted, cells_of};
+ghost use Rattle.csdf_analysis.specs.Capacities.{AreLeastCapacities};
+ghost use Rattle.csdf_analysis.specs.Repetition.{IsRepetition};
 
 use crate::calls::capacities::capacities;
 use crate::calls::repetition::repetition;
@@ -39,6 +41,18 @@ impl Model for Accepted {
     ghost invariant = { λ a. IsAccepted (record { graph = a.graph; r = a.vector.r.items; q = a.vector.q.items; capacities = a.capacities.items }) };
 }
 
+/// The least repetition vector of the graph and its least capacities, or the first refusal.
+fn judged(alloc: Global, graph: &Graph) -> Result<(Vector, Vec<u32>), AcceptFault>
+    ensures repetition { IfOk result (λ found. IsRepetition graph.now.actors graph.now.channels found.0.r.items found.0.q.items) }
+    ensures least { IfOk result (λ found. AreLeastCapacities graph.now.channels found.0.q.items found.1.items) }
+    ensures small { IfOk result (λ found. All (λ b. b ≤ 65535) found.1.items) }
+    ensures refusal { IfErr result (IsNotAccepted graph.now) }
+{
+    let vector = repetition(alloc, graph)?;
+    let capacities = capacities(alloc, graph, &vector)?;
+    Ok((vector, capacities))
+}
+
 /// Accepts a graph that has a least repetition vector within the limits and capacities that
 /// complete a period.
 ///
@@ -50,19 +64,14 @@ pub fn accept(alloc: Global, graph: Graph) -> Result<Accepted, (Graph, AcceptFau
     ensures unchanged { IfErr result (λ refused. refused.0 ≡ graph) }
     ensures refusal { IfErr result (λ refused. IsNotAccepted graph refused.1) }
 {
-    let vector = match repetition(alloc, &graph) {
-        Ok(vector) => vector,
-        Err(fault) => return Err((graph, fault)),
-    };
-    let capacities = match capacities(alloc, &graph, &vector) {
-        Ok(capacities) => capacities,
-        Err(fault) => return Err((graph, fault)),
-    };
-    Ok(Accepted {
-        graph,
-        vector,
-        capacities,
-    })
+    match judged(alloc, &graph) {
+        Ok((vector, capacities)) => Ok(Accepted {
+            graph,
+            vector,
+            capacities,
+        }),
+        Err(fault) => Err((graph, fault)),
+    }
 }
 
 /// The sum of the numbers.

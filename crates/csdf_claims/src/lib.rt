@@ -9,8 +9,6 @@ mod board;
 mod laws;
 mod place;
 mod rule;
-#[cfg(test)]
-mod tests;
 
 pub use board::{Board, Lost, Missing};
 pub use laws::{finished_below, finished_once, one_finished, one_holds};

@@ -82,11 +82,20 @@ fn parts_of(
 }
 
 /// The parts of a graph, with the names that have become numbers.
-#[derive(Drop)]
 struct Named {
     parts: Parts,
     actor_names: IndexSet<String>,
     channel_names: IndexSet<String>,
+}
+
+impl Drop for Named {
+    fn drop(self) {
+        let Named {
+            parts: _,
+            actor_names: _,
+            channel_names: _,
+        } = self;
+    }
 }
 
 /// All checks but the last.
@@ -107,26 +116,29 @@ fn named_parts(alloc: Global, file: &Table) -> Result<Named, GraphFault>
     })
 }
 
-/// The graph of the parts, where any two of its actors are joined.
-fn judged(alloc: Global, named: Named) -> Result<Graph, GraphFault>
-    requires { IsUnjoined (map string_bytes named.actor_names.keys) (map string_bytes named.channel_names.keys) (parts_view named.parts) }
-    ensures { Tells itself result (IsJudged (parts_view named.parts)) }
-{
-    let Named {
-        parts,
-        actor_names,
-        channel_names,
-    } = named;
-    let Parts {
-        actors,
-        channels,
-        cells,
-    } = parts;
-    if !is_connected(alloc, actors.len(), &channels)? {
-        return Err(GraphFault::NotConnected);
+impl Named {
+    /// The graph of the parts, where any two of its actors are joined.
+    fn judged(self, alloc: Global) -> Result<Graph, GraphFault>
+        requires { IsUnjoined (map string_bytes self.actor_names.keys) (map string_bytes self.channel_names.keys) (parts_view self.parts) }
+        ensures { Tells itself result (IsJudged (parts_view self.parts)) }
+    {
+        let parts = &self.parts;
+        if !is_connected(alloc, parts.actors.len(), &parts.channels)? {
+            return Err(GraphFault::NotConnected);
+        }
+        let Named {
+            parts,
+            actor_names,
+            channel_names,
+        } = self;
+        let Parts {
+            actors,
+            channels,
+            cells,
+        } = parts;
+        let graph = Graph::new(alloc, actors, channels, cells, actor_names, channel_names)?;
+        Ok(graph)
     }
-    let graph = Graph::new(alloc, actors, channels, cells, actor_names, channel_names)?;
-    Ok(graph)
 }
 
 /// The graph of a file.
@@ -134,7 +146,7 @@ pub(crate) fn graph_of(alloc: Global, file: &Table) -> Result<Graph, GraphFault>
     ensures { Tells itself result (IsGraphIn (table_view file.now)) }
 {
     let named = named_parts(alloc, file)?;
-    judged(alloc, named)
+    named.judged(alloc)
 }
 
 /// The file that the bytes are.

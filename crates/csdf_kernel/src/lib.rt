@@ -5,12 +5,8 @@ ghost use Rattle.std.specs.Prelude.{◌≡◌, ◌≤◌, [], length, sum, repli
 ghost use Rattle.csdf_kernel.specs.Value.{value_of, HasFilterInRange};
 
 mod channels;
-#[cfg(test)]
-mod memory_tests;
 mod numbers;
 mod outputs;
-#[cfg(test)]
-mod tests;
 
 use csdf_model::Kernel;
 use outputs::{Outputs, outputs_of};

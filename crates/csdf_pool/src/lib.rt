@@ -10,8 +10,6 @@ mod fill;
 mod iters;
 mod pen;
 mod pool;
-#[cfg(test)]
-mod tests;
 
 pub use ends::{Ends, splice};
 pub use iters::{Cells, Tokens};

@@ -1,10 +1,16 @@
-//! Floors and runs tried out: worked examples, on their public calls alone. They are a crate of their
-//! own, since a crate with tests is proved twice, and apart from the other tests, so that the two are
-//! proved side by side.
+//! Jobs, claims, floors and runs tried out: worked examples, on their public calls alone. They are a
+//! crate of their own, since a crate with tests is proved twice, and apart from the other tests, so
+//! that the two are proved side by side.
 #![tactic(auto)]
 
 #[cfg(test)]
+mod claim_tests;
+#[cfg(test)]
 mod gate_tests;
+#[cfg(test)]
+mod job_tests;
+#[cfg(test)]
+mod kernel_tests;
 #[cfg(test)]
 mod memory_tests;
 #[cfg(test)]

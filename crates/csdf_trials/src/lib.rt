@@ -1,5 +1,5 @@
-//! The graph, the analysis, the core and the answers tried out: worked examples, on their public calls
-//! alone. They are a crate of their own, since a crate with tests is proved twice.
+//! The graph, the analysis, the pool, the core and the answers tried out: worked examples, on their
+//! public calls alone. They are a crate of their own, since a crate with tests is proved twice.
 #![tactic(auto)]
 
 #[cfg(test)]
@@ -18,6 +18,8 @@ mod graph_tests;
 mod memory_tests;
 #[cfg(test)]
 mod period_tests;
+#[cfg(test)]
+mod pool_tests;
 #[cfg(test)]
 mod question_tests;
 #[cfg(test)]

@@ -1,4 +1,4 @@
-use Rattle.std.proofs.Common.{subst, map}
+use Rattle.std.proofs.Common.{rules, subst, map}
 use Rattle.csdf_core.specs.Moves.{move_of}
 use Rattle.csdf_core.specs.Playable.{IsPlayable}
 use Rattle.csdf_core.specs.Shows.{View, replies_in}
@@ -35,3 +35,9 @@ returns-clause-periods c =
     periods_kept c.args.setup.accepted.now c.args.setup.limits.items c.args.setup.supply.items c.args.setup.firings c.in_ok-core.core c.play_on.new.core
     (map move_of c.args.moves.now) (replies_in c.in_ok-replies.replies.items)
     c.in_ok-core.ensures.plan c.in_ok-core.ensures.opening c.in_ok-replies.ensures.played
+
+pub returns-clause-replies : goal.returns-clause-replies
+returns-clause-replies c = search rules
+
+pub returns-clause-shows : goal.returns-clause-shows
+returns-clause-shows c = search rules

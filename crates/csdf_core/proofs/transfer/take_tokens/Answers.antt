@@ -1,4 +1,4 @@
-use Rattle.std.proofs.Common.{length, get_or, set, take, drop, map, [], sym, ap, ◌∙◌}
+use Rattle.std.proofs.Common.{rules, length, get_or, set, take, drop, map, [], sym, ap, ◌∙◌}
 use Rattle.std.proofs.lemmas.List.{take-map, drop-map}
 use Rattle.csdf_pool.specs.Pool.{held_tokens}
 use Rattle.csdf_core.proofs.PortLemmas.{tokens_in-set, tokens_at-map}
@@ -16,3 +16,6 @@ returns-clause-left c =
     ∙ ap (set (map held_tokens c.args.pool.now.chains) c.args.channel)
     (sym (drop-map (λ held. held.1) (length c.args.into.now) (get_or c.args.pool.now.chains c.args.channel []))
     ∙ ap (drop (length c.args.into.now)) (sym (tokens_at-map c.args.pool.now.chains c.args.channel)))
+
+pub returns-clause-cells : goal.returns-clause-cells
+returns-clause-cells c = search rules

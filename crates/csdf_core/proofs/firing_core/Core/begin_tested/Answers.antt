@@ -1,4 +1,4 @@
-use Rattle.std.proofs.Common.{◌≡◌, ◌+◌, ◌-◌, get_or, None, ap, refl, arith, sym, ℕ}
+use Rattle.std.proofs.Common.{rules, ◌≡◌, ◌+◌, ◌-◌, get_or, None, ap, refl, arith, sym, ℕ}
 use Rattle.csdf_core.specs.Plan.{Plan}
 use Rattle.csdf_core.specs.State.{Present}
 use Rattle.csdf_core.specs.Moves.{Begin}
@@ -34,3 +34,6 @@ returns-clause-step c =
     let none : refusal plan p (Begin a) ≡ None = rw (← c.self.view_is) at c.requires in
     rw (← c.self.view_is) (follows_accepted _ _ (Begin a) _ refl none refl refl c.self.invariant.fit refl c.self.invariant.cells
     (sym (peaks_stay _ _ _ _ _ _ _ c.self.invariant)))
+
+pub returns-clause-cells : goal.returns-clause-cells
+returns-clause-cells c = search rules

@@ -1,4 +1,4 @@
-use Rattle.std.proofs.Common.{◌≡◌, ◌≤◌, ◌+◌, ◌-◌, set, None, sym, ◌∙◌, ap, subst, refl, arith, ℕ}
+use Rattle.std.proofs.Common.{rules, ◌≡◌, ◌≤◌, ◌+◌, ◌-◌, set, None, sym, ◌∙◌, ap, subst, refl, arith, ℕ}
 use Rattle.csdf_core.specs.declared.stage.Stage.TheVariants.{Fetched}
 use Rattle.csdf_core.specs.Plan.{Plan}
 use Rattle.csdf_core.specs.State.{Present}
@@ -106,3 +106,12 @@ returns-clause-step c =
     let peaks : c.self.inside.peaks.items ≡ raised c.self.inside.peaks.items (tokens_in c.take_inputs-n.new.pool) =
     sym (ap (raised c.self.inside.peaks.items) (gone at) ∙ peaks_stay _ _ _ _ _ _ _ (sound at)) in
     rw (← c.self.view_is) (follows_accepted _ _ (Read c.args.actor) _ refl (none at) answered now c.self.invariant.fit refl (cells at) peaks)
+
+pub returns-in-Some-clause-unread : goal.returns-in-Some-clause-unread
+returns-in-Some-clause-unread c = search rules
+
+pub returns-clause-cells : goal.returns-clause-cells
+returns-clause-cells c = search rules
+
+pub returns-clause-count : goal.returns-clause-count
+returns-clause-count c = search rules

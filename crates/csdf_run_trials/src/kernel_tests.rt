@@ -1,5 +1,5 @@
 //! The worked examples, and a job at its limits.
-use crate::{Counts, Inputs, Job, eval};
+use csdf_kernel::{Counts, Inputs, Job, eval};
 use csdf_model::Kernel;
 use std::alloc::Global;
 use std::process::Abort;

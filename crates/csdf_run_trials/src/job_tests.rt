@@ -1,6 +1,6 @@
 //! A job that takes memory, for `tests/memory/run`: it refuses one allocation after another.
 
-use crate::{Counts, Done, Inputs, Job, eval};
+use csdf_kernel::{Counts, Done, Inputs, Job, eval};
 use csdf_model::Kernel;
 use std::process::Abort;
 use std::test::Fail;

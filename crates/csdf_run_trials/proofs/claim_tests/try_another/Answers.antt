@@ -1,5 +1,5 @@
 use Rattle.csdf_claims.proofs.Keeps.{keeps_trans}
-use Rattle.csdf_claims.proofs.tests.try_another.Goals as goal
+use Rattle.csdf_run_trials.proofs.claim_tests.try_another.Goals as goal
 
 pub returns-clause-keeps : goal.returns-clause-keeps
 returns-clause-keeps c =

@@ -2,7 +2,7 @@ ghost use Rattle.std.specs.Prelude.{◌≡◌, ◌<◌, ◌≤◌, [], ◌∷◌
 ghost use Rattle.csdf_claims.specs.Board.{Holds, IsLawful, KeepsAll};
 ghost use Rattle.csdf_claims.specs.Laws.{first_done, second_held};
 
-use crate::{Board, Lost, Missing, Place};
+use csdf_claims::{Board, Lost, Missing, Place};
 use std::alloc::{AllocError, Global};
 use std::process::Abort;
 use std::sync::Wait;

@@ -4,7 +4,7 @@ mod plain;
 
 ghost use Rattle.std.specs.Prelude.{◌≡◌, ◌<◌, length, IfOk};
 
-use crate::pool::{NoCell, Pool};
+use csdf_pool::{NoCell, Pool};
 use plain::Plain;
 use std::alloc::{AllocError, Global};
 use std::process::Abort;

@@ -1,0 +1,11 @@
+use Rattle.std.proofs.Common.{refl}
+use Rattle.csdf_analysis.proofs.accepted.accept.Goals as goal
+
+pub returns-in-Ok-clause-graph : goal.returns-in-Ok-clause-graph
+returns-in-Ok-clause-graph c = refl
+
+pub returns-in-Err-clause-unchanged : goal.returns-in-Err-clause-unchanged
+returns-in-Err-clause-unchanged c = refl
+
+pub returns-in-Err-clause-refusal : goal.returns-in-Err-clause-refusal
+returns-in-Err-clause-refusal c = c.in-Err.ensures.refusal
