@@ -1,4 +1,4 @@
-use Rattle.std.proofs.Common.{ℕ, arith, length-take}
+use Rattle.std.proofs.Common.{rules, ℕ, arith, length-take}
 use Rattle.csdf_bytes.proofs.DeviceLemmas.{TakesAtMost-more}
 use Rattle.csdf_bytes.proofs.intake.read_bytes.Goals as goal
 
@@ -11,3 +11,12 @@ pub returns-then-is_err-clause-few : goal.returns-then-is_err-clause-few
 returns-then-is_err-clause-few g c =
     λ _. TakesAtMost-more _ _ _ c.loop-count.bytes.items c.fetch.new.buffer c.in-Ok.count 16777217 c.loop-count.invariant.so_far c.in-Ok.ensures.fetched
     (omega (arith, length-take {A = ℕ}))
+
+pub returns-in-Err-clause-all : goal.returns-in-Err-clause-all
+returns-in-Err-clause-all c = search rules
+
+pub returns-in-Err-clause-ended : goal.returns-in-Err-clause-ended
+returns-in-Err-clause-ended c = search rules
+
+pub returns-in-Err-clause-read : goal.returns-in-Err-clause-read
+returns-in-Err-clause-read c = search rules

@@ -1,4 +1,4 @@
-use Rattle.std.proofs.Common.{◌≡◌, ◌≤◌, None, ap, sym, subst, ◌∙◌, arith}
+use Rattle.std.proofs.Common.{rules, ◌≡◌, ◌≤◌, None, ap, sym, subst, ◌∙◌, arith}
 use Rattle.csdf_floor.specs.Floor.{FloorView, IsBetween, start_refusal}
 use Rattle.csdf_floor.proofs.Floors.{MayStart, may_start, between_taken}
 use Rattle.csdf_floor.proofs.floor.Floor.start.Goals as goal
@@ -27,3 +27,9 @@ returns-clause-ready c = record {
   few_inputs = omega (arith, c.in_ok-inputs.ensures.few, c.fill.ensures.count);
   filter_in_range = c.kernel.ensures.in_range;
 }
+
+pub returns-clause-firing : goal.returns-clause-firing
+returns-clause-firing c = search rules
+
+pub returns-clause-job : goal.returns-clause-job
+returns-clause-job c = search rules

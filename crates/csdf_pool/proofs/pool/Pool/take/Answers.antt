@@ -1,4 +1,4 @@
-use Rattle.std.proofs.Common.{arith, ap, ◌∙◌, ◌≡◌, ◌<◌, length, get_or}
+use Rattle.std.proofs.Common.{rules, arith, ap, ◌∙◌, ◌≡◌, ◌<◌, length, get_or}
 use Rattle.csdf_pool.specs.declared.ends.Ends.{Ends}
 use Rattle.csdf_pool.specs.Inside.{no_cells}
 use Rattle.csdf_pool.proofs.Tables.{get_or-default}
@@ -14,3 +14,6 @@ take_into-requires-clause-enough c =
     c.index.ensures ∙ get_or-default inside.chains.items c.args.chain c.index.result.now no_cells known in
     let shown = length-chain inside.links.items inside.tokens.items inside.chains.items inside.free c.args.self.now c.self.view_is c.args.chain in
     omega (arith, ap (λ (e : Ends). e.length) ends, shown)
+
+pub returns-clause-token : goal.returns-clause-token
+returns-clause-token c = search rules

@@ -1,0 +1,5 @@
+use Rattle.std.proofs.Common.{rules}
+use Rattle.csdf_bytes.proofs.to_writer.ToWriterOutlet.emit.Goals as goal
+
+pub returns-in-Ok-clause-emitted : goal.returns-in-Ok-clause-emitted
+returns-in-Ok-clause-emitted c = search rules
