@@ -1,4 +1,4 @@
-use Rattle.std.proofs.Common.{subst, sym, ◌∙◌}
+use Rattle.std.proofs.Common.{rules, subst, sym, ◌∙◌}
 use Rattle.std.proofs.lemmas.Bool.{false≢true}
 use Rattle.csdf_analysis.specs.Period.{HoldInitial, CompletesPeriod}
 use Rattle.csdf_analysis.specs.Capacities.{full_capacities}
@@ -34,3 +34,6 @@ lowered-requires-clause-first c =
 
 pub returns-clause-least : goal.returns-clause-least
 returns-clause-least c = lowered_all _ _ _ c.in_ok-least.ensures
+
+pub returns-then-not-branch-clause-refusal : goal.returns-then-not-branch-clause-refusal
+returns-then-not-branch-clause-refusal c = search rules

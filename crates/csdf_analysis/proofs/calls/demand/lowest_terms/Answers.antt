@@ -1,3 +1,4 @@
+use Rattle.std.proofs.Common.{rules}
 use Rattle.csdf_analysis.proofs.DivisorLemmas.{divisor_some}
 use Rattle.csdf_analysis.proofs.calls.demand.lowest_terms.Goals as goal
 
@@ -6,3 +7,6 @@ nonzero_div-result c = divisor_some c.args.to c.gcd-divisor.result c.gcd-divisor
 
 pub nonzero_div-result-2 : goal.nonzero_div-result-2
 nonzero_div-result-2 c = divisor_some c.args.to c.gcd-divisor.result c.gcd-divisor.ensures.second c.requires.some_to
+
+pub returns : goal.returns
+returns c = search rules

@@ -1,4 +1,4 @@
-use Rattle.std.proofs.Common.{List, map, subst, sym}
+use Rattle.std.proofs.Common.{rules, List, map, subst, sym}
 use Rattle.std.specs.Prelude.{All}
 use Rattle.csdf_model.specs.Graph.{Actor, Channel, channel_view}
 use Rattle.csdf_analysis.specs.Members.{IsLink}
@@ -11,3 +11,6 @@ cycles-requires-clause-channels c =
     subst (λ (actors : List Actor). All (IsLink actors) (map channel_view c.channels.result.now)) (sym c.actors.ensures.value)
     (subst (λ (channels : List Channel). All (IsLink c.args.graph.now.actors) channels) (sym c.channels.ensures.value)
     (links_of c.args.graph.now.actors c.args.graph.now.channels whole.fitting.actors whole.fitting.channels))
+
+pub returns-clause-vector : goal.returns-clause-vector
+returns-clause-vector c = search rules

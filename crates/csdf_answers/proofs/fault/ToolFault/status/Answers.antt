@@ -1,0 +1,8 @@
+use Rattle.std.proofs.Common.{rules}
+use Rattle.csdf_answers.proofs.fault.ToolFault.status.Goals as goal
+
+pub returns-in-Graph-9 : goal.returns-in-Graph-9
+returns-in-Graph-9 c = search rules
+
+pub returns-in-Mixed-2 : goal.returns-in-Mixed-2
+returns-in-Mixed-2 c = search rules
