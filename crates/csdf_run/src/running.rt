@@ -203,6 +203,26 @@ fn hall_of(
     Ok(Hall::new(floor, hints, may_wait))
 }
 
+/// What the floor tells at its end, in one word.
+fn outcome_on(
+    alloc: Global,
+    floor: Floor,
+    accepted: &Accepted,
+    feeds: &[Vec<i32>],
+    periods: u32,
+    firings: Option<u32>,
+    totals: &[u32],
+) -> Result<Outcome, RunFault>
+    requires fed { AreFeeds accepted.now.graph (feeds_in feeds.now) }
+    requires some_period { 1 ≤ periods }
+    requires few_periods { periods ≤ 1000 }
+    requires totals { length totals.now ≡ length accepted.now.graph.actors }
+    ensures { IfOk result (IsOutcome (work_for accepted.now (feeds_in feeds.now) periods firings)) }
+{
+    let outcome = settle(alloc, floor, accepted, feeds, periods, firings, totals)?;
+    Ok(outcome)
+}
+
 /// What [`run`] answers, in one word.
 fn outcome_of<R: Threads + Wait + Sync, G: Gate>(
     rt: &R,
@@ -222,7 +242,7 @@ fn outcome_of<R: Threads + Wait + Sync, G: Gate>(
     let hall = hall_of(alloc, accepted, feeds, periods, firings, gate.may_wait())?;
     let actors = accepted.graph().actors().len();
     let totals = run_hall(rt, alloc, &hall, actors as u32, workers, gate)?;
-    settle(
+    outcome_on(
         alloc,
         hall.into_floor(),
         accepted,
