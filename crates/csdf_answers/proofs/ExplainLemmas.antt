@@ -1,14 +1,18 @@
--- The text of a stall, by what the code has seen of a graph.
-use Rattle.std.proofs.Common.{◌≡◌, ℕ, ◌++◌, List, map, ap, ◌∙◌}
+-- The text of a stall and of a channel that is not balanced, by what the code has seen of a graph.
+use Rattle.std.proofs.Common.{◌≡◌, ℕ, ◌<◌, ◌++◌, List, length, get_or, map, refl, ap, sym, ◌∙◌, arith}
+use Rattle.std.proofs.lemmas.List.{get_or-map, length-map}
+use Rattle.std.proofs.lemmas.Option.{slice_get_read}
 use Rattle.std.specs.List.{enumerate_from}
 use Rattle.csdf_model.specs.declared.parts.Actor.{Actor as ActorCode}
 use Rattle.csdf_model.specs.declared.parts.Channel.{Channel as ChannelCode}
 use Rattle.csdf_model.specs.Graph.{Actor, Channel, Graph, actor_view, channel_view}
+use Rattle.csdf_analysis.specs.declared.demand.Demand.{Demand}
 use Rattle.csdf_analysis.specs.declared.stall.Bounds.{Bounds}
 use Rattle.csdf_analysis.specs.declared.stall.Stall.{Stall}
+use Rattle.csdf_analysis.specs.Demands.{IsDemand}
 use Rattle.csdf_answers.specs.Described.{actor_names}
-use Rattle.csdf_answers.specs.Explained.{heading, stall_text, wait_lines}
-use Rattle.csdf_answers.specs.Printed.{names_of}
+use Rattle.csdf_answers.specs.Explained.{TellsUnbalanced, heading, stall_text, unbalanced_text, wait_lines}
+use Rattle.csdf_answers.specs.Printed.{names_of, name_at}
 
 pub stall_told : (g : Graph) (actors : List ActorCode) (channels : List ChannelCode) (bounds : Bounds) (s : Stall) (text head : List ℕ)
     → text ≡ head ++ wait_lines (names_of (map channel_view channels)) s (enumerate_from 0 (actor_names (map actor_view actors))) → head ≡ heading bounds
@@ -17,3 +21,27 @@ stall_told g actors channels bounds s text head told head_is seen_actors seen_ch
     told ∙ ap (λ h. h ++ wait_lines (names_of (map channel_view channels)) s (enumerate_from 0 (actor_names (map actor_view actors)))) head_is
     ∙ ap (λ (cs : List Channel). heading bounds ++ wait_lines (names_of cs) s (enumerate_from 0 (actor_names (map actor_view actors)))) seen_channels
     ∙ ap (λ (them : List Actor). heading bounds ++ wait_lines (names_of g.channels) s (enumerate_from 0 (actor_names them))) seen_actors
+
+pub unbalanced_told : (g : Graph) (actors : List ActorCode) (channels : List ChannelCode) (c : ℕ) (channel : ChannelCode) (d : Demand)
+    (text name from to : List ℕ)
+    → c < length g.channels → channel ≡ get_or channels c channel → map actor_view actors ≡ g.actors → map channel_view channels ≡ g.channels
+    → IsDemand g.actors g.channels c d
+    → name ≡ name_at (names_of (map channel_view channels)) c
+    → from ≡ name_at (actor_names (map actor_view actors)) channel.from → to ≡ name_at (actor_names (map actor_view actors)) channel.to
+    → text ≡ unbalanced_text name from to d → TellsUnbalanced g c text
+unbalanced_told g actors channels c channel d text name from to within is seen_actors seen_channels asks name_is from_is to_is told =
+    let lt : c < length channels = omega (arith, within, ap length seen_channels, length-map channels channel_view) in
+    let seen : channel_view channel ≡ get_or g.channels c (channel_view channel) =
+    ap channel_view is ∙ sym (get_or-map channel_view channels c channel (channel_view channel) lt)
+    ∙ ap (λ (cs : List Channel). get_or cs c (channel_view channel)) seen_channels in
+    let end : (a : ℕ) → name_at (actor_names (map actor_view actors)) a ≡ name_at (actor_names g.actors) a =
+    λ a. ap (λ (them : List Actor). name_at (actor_names them) a) seen_actors in
+    let name_of : name ≡ name_at (names_of g.channels) c = name_is ∙ ap (λ (cs : List Channel). name_at (names_of cs) c) seen_channels in (
+      channel_view channel,
+      d,
+      slice_get_read g.channels (length g.channels) c (channel_view channel) refl within seen,
+      asks,
+      told ∙ ap (λ n. unbalanced_text n from to d) name_of
+          ∙ ap (λ n. unbalanced_text (name_at (names_of g.channels) c) n to d) (from_is ∙ end channel.from)
+          ∙ ap (λ n. unbalanced_text (name_at (names_of g.channels) c) (name_at (actor_names g.actors) channel.from) n d) (to_is ∙ end channel.to),
+    )

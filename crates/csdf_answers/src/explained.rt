@@ -3,7 +3,10 @@
 ghost use Rattle.std.specs.Prelude.{◌≡◌, ◌≢◌, ◌⊎◌, ◌<◌, ◌++◌, ℕ, List, true, length, Ok, Err, string_bytes, IfErr, IfOk, OnOk};
 ghost use Rattle.std.specs.Io.KnownBytes.{Appends};
 ghost use Rattle.csdf_analysis.specs.Acceptance.{IsNotAccepted};
+ghost use Rattle.csdf_analysis.specs.Demands.{IsDemand};
 ghost use Rattle.csdf_answers.specs.Explained.{ExplainsFault, ExplainsGraph, IsExplained, TellsRefusal, TellsStall, TellsUnbalanced, accepted_text};
+ghost use Rattle.csdf_answers.specs.Faults.{fault_of, fault_text};
+ghost use Rattle.csdf_answers.specs.Printed.{newline};
 ghost use Rattle.csdf_answers.specs.declared.fault.Stream.{Stream};
 
 use crate::explanation::{heading, push_waits, too_large_text, unbalanced_text};
@@ -11,10 +14,29 @@ use crate::fault::ToolFault;
 use crate::printed::name_at;
 use crate::question::actor_name;
 use crate::sending::send;
-use csdf_analysis::{AcceptFault, Bounds, accept, demand_of, repetition, stall_of};
+use csdf_analysis::{AcceptFault, Bounds, Demand, accept, demand_of, repetition, stall_of};
 use csdf_graph::{Graph, GraphFault, Outlet, read_graph};
 use csdf_misfits::explain_fault;
-use std::alloc::Global;
+use std::alloc::{AllocError, Global};
+
+/// The line of a channel that asks this of its two actors.
+fn demand_text(
+    alloc: Global,
+    graph: &Graph,
+    number: u32,
+    demand: Demand,
+) -> Result<String, AllocError>
+    requires demand { IsDemand graph.now.actors graph.now.channels number demand }
+    requires within { number < length graph.now.channels }
+    ensures { IfOk result (λ text. TellsUnbalanced graph.now number (string_bytes text)) }
+{
+    let channels = graph.channels();
+    let actors = graph.actors();
+    let channel = &channels[number as usize];
+    let from = actor_name(actors, channel.from);
+    let to = actor_name(actors, channel.to);
+    unbalanced_text(alloc, name_at(channels, number), from, to, demand)
+}
 
 /// What the channel asks of its two actors, and what those before it ask.
 fn tell_unbalanced(alloc: Global, graph: &Graph, number: u32) -> Result<String, ToolFault>
@@ -25,11 +47,7 @@ fn tell_unbalanced(alloc: Global, graph: &Graph, number: u32) -> Result<String, 
     let Ok(demand) = demand_of(alloc, graph, number) else {
         return Err(ToolFault::Memory);
     };
-    let channels = graph.channels();
-    let channel = &channels[number as usize];
-    let from = actor_name(graph.actors(), channel.from);
-    let to = actor_name(graph.actors(), channel.to);
-    let text = unbalanced_text(alloc, name_at(channels, number), from, to, demand)?;
+    let text = demand_text(alloc, graph, number, demand)?;
     Ok(text)
 }
 
@@ -82,15 +100,31 @@ fn tell_graph(alloc: Global, graph: Graph) -> Result<String, ToolFault>
     }
 }
 
+/// Appends the line of a fault of a graph file.
+fn push_fault(text: &mut String, fault: GraphFault) -> Result<(), AllocError>
+    ensures { OnOk result (string_bytes text.new ≡ string_bytes text.old ++ (fault_text (fault_of fault) ++ newline)) }
+{
+    let told = ToolFault::from(fault);
+    write!(text, "{told}\n")
+}
+
+/// The line of a fault of a graph file, and more.
+fn fault_text_with(alloc: Global, fault: GraphFault, more: &str) -> Result<String, AllocError>
+    ensures { IfOk result (λ text. string_bytes text ≡ fault_text (fault_of fault) ++ newline ++ more.now) }
+{
+    let mut text = String::new(alloc);
+    push_fault(&mut text, fault)?;
+    text.push_str(more)?;
+    Ok(text)
+}
+
 /// The line of a fault of a graph file, and what else there is to say of it.
 fn tell_fault(alloc: Global, bytes: &[u8], fault: GraphFault) -> Result<String, ToolFault>
     ensures told { IfOk result (λ text. ExplainsFault fault (string_bytes text)) }
     ensures memory { IfErr result (λ fault. fault ≡ ToolFault.Memory) }
 {
     let more = explain_fault(alloc, bytes, fault)?;
-    let fault = ToolFault::from(fault);
-    let mut text = format!(in alloc; "{fault}\n")?;
-    text.push_str(more.as_str())?;
+    let text = fault_text_with(alloc, fault, more.as_str())?;
     Ok(text)
 }
 

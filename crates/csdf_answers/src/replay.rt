@@ -28,8 +28,7 @@ fn text_on(
 {
     let mut core = opening_core(alloc, accepted, script)?;
     let channels = accepted.graph().channels();
-    let text = turn_all(alloc, channels, &mut core, lines)?;
-    Ok(text)
+    turn_all(alloc, channels, &mut core, lines)
 }
 
 /// The text of a script that is played on a graph, or its first fault.

@@ -1,6 +1,6 @@
 //! What a script plays on a graph.
 
-ghost use Rattle.std.specs.Prelude.{◌≡◌, ◌≢◌, length, map, string_bytes, IfErr, IfOk};
+ghost use Rattle.std.specs.Prelude.{◌≡◌, ◌≢◌, length, map, replicate, string_bytes, IfErr, IfOk};
 ghost use Rattle.csdf_model.specs.Graph.{actor_view};
 ghost use Rattle.csdf_graph.specs.ScriptText.{script_view};
 ghost use Rattle.csdf_analysis.specs.Acceptance.{IsAccepted};
@@ -95,6 +95,34 @@ fn supplies_of(alloc: Global, actors: &[Actor], supply: u32) -> Result<Vec<u32>,
         .collect(alloc)
 }
 
+/// How often each actor may begin a firing.
+fn limits_of(alloc: Global, actors: &[Actor], limit: u32) -> Result<Vec<u32>, AllocError>
+    ensures { IfOk result (λ v. v.items ≡ replicate (length actors.now) limit) }
+{
+    Ok(vec![in alloc; limit; actors.len()]?)
+}
+
+/// The core on which the script is played, under its limit for each actor.
+fn core_under(
+    alloc: Global,
+    accepted: &Accepted,
+    script: &Script,
+    limits: Vec<u32>,
+) -> Result<Core, AllocError>
+    requires { limits.items ≡ replicate (length accepted.now.graph.actors) (script_view script.now).limit }
+    ensures plan { IfOk result (λ core. core.plan ≡ plan_in accepted.now (script_view script.now)) }
+    ensures opening { IfOk result (λ core. Shows core (opening core.plan)) }
+{
+    let supply = supplies_of(alloc, accepted.graph().actors(), script.supply)?;
+    let setup = Setup {
+        accepted,
+        limits,
+        supply,
+        firings: script.firings,
+    };
+    Core::new(alloc, setup)
+}
+
 /// The core on which the script is played.
 pub(crate) fn opening_core(
     alloc: Global,
@@ -105,15 +133,6 @@ pub(crate) fn opening_core(
     ensures opening { IfOk result (λ core. Shows core (opening core.plan)) }
     ensures channels { IfOk result (λ core. length core.plan.channels ≡ length accepted.now.graph.channels) }
 {
-    let actors = accepted.graph().actors();
-    let limits = vec![in alloc; script.limit; actors.len()]?;
-    let supply = supplies_of(alloc, actors, script.supply)?;
-    let setup = Setup {
-        accepted,
-        limits,
-        supply,
-        firings: script.firings,
-    };
-    let core = Core::new(alloc, setup)?;
-    Ok(core)
+    let limits = limits_of(alloc, accepted.graph().actors(), script.limit)?;
+    core_under(alloc, accepted, script, limits)
 }

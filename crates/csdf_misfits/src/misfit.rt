@@ -5,7 +5,7 @@ use std::fmt;
 use toml::{Table, Value};
 
 /// What stands at a key.
-#[derive(Clone, Copy, Debug)]
+#[derive(Clone, Copy)]
 pub(crate) enum Found<'a> {
     Nothing,
     Unlisted,
@@ -39,7 +39,7 @@ impl fmt::Display for Found<'_> {
 }
 
 /// What is wanted at a key.
-#[derive(Clone, Copy, Debug)]
+#[derive(Clone, Copy)]
 pub(crate) enum Wanted<'a> {
     Words(&'static str),
     /// A number from one to another.
@@ -59,7 +59,7 @@ impl fmt::Display for Wanted<'_> {
 }
 
 /// A key, what stands there, and what is wanted.
-#[derive(Clone, Copy, Debug)]
+#[derive(Clone, Copy)]
 pub(crate) struct Misfit<'a> {
     pub(crate) key: &'a str,
     pub(crate) found: Found<'a>,

@@ -1,7 +1,11 @@
 -- How the program ends, by the answer of its command.
-use Rattle.std.proofs.Common.{◌≡◌, ◌≢◌, ℕ, List, Bool, Option, Some, None, arith, refl, sym, ap, ◌∙◌, inl, inr}
+use Rattle.std.proofs.Common.{◌≡◌, ◌≢◌, ℕ, List, Bool, Option, Some, None, arith, refl, sym, ap, subst, ◌∙◌, inl, inr}
 use Rattle.std.specs.Prelude.{◌<◌, ◌⊎◌, Result, Ok, Err, IfErr, IfSome, OnOk, length}
-use Rattle.csdf_tool.specs.Ends.{Ended, EndsAs, EndsBy, IsFaultOfInput}
+use Rattle.csdf_tool.specs.Carried.{IsCarriedOut, IsInputRefused, PutsOut, IsRefusalOf}
+use Rattle.csdf_tool.specs.CommandLine.{Asked}
+use Rattle.csdf_tool.specs.Ends.{Ended, EndsAs, EndsBy, IsFaultOfFile, IsFaultOfInput}
+use Rattle.std.specs.Io.KnownBytes.{Appends}
+use Rattle.csdf_answers.specs.declared.fault.Stream.TheVariants.{Output}
 use Rattle.csdf_answers.specs.Faults.{status_of}
 use Rattle.csdf_answers.specs.Session.{IsAnswer}
 use Rattle.csdf_answers.specs.declared.fault.ToolFault.{ToolFault}
@@ -97,8 +101,42 @@ by_length left f (inl is) long other = of_long left f is (long is)
 by_length left f (inr is) long other = of_other left f (other is)
 
 pub input_refused : (answer : Result (Unit {0}) ToolFault) (left : Option (List ℕ))
+    → IfErr answer (λ f. status_of f ≡ 1 → IsInputRefused left f)
+    → IfErr answer (λ f. status_of f ≡ 1 → IfSome left (λ bytes. IsFaultOfInput bytes f))
+input_refused (Ok u) left h = tt
+input_refused (Err f) left h = λ one. by_length left f (long_or_not f) (h one).long (h one).other
+
+pub refuses_input : (answer : Result (Unit {0}) ToolFault) (left : Option (List ℕ))
     → (answer ≡ Err fault.TooLong → IfSome left (λ bytes. 16777216 < length bytes))
     → IfErr answer (λ f. status_of f ≡ 1 → f ≢ fault.TooLong → IfSome left (λ bytes. IsAnswer bytes (Err f)))
-    → IfErr answer (λ f. status_of f ≡ 1 → IfSome left (λ bytes. IsFaultOfInput bytes f))
-input_refused (Ok u) left long other = tt
-input_refused (Err f) left long other = λ one. by_length left f (long_or_not f) (λ is. long (ap Err is)) (other one)
+    → IfErr answer (λ f. status_of f ≡ 1 → IsInputRefused left f)
+refuses_input (Ok u) left long other = tt
+refuses_input (Err f) left long other = λ one. record { long = λ is. long (ap Err is); other = other one }
+
+-- ---- a file
+
+module _ (IsAnswerTo : List ℕ → Result (List ℕ) ToolFault → Type 0) where
+  pub puts_out : (answer : Result (Unit {0}) ToolFault) (bytes : List ℕ) (before after : Option (List ℕ))
+      → OnOk answer ((text : List ℕ) × IsAnswerTo bytes (Ok text) × Appends before after text) → OnOk answer (PutsOut IsAnswerTo before after)
+  puts_out (Ok u) bytes before after h = (bytes, h.0, h.1, h.2)
+  puts_out (Err f) bytes before after h = tt
+
+  pub refuses_file : (answer : Result (Unit {0}) ToolFault) (bytes : List ℕ)
+      → IfErr answer (λ f. f ≢ fault.Memory → f ≢ fault.Device Output → IsAnswerTo bytes (Err f))
+      → IfErr answer (λ f. status_of f ≡ 1 → IsFaultOfFile IsAnswerTo f)
+  refuses_file (Ok u) bytes h = tt
+  refuses_file (Err f) bytes h = λ one.
+      inr (
+        bytes,
+        h (λ is. let three : status_of f ≡ 3 = ap status_of is in omega (arith, three, one))
+            (λ is. let three : status_of f ≡ 3 = ap status_of is in omega (arith, three, one)),
+      )
+
+-- ---- what is asked for by another name
+
+module _ (left : Option (List ℕ)) (answer : Result (Unit {0}) ToolFault) {asked : Asked} (other : Asked) (same : asked ≡ other) where
+  pub carried_as : (before after : Option (List ℕ)) → OnOk answer (IsCarriedOut asked left before after) → OnOk answer (IsCarriedOut other left before after)
+  carried_as before after h = subst (λ a. OnOk answer (IsCarriedOut a left before after)) same h
+
+  pub refused_as : IfErr answer (λ f. status_of f ≡ 1 → IsRefusalOf asked left f) → IfErr answer (λ f. status_of f ≡ 1 → IsRefusalOf other left f)
+  refused_as h = subst (λ a. IfErr answer (λ f. status_of f ≡ 1 → IsRefusalOf a left f)) same h

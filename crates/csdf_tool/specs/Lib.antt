@@ -1,3 +1,4 @@
+pub mod Carried
 pub mod CommandLine
 pub mod Ends
 pub mod Running

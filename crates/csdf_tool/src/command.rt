@@ -1,7 +1,7 @@
 //! The command line.
 
 ghost use Rattle.std.specs.Prelude.{◌≡◌, ◌≤◌, [], true, false, map, string_bytes, Ok, IfErr, IfOk, IfSome};
-ghost use Rattle.clap.specs.Words.{app_of, fault_of, found_of, kind_of, rows_of, rule_of, subcommand_of, subcommand_rows_of, takes, with_rule, FailsBy};
+ghost use Rattle.clap.specs.Words.{App, app_of, fault_of, found_of, kind_of, rows_of, rule_of, subcommand_of, subcommand_rows_of, takes, with_rule, FailsBy};
 ghost use Rattle.clap.specs.declared.builder.command.Command.TheViews.{out-Command as fields_of};
 ghost use Rattle.csdf_tool.specs.CommandLine.{on_graph, on_files, run_command, number_option, no_commands, with_command, with_questions, program};
 ghost use Rattle.csdf_tool.specs.CommandLine.{asked_view, asked_by, asked_of, asked, words_ask};
@@ -16,7 +16,7 @@ use csdf_answers::Question;
 use std::alloc::{AllocError, Global};
 
 /// What the program is asked to do.
-#[derive(Clone, Copy, Debug)]
+#[derive(Clone, Copy)]
 pub(crate) enum Request<'a> {
     /// To play the script of standard input.
     Input,
@@ -116,14 +116,12 @@ fn run_command<'a>(alloc: Global) -> Result<Command<'a>, AllocError>
 fn no_commands<'a>(alloc: Global) -> Result<Command<'a>, AllocError>
     ensures { IfOk result (λ program. app_of program ≡ no_commands) }
 {
-    let program = Command::new(alloc, "csdf").bin_name("csdf")?;
-    Ok(
-        program
-            .version("0.1.0")
-            .about("Runs and analyses cyclo-static dataflow graphs")
-            .after_help(help::PROGRAM)
-            .no_binary_name(true),
-    )
+    Command::new(alloc, "csdf")
+        .version("0.1.0")
+        .about("Runs and analyses cyclo-static dataflow graphs")
+        .after_help(help::PROGRAM)
+        .no_binary_name(true)
+        .bin_name("csdf")
 }
 
 /// The program with one more command on a graph file.
@@ -139,24 +137,40 @@ fn with_command<'a>(
     program.subcommand(on_graph(alloc, name, about, more)?)
 }
 
+/// The same, where there is a program yet.
+fn then_command<'a>(
+    alloc: Global,
+    program: Result<Command<'a>, AllocError>,
+    name: &'a str,
+    about: &'a str,
+    more: &'a str,
+) -> Result<Command<'a>, AllocError>
+    ensures { (before : App) → IfOk program.entry (λ p. app_of p ≡ before) → IfOk result (λ r. app_of r ≡ with_command before name.entry.now) }
+{
+    match program {
+        Ok(program) => with_command(alloc, program, name, about, more),
+        Err(error) => Err(error),
+    }
+}
+
 /// The program with the commands that answer a question or play a script.
 fn with_questions<'a>(alloc: Global, program: Command<'a>) -> Result<Command<'a>, AllocError>
     ensures { IfOk result (λ r. app_of r ≡ with_questions (app_of program.entry)) }
 {
     let about = "Play the script of a graph file";
-    let program = with_command(alloc, program, "moves", about, help::MOVES)?;
+    let program = with_command(alloc, program, "moves", about, help::MOVES);
     let about = "Tell whether a graph is consistent";
-    let program = with_command(alloc, program, "check", about, help::CHECK)?;
+    let program = then_command(alloc, program, "check", about, help::CHECK);
     let about = "Print each actor's cycles and firings in a period";
-    let program = with_command(alloc, program, "repetition", about, help::REPETITION)?;
+    let program = then_command(alloc, program, "repetition", about, help::REPETITION);
     let about = "Print the actor of each firing of a period";
-    let program = with_command(alloc, program, "schedule", about, help::SCHEDULE)?;
+    let program = then_command(alloc, program, "schedule", about, help::SCHEDULE);
     let about = "Print the least channel capacities";
-    let program = with_command(alloc, program, "capacity", about, help::CAPACITY)?;
+    let program = then_command(alloc, program, "capacity", about, help::CAPACITY);
     let about = "Print the graph for Graphviz, which draws it";
-    let program = with_command(alloc, program, "dot", about, help::DOT)?;
+    let program = then_command(alloc, program, "dot", about, help::DOT);
     let about = "Tell why a graph is refused, or that it is accepted";
-    with_command(alloc, program, "explain", about, help::EXPLAIN)
+    then_command(alloc, program, "explain", about, help::EXPLAIN)
 }
 
 /// The program's command line.

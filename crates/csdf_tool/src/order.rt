@@ -3,7 +3,7 @@
 ghost use Rattle.std.specs.Prelude.{◌≤◌};
 
 /// A run of the graph of a file over the token files of a folder.
-#[derive(Clone, Copy, Debug)]
+#[derive(Clone, Copy)]
 pub(crate) struct RunOrder<'a> {
     /// The graph file.
     pub(crate) graph: &'a str,

@@ -4,6 +4,7 @@ ghost use Rattle.std.specs.Prelude.{◌≡◌, ◌≢◌, ◌↔◌, ◌<◌, �
 ghost use Rattle.std.specs.Io.KnownBytes.{Appends};
 ghost use Rattle.clap.specs.Words.{fault_of, kind_of, takes};
 ghost use Rattle.csdf_tool.specs.CommandLine.{program, asked_view, words_ask, Moves, Ask, Explain, Order, Run};
+ghost use Rattle.csdf_tool.specs.Carried.{IsCarriedOut, IsRefusalOf};
 ghost use Rattle.csdf_answers.specs.Described.{IsDescription};
 ghost use Rattle.csdf_answers.specs.declared.question.Question.{Question};
 ghost use Rattle.csdf_tool.specs.Ends.{Ended, EndsAs, EndsBy, EndsFor, EndsForOneOf, IsFaultOfFile, IsFaultOfInput};
@@ -56,28 +57,8 @@ fn carry_out<R: Files + AllocGlobal + Threads + Wait + Sync, I: Intake, O: Outle
 ) -> Result<(), ToolFault>
     ensures unwritten { IfErr result (λ fault. fault ≢ ToolFault.Device Stream.Output → out.new ≡ out.old) }
     ensures failed { result ≡ Err (ToolFault.Device Stream.Output) → O.failed out.new ≡ true }
-    ensures played { request.entry ≡ Request.Input → OnOk result (IfSome (I.left reader.old)
-        (λ bytes. (text : List ℕ) × IsAnswer bytes (Ok text) × Appends (O.written out.old) (O.written out.new) text)) }
-    ensures moves { (path : List ℕ) → asked_view request.entry ≡ Moves path → OnOk result ((bytes text : List ℕ) × IsAnswer bytes (Ok text)
-        × Appends (O.written out.old) (O.written out.new) text) }
-    ensures told { (question : Question) (path : List ℕ) → asked_view request.entry ≡ Ask question path → OnOk result ((bytes text : List ℕ)
-        × IsDescription question bytes (Ok text) × Appends (O.written out.old) (O.written out.new) text) }
-    ensures explained { (path : List ℕ) → asked_view request.entry ≡ Explain path → OnOk result ((bytes text : List ℕ)
-        × IsExplained bytes (Ok text) × Appends (O.written out.old) (O.written out.new) text) }
-    ensures ran { (order : Order) → asked_view request.entry ≡ Run order → OnOk result ((bytes text : List ℕ)
-        × IsRunTold order bytes (Ok text) × Appends (O.written out.old) (O.written out.new) text) }
-    ensures long { request.entry ≡ Request.Input → result ≡ Err ToolFault.TooLong
-        → IfSome (I.left reader.old) (λ bytes. 16777216 < length bytes) }
-    ensures refused { request.entry ≡ Request.Input → IfErr result (λ fault. status_of fault ≡ 1 → fault ≢ ToolFault.TooLong
-        → IfSome (I.left reader.old) (λ bytes. IsAnswer bytes (Err fault))) }
-    ensures moves_refused { (path : List ℕ) → asked_view request.entry ≡ Moves path
-        → IfErr result (λ fault. status_of fault ≡ 1 → IsFaultOfFile IsAnswer fault) }
-    ensures told_refused { (question : Question) (path : List ℕ) → asked_view request.entry ≡ Ask question path
-        → IfErr result (λ fault. status_of fault ≡ 1 → IsFaultOfFile (IsDescription question) fault) }
-    ensures explained_refused { (path : List ℕ) → asked_view request.entry ≡ Explain path
-        → IfErr result (λ fault. status_of fault ≡ 1 → fault ≡ ToolFault.TooLong) }
-    ensures ran_refused { (order : Order) → asked_view request.entry ≡ Run order
-        → IfErr result (λ fault. status_of fault ≡ 1 → IsFaultOfFile (IsRunTold order) fault) }
+    ensures carried { OnOk result (IsCarriedOut (asked_view request.entry) (I.left reader.old) (O.written out.old) (O.written out.new)) }
+    ensures refused { IfErr result (λ fault. status_of fault ≡ 1 → IsRefusalOf (asked_view request.entry) (I.left reader.old) fault) }
 {
     let alloc = rt.alloc();
     match request {

@@ -1,13 +1,36 @@
-use Rattle.std.proofs.Common.{◌≡◌, ℕ, List, Ok, ap, sym, subst, ◌∙◌}
-use Rattle.std.specs.Prelude.{OnOk}
-use Rattle.std.specs.Io.KnownBytes.{Appends}
-use Rattle.csdf_tool.specs.CommandLine.{Order, Run, asked_view, order_view}
-use Rattle.csdf_tool.specs.Running.{IsRunTold}
+use Rattle.std.proofs.Common.{sym, ap}
+use Rattle.csdf_answers.specs.Described.{IsDescription}
+use Rattle.csdf_answers.specs.Session.{IsAnswer}
+use Rattle.csdf_tool.specs.CommandLine.{asked_view}
+use Rattle.csdf_tool.proofs.EndLemmas.{carried_as, puts_out, refused_as, refuses_file, refuses_input}
 use Rattle.csdf_tool.proofs.program.carry_out.Goals as goal
 
-pub returns-in-Run-clause-ran : goal.returns-in-Run-clause-ran
-returns-in-Run-clause-ran g c = λ order asks.
-    let asked : Run (order_view c.in-Run.order) ≡ Run order = sym (ap asked_view c.in-Run.is) ∙ asks in
-    let same : order_view c.in-Run.order ≡ order = cc in
-    subst (λ (o : Order). OnOk c.run_files.result ((bytes : List ℕ) × (text : List ℕ) × IsRunTold o bytes (Ok text)
-    × Appends (g.O.Outlet.written c.args.out.now) (g.O.Outlet.written c.run_files.new.out) text)) same c.run_files.ensures.written
+pub returns-in-Input-clause-refused : goal.returns-in-Input-clause-refused
+returns-in-Input-clause-refused g c =
+    let left = g.I.Intake.left c.args.reader.now in
+    refused_as left c.play_input.result (asked_view c.args.request) (sym (ap asked_view c.in-Input.is))
+    (refuses_input c.play_input.result left c.play_input.ensures.long c.play_input.ensures.refused)
+
+pub returns-in_ok-file_bytes-in-Moves-clause-carried : goal.returns-in_ok-file_bytes-in-Moves-clause-carried
+returns-in_ok-file_bytes-in-Moves-clause-carried g c =
+    let left = g.I.Intake.left c.args.reader.now in
+    carried_as left c.play_script.result (asked_view c.args.request) (sym (ap asked_view c.in-Moves.is)) (g.O.Outlet.written c.args.out.now) _
+    (puts_out IsAnswer c.play_script.result _ _ _ c.play_script.ensures.written)
+
+pub returns-in_ok-file_bytes-in-Moves-clause-refused : goal.returns-in_ok-file_bytes-in-Moves-clause-refused
+returns-in_ok-file_bytes-in-Moves-clause-refused g c =
+    let left = g.I.Intake.left c.args.reader.now in
+    refused_as left c.play_script.result (asked_view c.args.request) (sym (ap asked_view c.in-Moves.is))
+    (refuses_file IsAnswer c.play_script.result _ c.play_script.ensures.refused)
+
+pub returns-in_ok-file_bytes-in-Ask-clause-carried : goal.returns-in_ok-file_bytes-in-Ask-clause-carried
+returns-in_ok-file_bytes-in-Ask-clause-carried g c =
+    let left = g.I.Intake.left c.args.reader.now in
+    carried_as left c.describe.result (asked_view c.args.request) (sym (ap asked_view c.in-Ask.is)) (g.O.Outlet.written c.args.out.now) _
+    (puts_out (IsDescription c.in-Ask.question) c.describe.result _ _ _ c.describe.ensures.written)
+
+pub returns-in_ok-file_bytes-in-Ask-clause-refused : goal.returns-in_ok-file_bytes-in-Ask-clause-refused
+returns-in_ok-file_bytes-in-Ask-clause-refused g c =
+    let left = g.I.Intake.left c.args.reader.now in
+    refused_as left c.describe.result (asked_view c.args.request) (sym (ap asked_view c.in-Ask.is))
+    (refuses_file (IsDescription c.in-Ask.question) c.describe.result _ c.describe.ensures.refused)

@@ -1,6 +1,8 @@
-use Rattle.std.proofs.Common.{◌≡◌, ◌∙◌}
+use Rattle.std.proofs.Common.{◌≡◌, ap, ◌∙◌}
+use Rattle.csdf_tool.specs.CommandLine.{Moves, Ask, Explain, Run, asked_view}
+use Rattle.csdf_tool.specs.CommandLine.{Input as NoWords}
 use Rattle.csdf_tool.specs.declared.command.Request.TheVariants.{Input}
-use Rattle.csdf_tool.proofs.EndLemmas.{at_zero, lined, refused, input_refused}
+use Rattle.csdf_tool.proofs.EndLemmas.{at_zero, carried_as, lined, refused, refused_as, input_refused}
 use Rattle.csdf_tool.proofs.program.run_words.Goals as goal
 
 pub returns-in-Ok-clause-lined : goal.returns-in-Ok-clause-lined
@@ -8,39 +10,59 @@ returns-in-Ok-clause-lined g c = lined _ c.status_after.ensures.ends
 
 pub returns-in-Ok-clause-moves : goal.returns-in-Ok-clause-moves
 returns-in-Ok-clause-moves g c = λ path taken asks zero.
-    at_zero c.carry_out.result _ c.status_after.ensures.ends zero (c.carry_out.ensures.moves path (c.in-Ok.ensures.asked ∙ asks))
-
-pub returns-in-Ok-clause-told : goal.returns-in-Ok-clause-told
-returns-in-Ok-clause-told g c = λ question path taken asks zero.
-    at_zero c.carry_out.result _ c.status_after.ensures.ends zero (c.carry_out.ensures.told question path (c.in-Ok.ensures.asked ∙ asks))
-
-pub returns-in-Ok-clause-explained : goal.returns-in-Ok-clause-explained
-returns-in-Ok-clause-explained g c = λ path taken asks zero.
-    at_zero c.carry_out.result _ c.status_after.ensures.ends zero (c.carry_out.ensures.explained path (c.in-Ok.ensures.asked ∙ asks))
-
-pub returns-in-Ok-clause-explained_refused : goal.returns-in-Ok-clause-explained_refused
-returns-in-Ok-clause-explained_refused g c = λ path asks one.
-    refused c.carry_out.result _ c.status_after.ensures.ends one (c.carry_out.ensures.explained_refused path (c.in-Ok.ensures.asked ∙ asks))
-
-pub returns-in-Ok-clause-ran : goal.returns-in-Ok-clause-ran
-returns-in-Ok-clause-ran g c = λ order taken asks zero.
-    at_zero c.carry_out.result _ c.status_after.ensures.ends zero (c.carry_out.ensures.ran order (c.in-Ok.ensures.asked ∙ asks))
-
-pub returns-in-Ok-clause-ran_refused : goal.returns-in-Ok-clause-ran_refused
-returns-in-Ok-clause-ran_refused g c = λ order asks one.
-    refused c.carry_out.result _ c.status_after.ensures.ends one (c.carry_out.ensures.ran_refused order (c.in-Ok.ensures.asked ∙ asks))
+    at_zero c.carry_out.result _ c.status_after.ensures.ends zero
+    (carried_as (g.I.Intake.left c.args.reader.now) c.carry_out.result (Moves path) (c.in-Ok.ensures.asked ∙ asks) (g.O.Outlet.written c.args.out.now) _
+    c.carry_out.ensures.carried)
 
 pub returns-in-Ok-clause-moves_refused : goal.returns-in-Ok-clause-moves_refused
 returns-in-Ok-clause-moves_refused g c = λ path asks one.
-    refused c.carry_out.result _ c.status_after.ensures.ends one (c.carry_out.ensures.moves_refused path (c.in-Ok.ensures.asked ∙ asks))
+    refused c.carry_out.result _ c.status_after.ensures.ends one
+    (refused_as (g.I.Intake.left c.args.reader.now) c.carry_out.result (Moves path) (c.in-Ok.ensures.asked ∙ asks) c.carry_out.ensures.refused)
+
+pub returns-in-Ok-clause-told : goal.returns-in-Ok-clause-told
+returns-in-Ok-clause-told g c = λ question path taken asks zero.
+    at_zero c.carry_out.result _ c.status_after.ensures.ends zero
+    (carried_as (g.I.Intake.left c.args.reader.now) c.carry_out.result (Ask question path) (c.in-Ok.ensures.asked ∙ asks) (g.O.Outlet.written c.args.out.now) _
+    c.carry_out.ensures.carried)
 
 pub returns-in-Ok-clause-told_refused : goal.returns-in-Ok-clause-told_refused
 returns-in-Ok-clause-told_refused g c = λ question path asks one.
-    refused c.carry_out.result _ c.status_after.ensures.ends one (c.carry_out.ensures.told_refused question path (c.in-Ok.ensures.asked ∙ asks))
+    refused c.carry_out.result _ c.status_after.ensures.ends one
+    (refused_as (g.I.Intake.left c.args.reader.now) c.carry_out.result (Ask question path) (c.in-Ok.ensures.asked ∙ asks) c.carry_out.ensures.refused)
+
+pub returns-in-Ok-clause-explained : goal.returns-in-Ok-clause-explained
+returns-in-Ok-clause-explained g c = λ path taken asks zero.
+    at_zero c.carry_out.result _ c.status_after.ensures.ends zero
+    (carried_as (g.I.Intake.left c.args.reader.now) c.carry_out.result (Explain path) (c.in-Ok.ensures.asked ∙ asks) (g.O.Outlet.written c.args.out.now) _
+    c.carry_out.ensures.carried)
+
+pub returns-in-Ok-clause-explained_refused : goal.returns-in-Ok-clause-explained_refused
+returns-in-Ok-clause-explained_refused g c = λ path asks one.
+    refused c.carry_out.result _ c.status_after.ensures.ends one
+    (refused_as (g.I.Intake.left c.args.reader.now) c.carry_out.result (Explain path) (c.in-Ok.ensures.asked ∙ asks) c.carry_out.ensures.refused)
+
+pub returns-in-Ok-clause-ran : goal.returns-in-Ok-clause-ran
+returns-in-Ok-clause-ran g c = λ order taken asks zero.
+    at_zero c.carry_out.result _ c.status_after.ensures.ends zero
+    (carried_as (g.I.Intake.left c.args.reader.now) c.carry_out.result (Run order) (c.in-Ok.ensures.asked ∙ asks) (g.O.Outlet.written c.args.out.now) _
+    c.carry_out.ensures.carried)
+
+pub returns-in-Ok-clause-ran_refused : goal.returns-in-Ok-clause-ran_refused
+returns-in-Ok-clause-ran_refused g c = λ order asks one.
+    refused c.carry_out.result _ c.status_after.ensures.ends one
+    (refused_as (g.I.Intake.left c.args.reader.now) c.carry_out.result (Run order) (c.in-Ok.ensures.asked ∙ asks) c.carry_out.ensures.refused)
+
+pub returns-in-Ok-clause-played : goal.returns-in-Ok-clause-played
+returns-in-Ok-clause-played g c = λ none zero.
+    let plays = c.in-Ok.ensures.none none in
+    let input : c.in-Ok.request ≡ Input = cc in
+    at_zero c.carry_out.result _ c.status_after.ensures.ends zero
+    (carried_as (g.I.Intake.left c.args.reader.now) c.carry_out.result NoWords (ap asked_view input) (g.O.Outlet.written c.args.out.now) _
+    c.carry_out.ensures.carried)
 
 pub returns-in-Ok-clause-faulty : goal.returns-in-Ok-clause-faulty
 returns-in-Ok-clause-faulty g c = λ none one.
     let plays = c.in-Ok.ensures.none none in
     let input : c.in-Ok.request ≡ Input = cc in
     refused c.carry_out.result _ c.status_after.ensures.ends one
-    (input_refused c.carry_out.result _ (c.carry_out.ensures.long input) (c.carry_out.ensures.refused input))
+    (input_refused c.carry_out.result _ (refused_as (g.I.Intake.left c.args.reader.now) c.carry_out.result NoWords (ap asked_view input) c.carry_out.ensures.refused))
