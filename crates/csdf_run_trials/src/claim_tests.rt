@@ -1,7 +1,8 @@
-ghost use Rattle.std.specs.Prelude.{◌≡◌, ◌<◌, ◌≤◌, [], ◌∷◌, IfOk};
+ghost use Rattle.std.specs.Prelude.{◌≡◌, ◌<◌, ◌≤◌, [], ◌∷◌, length, IfOk};
 ghost use Rattle.csdf_claims.specs.Board.{Holds, IsLawful, KeepsAll};
 ghost use Rattle.csdf_claims.specs.Laws.{first_done, second_held};
 
+use crate::shared::expect_eq;
 use csdf_claims::{Board, Lost, Missing, Place};
 use std::alloc::{AllocError, Global};
 use std::process::Abort;
@@ -26,11 +27,12 @@ fn the_definition_means_what_it_says() {
 
 const TRIES: u32 = 10_000;
 
-// A board with one actor and two places.
-fn board_of_two(alloc: Global) -> Result<(Board, Place, Place), AllocError>
-    ensures { IfOk result (λ r. (r.0.actors ≡ 1) × (r.1.board ≡ r.0.id) × (r.2.board ≡ r.0.id)) }
+// A board with so many actors and two places.
+fn board_of_two(alloc: Global, actors: u32) -> Result<(Board, Place, Place), AllocError>
+    requires { actors ≤ 64 }
+    ensures { IfOk result (λ r. (r.0.actors ≡ actors) × (r.1.board ≡ r.0.id) × (r.2.board ≡ r.0.id)) }
 {
-    let (board, mut p) = Board::new(alloc, 1)?;
+    let (board, mut p) = Board::new(alloc, actors)?;
     let q = board.split(alloc, &mut p)?;
     Ok((board, p, q))
 }
@@ -81,9 +83,9 @@ fn first_firing<R: Abort>(rt: &R, board: &Board, p: &mut Place, q: &mut Place)
     ensures q { q.new.board ≡ q.old.board }
 {
     win(rt, board, p, 0, 0);
-    assert_eq!(rt; board.try_claim(q, 0, 0), Err(Lost::Held(0)));
+    expect_eq(rt, board.try_claim(q, 0, 0), Err(Lost::Held(0)));
     board.done(p, 0);
-    assert_eq!(rt; board.try_claim(q, 0, 0), Err(Lost::Moved(1)));
+    expect_eq(rt, board.try_claim(q, 0, 0), Err(Lost::Moved(1)));
 }
 
 // The second one: `q` claims it and hands it back, and `p` claims and finishes it.
@@ -96,71 +98,130 @@ fn second_firing<R: Abort>(rt: &R, board: &Board, p: &mut Place, q: &mut Place)
 {
     win(rt, board, q, 0, 1);
     board.hand_back(q, 0);
-    assert_eq!(rt; board.peek(q, 0), (1, false));
+    expect_eq(rt, board.peek(q, 0), (1, false));
     win(rt, board, p, 0, 1);
-    assert_eq!(rt; board.peek(q, 0), (1, true));
+    expect_eq(rt, board.peek(q, 0), (1, true));
     board.done(p, 0);
+}
+
+// Actor 0 at this firing is held by another place: neither this firing nor a later one is to be had.
+fn check_held<R: Abort>(rt: &R, board: &Board, place: &mut Place)
+    requires place { place.old.board ≡ board.now.id }
+    requires actors { 0 < board.now.actors }
+    ensures board { place.new.board ≡ place.old.board }
+{
+    expect_eq(rt, board.try_claim(place, 0, 1), Err(Lost::Held(1)));
+    expect_eq(rt, board.try_claim(place, 0, 5), Err(Lost::Held(1)));
+}
+
+// Actor 0 is past firing 1, and its next one is there to be had.
+fn check_moved<R: Abort>(rt: &R, board: &Board, place: &mut Place)
+    requires place { place.old.board ≡ board.now.id }
+    requires actors { 0 < board.now.actors }
+{
+    expect_eq(rt, board.try_claim(place, 0, 1), Err(Lost::Moved(2)));
+    win(rt, board, place, 0, 2);
 }
 
 #[test]
 fn two_places_take_turns(rt: HostRuntime) -> Result<(), Fail> {
-    let (board, mut p, mut q) = board_of_two(rt.alloc())?;
+    let (board, mut p, mut q) = board_of_two(rt.alloc(), 1)?;
     first_firing(&rt, &board, &mut p, &mut q);
     win(&rt, &board, &mut q, 0, 1);
-    assert_eq!(rt; board.try_claim(&mut p, 0, 1), Err(Lost::Held(1)));
-    assert_eq!(rt; board.try_claim(&mut p, 0, 5), Err(Lost::Held(1)));
+    check_held(&rt, &board, &mut p);
     board.done(&mut q, 0);
-    assert_eq!(rt; board.try_claim(&mut p, 0, 1), Err(Lost::Moved(2)));
-    win(&rt, &board, &mut p, 0, 2);
+    check_moved(&rt, &board, &mut p);
     Ok(())
+}
+
+// Of two actors the place claims and finishes the second one's first firing, while it looks at the first one.
+fn check_keeping<R: Abort>(rt: &R, alloc: Global, board: &Board, place: &mut Place)
+    requires place { place.old.board ≡ board.now.id }
+    requires actors { board.now.actors ≡ 2 }
+{
+    try_another(alloc, board, place, 0);
+    win(rt, board, place, 1, 0);
+    look_and_finish(board, place, (1, 0), 0);
+    expect_eq(rt, board.peek(place, 0), (0, true));
+    expect_eq(rt, board.peek(place, 1), (1, false));
 }
 
 #[test]
 fn a_place_keeps_what_it_holds(rt: HostRuntime) -> Result<(), Fail> {
     let (board, mut p) = Board::new(rt.alloc(), 2)?;
-    assert_eq!(rt; board.actors(), 2);
-    try_another(rt.alloc(), &board, &mut p, 0);
-    win(&rt, &board, &mut p, 1, 0);
-    look_and_finish(&board, &mut p, (1, 0), 0);
-    assert_eq!(rt; board.peek(&mut p, 0), (0, true));
-    assert_eq!(rt; board.peek(&mut p, 1), (1, false));
+    expect_eq(&rt, board.actors(), 2);
+    check_keeping(&rt, rt.alloc(), &board, &mut p);
     Ok(())
+}
+
+// Ends the board with this place, and asserts the answer and what is then in the totals.
+fn check_gathered<R: Abort>(
+    rt: &R,
+    board: Board,
+    place: Place,
+    totals: &mut [u32],
+    answer: Result<(), Missing>,
+    wanted: &[u32],
+)
+    requires place { place.board ≡ board.id }
+    requires totals { length totals.old ≡ board.actors }
+{
+    expect_eq(rt, board.gather(place, totals), answer);
+    expect_eq(rt, &*totals, wanted);
+}
+
+// Both firings of the one actor.
+fn both_firings<R: Abort>(rt: &R, board: &Board, p: &mut Place, q: &mut Place)
+    requires p { p.old.board ≡ board.now.id }
+    requires q { q.old.board ≡ board.now.id }
+    requires actors { 0 < board.now.actors }
+    ensures p { p.new.board ≡ p.old.board }
+    ensures q { q.new.board ≡ q.old.board }
+{
+    first_firing(rt, board, p, q);
+    second_firing(rt, board, p, q);
 }
 
 #[test]
 fn a_joined_place_gathers_all(rt: HostRuntime) -> Result<(), Fail> {
-    let (board, mut p, mut q) = board_of_two(rt.alloc())?;
-    first_firing(&rt, &board, &mut p, &mut q);
-    second_firing(&rt, &board, &mut p, &mut q);
+    let (board, mut p, mut q) = board_of_two(rt.alloc(), 1)?;
+    both_firings(&rt, &board, &mut p, &mut q);
     board.join(&mut p, q);
-    let mut totals = [7];
-    assert_eq!(rt; board.gather(p, &mut totals), Ok(()));
-    assert_eq!(rt; totals, [2]);
+    check_gathered(&rt, board, p, &mut [7], Ok(()), &[2]);
     Ok(())
 }
 
 #[test]
 fn a_place_alone_misses_what_the_other_finished(rt: HostRuntime) -> Result<(), Fail> {
-    let (board, mut p, mut q) = board_of_two(rt.alloc())?;
-    first_firing(&rt, &board, &mut p, &mut q);
-    second_firing(&rt, &board, &mut p, &mut q);
-    let mut totals = [7];
-    assert_eq!(rt; board.gather(q, &mut totals), Err(Missing(0, 2)));
-    assert_eq!(rt; totals, [7]);
+    let (board, mut p, mut q) = board_of_two(rt.alloc(), 1)?;
+    both_firings(&rt, &board, &mut p, &mut q);
+    check_gathered(&rt, board, q, &mut [7], Err(Missing(0, 2)), &[7]);
     Ok(())
+}
+
+// Claims and finishes the actor's first firing.
+fn finish_first<R: Abort>(rt: &R, board: &Board, place: &mut Place, actor: u32)
+    requires place { place.old.board ≡ board.now.id }
+    requires actor { actor < board.now.actors }
+    ensures board { place.new.board ≡ place.old.board }
+{
+    win(rt, board, place, actor, 0);
+    board.done(place, actor);
 }
 
 #[test]
 fn the_first_actor_that_lacks_is_named(rt: HostRuntime) -> Result<(), Fail> {
-    let (board, mut p) = Board::new(rt.alloc(), 3)?;
-    let q = board.split(rt.alloc(), &mut p)?;
-    win(&rt, &board, &mut p, 2, 0);
-    board.done(&mut p, 2);
-    win(&rt, &board, &mut p, 1, 0);
-    board.done(&mut p, 1);
-    let mut totals = [7, 8, 9];
-    assert_eq!(rt; board.gather(q, &mut totals), Err(Missing(1, 1)));
-    assert_eq!(rt; totals, [7, 8, 9]);
+    let (board, mut p, q) = board_of_two(rt.alloc(), 3)?;
+    finish_first(&rt, &board, &mut p, 2);
+    finish_first(&rt, &board, &mut p, 1);
+    check_gathered(
+        &rt,
+        board,
+        q,
+        &mut [7, 8, 9],
+        Err(Missing(1, 1)),
+        &[7, 8, 9],
+    );
     Ok(())
 }
 
@@ -177,6 +238,12 @@ fn claim_each(alloc: Global, board: &Board, mut place: Place) -> Option<Vec<u32>
         }
     }
     Some(won)
+}
+
+// Both, where there are both.
+fn both(first: Option<Vec<u32>>, second: Option<Vec<u32>>) -> Option<(Vec<u32>, Vec<u32>)> {
+    let first = first?;
+    Some((first, second?))
 }
 
 // What two threads win, each from a place of its own.
@@ -209,26 +276,37 @@ fn claim_in_two_threads<R: Threads + Wait + Sync>(
             );
             let first = first.ok()?.join(rt);
             let second = second.ok()?.join(rt);
-            Some((first?, second?))
+            both(first, second)
         },
     )
 }
 
-#[test]
-fn two_threads_win_each_firing_once(rt: HostRuntime) -> Result<(), Fail> {
-    let (board, p, q) = board_of_two(rt.alloc())?;
-    let won = claim_in_two_threads(&rt, rt.alloc(), &board, p, q);
-    let Some((first, second)) = won else {
-        panic!(rt; "no memory or no thread")
-    };
-    let mut counts = [0u8; TRIES as usize];
-    for firing in first.iter().chain(second.iter()) {
+// Counts how often each firing was won.
+fn count_won(counts: &mut [u8], won: &[u32]) {
+    for firing in won {
         if let Some(count) = counts.get_mut(*firing as usize) {
             *count = count.saturating_add(1);
         }
     }
+}
+
+// The first firings were each won once, as many as were won together, and no others.
+fn check_each_once<R: Abort>(rt: &R, first: &[u32], second: &[u32]) {
+    let mut counts = [0u8; TRIES as usize];
+    count_won(&mut counts, first);
+    count_won(&mut counts, second);
     let together = first.len().saturating_add(second.len());
     assert!(rt; together > 0 && counts.iter().take(together).all(|count| *count == 1));
     assert!(rt; counts.iter().skip(together).all(|count| *count == 0));
+}
+
+#[test]
+fn two_threads_win_each_firing_once(rt: HostRuntime) -> Result<(), Fail> {
+    let (board, p, q) = board_of_two(rt.alloc(), 1)?;
+    let won = claim_in_two_threads(&rt, rt.alloc(), &board, p, q);
+    let Some((first, second)) = won else {
+        panic!(rt; "no memory or no thread")
+    };
+    check_each_once(&rt, &first, &second);
     Ok(())
 }

@@ -1,9 +1,9 @@
 ghost use Rattle.std.specs.Prelude.{◌≡◌};
 ghost use Rattle.csdf_claims.specs.Board.{Holds, KeepsAll};
 
-use crate::shared::{TWO_SOURCES, accepted_in, expect_eq};
+use crate::shared::{TWO_SOURCES, accepted_in, expect_eq, ran};
 use csdf_claims::{Board, Place};
-use csdf_run::{Gate, Outcome, are_feeds, run};
+use csdf_run::{Gate, Outcome};
 use std::alloc::Global;
 use std::process::Abort;
 use std::sync::Wait;
@@ -116,12 +116,7 @@ fn outcome_of<R: Threads + Wait + Abort + Sync, G: Gate>(
 ) -> Result<Outcome, Fail> {
     let accepted = accepted_in(alloc, text)?;
     let feeds = single_tokens(alloc, tokens, accepted.graph().actors().len())?;
-    assert!(rt; are_feeds(accepted.graph(), &feeds));
-    assert!(rt; 1 <= workers && workers <= 8);
-    match run(rt, alloc, &accepted, &feeds, workers, 1, None, gate) {
-        Ok(outcome) => Ok(outcome),
-        Err(fault) => Err(fault.into()),
-    }
+    Ok(ran(rt, alloc, &accepted, &feeds, workers, 1, None, gate)?)
 }
 
 /// All that the sinks took.
@@ -159,8 +154,7 @@ fn two_firings_at_the_same_time(rt: HostRuntime) -> Result<(), Fail> {
 }
 
 /// Eight sources that one actor sums up.
-fn eight_sources(alloc: Global) -> Result<String, Fail> {
-    let mut text = String::new(alloc);
+fn write_eight_sources(text: &mut String) -> Result<(), Fail> {
     for i in 0..8 {
         write!(text, "[[actor]]\nname = \"s{i}\"\nkernel = \"source\"\n")?;
     }
@@ -175,6 +169,12 @@ fn eight_sources(alloc: Global) -> Result<String, Fail> {
     }
     text.push_str("[[channel]]\nname = \"y\"\nfrom = \"add\"\nto = \"snk\"\n")?;
     text.push_str("produce = [1]\nconsume = [1]\n")?;
+    Ok(())
+}
+
+fn eight_sources(alloc: Global) -> Result<String, Fail> {
+    let mut text = String::new(alloc);
+    write_eight_sources(&mut text)?;
     Ok(text)
 }
 
@@ -187,20 +187,27 @@ fn eight_summed<R: Threads + Wait + Abort + Sync>(
     outcome_of(rt, alloc, text.as_str(), &[1, 2, 3, 4, 5, 6, 7, 8], 8, gate)
 }
 
+fn check_eight<R: Threads + Wait + Abort + Sync>(
+    rt: &R,
+    alloc: Global,
+    gate: &Counting,
+) -> Result<(), Fail> {
+    let outcome = eight_summed(rt, alloc, gate)?;
+    expect_eq(&rt, gate.saw_all.load(SeqCst), 8);
+    check_taken(rt, alloc, &outcome, 36)
+}
+
 #[test]
 fn eight_firings_at_the_same_time(rt: HostRuntime) -> Result<(), Fail> {
     let gate = Counting {
         came: AtomicU32::new(0),
         saw_all: AtomicU32::new(0),
     };
-    let outcome = eight_summed(&rt, rt.alloc(), &gate)?;
-    expect_eq(&rt, gate.saw_all.load(SeqCst), 8);
-    check_taken(&rt, rt.alloc(), &outcome, 36)
+    check_eight(&rt, rt.alloc(), &gate)
 }
 
 /// A chain of 62 stages between a source and a sink.
-fn long_chain(alloc: Global) -> Result<String, Fail> {
-    let mut text = String::new(alloc);
+fn write_long_chain(text: &mut String) -> Result<(), Fail> {
     text.push_str("[[actor]]\nname = \"a0\"\nkernel = \"source\"\n")?;
     for i in 1..63 {
         write!(text, "[[actor]]\nname = \"a{i}\"\nkernel = \"copy\"\n")?;
@@ -214,6 +221,12 @@ fn long_chain(alloc: Global) -> Result<String, Fail> {
         )?;
         text.push_str("produce = [1]\nconsume = [1]\n")?;
     }
+    Ok(())
+}
+
+fn long_chain(alloc: Global) -> Result<String, Fail> {
+    let mut text = String::new(alloc);
+    write_long_chain(&mut text)?;
     Ok(text)
 }
 

@@ -1,7 +1,11 @@
 //! A job that takes memory, for `tests/memory/run`: it refuses one allocation after another.
 
-use csdf_kernel::{Counts, Done, Inputs, Job, eval};
+ghost use Rattle.csdf_floor.specs.Floor.{IsReady};
+
+use crate::shared::{done_of, job_of};
+use csdf_kernel::{Done, Job, eval};
 use csdf_model::Kernel;
+use std::alloc::Global;
 use std::process::Abort;
 use std::test::Fail;
 
@@ -19,26 +23,25 @@ fn check_done(rt: &impl Abort, done: &Done) {
     assert_eq!(rt; done.outputs(), OUTPUTS.as_slice());
 }
 
+/// The job that came back is done now.
+fn check_done_now(rt: &impl Abort, alloc: Global, job: Job) -> Result<(), Fail>
+    requires { IsReady job }
+{
+    check_job(rt, &job);
+    let done = done_of(alloc, job)?;
+    check_done(rt, &done);
+    Ok(())
+}
+
 /// Where memory is wanting the job comes back, and is done once there is some.
 #[test]
 fn hands_the_job_back(rt: HostRuntime) -> Result<(), Fail> {
-    let alloc = rt.alloc();
-    let job = Job {
-        kernel: Kernel::Copy,
-        actor: 3,
-        firing: 5,
-        counts: Counts::from_slice(alloc, &[20])?,
-        inputs: Inputs::from_slice(alloc, &[1, 2, 3])?,
-    };
-    match eval(alloc, job) {
-        Ok(done) => check_done(&rt, &done),
-        Err((job, _)) => {
-            check_job(&rt, &job);
-            match eval(alloc, job) {
-                Ok(done) => check_done(&rt, &done),
-                Err((_, error)) => return Err(error.into()),
-            }
+    let job = job_of(&rt, rt.alloc(), Kernel::Copy, &[20], &[1, 2, 3])?;
+    match eval(rt.alloc(), job) {
+        Ok(done) => {
+            check_done(&rt, &done);
+            Ok(())
         }
+        Err((job, _)) => check_done_now(&rt, rt.alloc(), job),
     }
-    Ok(())
 }

@@ -1,9 +1,16 @@
 //! The worked examples, and a job at its limits.
-use csdf_kernel::{Counts, Inputs, Job, eval};
+use crate::shared::{done_of, expect_eq, job_of};
+use csdf_kernel::Done;
 use csdf_model::Kernel;
 use std::alloc::Global;
 use std::process::Abort;
 use std::test::Fail;
+
+fn check_done(rt: &impl Abort, done: &Done, inputs: &[i32], wanted: &[i32]) {
+    expect_eq(rt, done.outputs(), wanted);
+    expect_eq(rt, (done.job().actor, done.job().firing), (3, 5));
+    expect_eq(rt, done.job().inputs.as_slice(), inputs);
+}
 
 /// Evaluates a job, whose outputs have to be these.
 fn gives(
@@ -14,30 +21,10 @@ fn gives(
     inputs: &[i32],
     wanted: &[i32],
 ) -> Result<(), Fail> {
-    assert!(rt; counts.len() <= 128);
-    assert!(rt; counts.iter().all(|count| *count <= 64));
-    assert!(rt; inputs.len() <= 8192);
-    if let Kernel::Fir { taps, shift, .. } = kernel {
-        assert!(rt; taps <= 16);
-        assert!(rt; shift <= 31);
-    }
-    let job = Job {
-        kernel,
-        actor: 3,
-        firing: 5,
-        counts: Counts::from_slice(alloc, counts)?,
-        inputs: Inputs::from_slice(alloc, inputs)?,
-    };
-    match eval(alloc, job) {
-        Ok(done) => {
-            assert_eq!(rt; done.outputs(), wanted);
-            assert_eq!(rt; done.job().actor, 3);
-            assert_eq!(rt; done.job().firing, 5);
-            assert_eq!(rt; done.job().inputs.as_slice(), inputs);
-            Ok(())
-        }
-        Err((_job, error)) => Err(error.into()),
-    }
+    let job = job_of(rt, alloc, kernel, counts, inputs)?;
+    let done = done_of(alloc, job)?;
+    check_done(rt, &done, inputs, wanted);
+    Ok(())
 }
 
 #[test]
@@ -84,6 +71,31 @@ fn feeds(rt: HostRuntime) -> Result<(), Fail> {
     gives(&rt, alloc, Kernel::Sink, &[2], &[7, 8, 9], &[0, 0])
 }
 
+/// Gives so many times the same output.
+fn gives_the_same(
+    rt: &impl Abort,
+    alloc: Global,
+    kernel: Kernel,
+    counts: &[u32],
+    inputs: &[i32],
+    output: i32,
+) -> Result<(), Fail> {
+    let wanted = vec![in alloc; output; 8192]?;
+    gives(rt, alloc, kernel, counts, inputs, &wanted)
+}
+
+/// Gives the same output to as many and as great counts as there may be.
+fn gives_to_all(
+    rt: &impl Abort,
+    alloc: Global,
+    kernel: Kernel,
+    inputs: &[i32],
+    output: i32,
+) -> Result<(), Fail> {
+    let counts = vec![in alloc; 64u32; 128]?;
+    gives_the_same(rt, alloc, kernel, &counts, inputs, output)
+}
+
 /// As many and as great counts, inputs, weights, taps and shift as there may be. With k inputs left, at
 /// most 16 of them in reach, a sum of products is k * 2^62, and k * 2^31 once it is shifted: it clamps.
 #[test]
@@ -91,14 +103,11 @@ fn meets_the_limits(rt: HostRuntime) -> Result<(), Fail> {
     let alloc = rt.alloc();
     let low = i32::MIN;
     let inputs = vec![in alloc; low; 8192]?;
-    let counts = vec![in alloc; 64u32; 128]?;
-    let wanted = vec![in alloc; i32::MAX; 8192]?;
     let kernel = Kernel::Fir {
         weights: [low; 16],
         taps: 16,
         shift: 31,
     };
-    gives(&rt, alloc, kernel, &counts, &inputs, &wanted)?;
-    let lowest = vec![in alloc; low; 8192]?;
-    gives(&rt, alloc, Kernel::Sum, &counts, &inputs, &lowest)
+    gives_to_all(&rt, alloc, kernel, &inputs, i32::MAX)?;
+    gives_to_all(&rt, alloc, Kernel::Sum, &inputs, low)
 }

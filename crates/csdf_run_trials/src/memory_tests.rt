@@ -4,14 +4,11 @@
 ghost use Rattle.std.specs.Prelude.{◌≡◌, ◌<◌, IfOk, length};
 ghost use Rattle.csdf_floor.specs.Floor.{IsReady};
 
-use crate::shared::{accepted_in, expect_eq, feeds_of};
+use crate::shared::{accepted_in, deliver, done_of, expect_eq, feeds_of, ran, settled, told_of};
 use csdf_analysis::Accepted;
 use csdf_core::Core;
 use csdf_kernel::{Done, Job, eval};
-use csdf_run::{
-    DeliverFault, Floor, Open, Outcome, RunFault, StartFault, are_feeds, printed_report, run,
-    run_texts, settle,
-};
+use csdf_run::{DeliverFault, Floor, Open, Outcome, RunFault, StartFault, are_feeds, run_texts};
 use std::alloc::Global;
 use std::process::Abort;
 use std::sync::Wait;
@@ -71,37 +68,62 @@ fn show_actors(text: &mut String, core: &Core) -> Result<(), Fail> {
     Ok(())
 }
 
+fn show_channel(text: &mut String, core: &Core, channel: u32) -> Result<(), Fail>
+    requires { channel < length core.now.plan.channels }
+{
+    let len = core.len(channel);
+    let peak = core.peak(channel);
+    let is_open = core.is_open(channel);
+    write!(text, "{channel}: {len} {peak} {is_open}")?;
+    for cell in core.cells(channel) {
+        write!(text, " {cell}")?;
+    }
+    write!(text, "\n")?;
+    Ok(())
+}
+
 fn show_channels(text: &mut String, core: &Core) -> Result<(), Fail> {
     for channel in 0..core.channels() {
-        let len = core.len(channel);
-        let peak = core.peak(channel);
-        let is_open = core.is_open(channel);
-        write!(text, "{channel}: {len} {peak} {is_open}")?;
-        for cell in core.cells(channel) {
-            write!(text, " {cell}")?;
-        }
-        write!(text, "\n")?;
+        show_channel(text, core, channel)?;
     }
     Ok(())
 }
 
-/// All that the readers show.
-fn shown(alloc: Global, floor: &Floor) -> Result<String, Fail> {
-    let mut text = String::new(alloc);
-    let core = floor.core();
-    show_actors(&mut text, core)?;
-    show_channels(&mut text, core)?;
+fn show_rest_of_core(text: &mut String, core: &Core) -> Result<(), Fail> {
     for cell in core.free_cells() {
         write!(text, "{cell} ")?;
     }
     let is_quiet = core.is_quiet();
     write!(text, "\n{is_quiet}\n")?;
+    Ok(())
+}
+
+fn show_journal(text: &mut String, floor: &Floor) -> Result<(), Fail> {
     for next in floor.journal() {
         write!(text, "{next:?}\n")?;
     }
+    Ok(())
+}
+
+fn show_sinks(text: &mut String, floor: &Floor) -> Result<(), Fail> {
     for sink in floor.sinks() {
         write!(text, "{sink:?}\n")?;
     }
+    Ok(())
+}
+
+fn show_all(text: &mut String, floor: &Floor) -> Result<(), Fail> {
+    show_actors(text, floor.core())?;
+    show_channels(text, floor.core())?;
+    show_rest_of_core(text, floor.core())?;
+    show_journal(text, floor)?;
+    show_sinks(text, floor)
+}
+
+/// All that the readers show.
+fn shown(alloc: Global, floor: &Floor) -> Result<String, Fail> {
+    let mut text = String::new(alloc);
+    show_all(&mut text, floor)?;
     Ok(text)
 }
 
@@ -141,17 +163,7 @@ fn done_at_last<R: Abort>(rt: &R, alloc: Global, job: Job) -> Result<Done, Fail>
 {
     match eval(alloc, job) {
         Ok(done) => Ok(done),
-        Err((job, _)) => match eval(alloc, job) {
-            Ok(done) => Ok(done),
-            Err((_, error)) => Err(error.into()),
-        },
-    }
-}
-
-fn deliver(alloc: Global, floor: &mut Floor, done: &Done) -> Result<(), Fail> {
-    match floor.deliver(alloc, done) {
-        Ok(()) => Ok(()),
-        Err(fault) => Err(fault.into()),
+        Err((job, _)) => done_of(alloc, job),
     }
 }
 
@@ -180,18 +192,6 @@ fn fire<R: Abort>(rt: &R, alloc: Global, floor: &mut Floor, actor: u32) -> Resul
     deliver_at_last(rt, alloc, floor, &done)
 }
 
-fn told_of(alloc: Global, accepted: &Accepted, outcome: &Outcome) -> Result<String, Fail> {
-    let mut text = String::new(alloc);
-    for sink in &outcome.sinks {
-        for token in sink {
-            write!(text, "{token} ")?;
-        }
-    }
-    let report = printed_report(alloc, accepted.graph(), outcome)?;
-    write!(text, "\n{report}")?;
-    Ok(text)
-}
-
 fn check_told<R: Abort>(
     rt: &R,
     alloc: Global,
@@ -210,19 +210,6 @@ fn check_told<R: Abort>(
     }
 }
 
-/// The end of the floor.
-fn settled<R: Abort>(
-    rt: &R,
-    alloc: Global,
-    floor: Floor,
-    accepted: &Accepted,
-    feeds: &[Vec<i32>],
-) -> Result<Outcome, RunFault> {
-    assert!(rt; are_feeds(accepted.graph(), feeds));
-    assert!(rt; accepted.graph().actors().len() == 3);
-    settle(alloc, floor, accepted, feeds, 1, None, &[1, 1, 1])
-}
-
 #[test]
 fn a_floor_is_driven_to_its_end(rt: HostRuntime) -> Result<(), Fail> {
     let alloc = rt.alloc();
@@ -232,7 +219,7 @@ fn a_floor_is_driven_to_its_end(rt: HostRuntime) -> Result<(), Fail> {
     for actor in 0..3 {
         fire(&rt, alloc, &mut floor, actor)?;
     }
-    let answer = settled(&rt, alloc, floor, &accepted, &feeds);
+    let answer = settled(&rt, alloc, floor, &accepted, &feeds, 1, None, &[1, 1, 1]);
     check_told(&rt, alloc, &accepted, answer)
 }
 
@@ -243,9 +230,7 @@ fn check_run<R: Threads + Wait + Abort + Sync>(
 ) -> Result<(), Fail> {
     let accepted = accepted_in(alloc, WIDE)?;
     let feeds = feeds_of(alloc, &FEED)?;
-    assert!(rt; are_feeds(accepted.graph(), &feeds));
-    assert!(rt; 1 <= workers && workers <= 8);
-    let answer = run(rt, alloc, &accepted, &feeds, workers, 1, None, &Open);
+    let answer = ran(rt, alloc, &accepted, &feeds, workers, 1, None, &Open);
     check_told(rt, alloc, &accepted, answer)
 }
 
@@ -264,19 +249,36 @@ fn eight_workers_run(rt: HostRuntime) -> Result<(), Fail> {
     check_run(&rt, rt.alloc(), 8)
 }
 
-#[test]
-fn texts_are_run(rt: HostRuntime) -> Result<(), Fail> {
-    let alloc = rt.alloc();
-    let feed = "1 2 3 4 5 6 7 8 9 10 11 12 13 14 15 16 17 18 19 20".replace(alloc, " ", "\n")?;
-    let mut feeds = Vec::new(alloc);
-    feeds.push(Vec::from_slice(alloc, feed.as_bytes())?)?;
-    match run_texts(&rt, alloc, WIDE.as_bytes(), &feeds, 2, 1, None) {
-        Ok(texts) => {
-            let sink = "1 2 3 4 5 6 7 8 9 10 11 12 13 14 15 16 17 18 ".replace(alloc, " ", "\n")?;
-            assert_eq!(rt; texts.sinks.len(), 1);
-            expect_eq(&rt, texts.sinks[0].as_slice(), sink.as_bytes());
-            Ok(())
-        }
+/// The tokens, one a line.
+fn lines_of(alloc: Global, tokens: &str) -> Result<String, Fail> {
+    Ok(tokens.replace(alloc, " ", "\n")?)
+}
+
+fn text_of_feed(alloc: Global) -> Result<Vec<u8>, Fail> {
+    let feed = lines_of(alloc, "1 2 3 4 5 6 7 8 9 10 11 12 13 14 15 16 17 18 19 20")?;
+    Ok(Vec::from_slice(alloc, feed.as_bytes())?)
+}
+
+fn check_texts<R: Abort>(rt: &R, alloc: Global, sinks: &[Vec<u8>]) -> Result<(), Fail> {
+    let sink = lines_of(alloc, "1 2 3 4 5 6 7 8 9 10 11 12 13 14 15 16 17 18 ")?;
+    assert!(rt; sinks.len() == 1);
+    expect_eq(&rt, sinks[0].as_slice(), sink.as_bytes());
+    Ok(())
+}
+
+fn check_texts_of<R: Threads + Wait + Abort + Sync>(
+    rt: &R,
+    alloc: Global,
+    feeds: &[Vec<u8>],
+) -> Result<(), Fail> {
+    match run_texts(rt, alloc, WIDE.as_bytes(), feeds, 2, 1, None) {
+        Ok(texts) => check_texts(rt, alloc, &texts.sinks),
         Err(fault) => Err(fault.into()),
     }
+}
+
+#[test]
+fn texts_are_run(rt: HostRuntime) -> Result<(), Fail> {
+    let feed = text_of_feed(rt.alloc())?;
+    check_texts_of(&rt, rt.alloc(), std::slice::from_ref(&feed))
 }

@@ -1,7 +1,7 @@
-use crate::shared::{accepted_in, expect_eq};
+use crate::shared::{accepted_in, expect_eq, ran};
 use csdf_analysis::Accepted;
 use csdf_graph::{Channel, Graph, Kernel};
-use csdf_run::{Ending, Open, Outcome, are_feeds, run};
+use csdf_run::{Ending, Open, Outcome};
 use std::alloc::Global;
 use std::process::Abort;
 use std::sync::Wait;
@@ -152,15 +152,16 @@ fn plain_of(alloc: Global, graph: &Graph, feeds: &[Vec<i32>]) -> Result<Plain, F
         fired: Vec::new(alloc),
         sinks: Vec::new(alloc),
     };
-    for channel in graph.channels() {
-        plain.channels.push(Queue::new(alloc, &channel.initial)?)?;
-    }
-    for feed in feeds {
-        plain.feeds.push(Queue::new(alloc, feed)?)?;
-        plain.fired.push(0)?;
-        plain.sinks.push(Vec::new(alloc))?;
-    }
+    add_channels(alloc, &mut plain.channels, graph)?;
+    plain.add_feeds(alloc, feeds)?;
     Ok(plain)
+}
+
+fn add_channels(alloc: Global, queues: &mut Vec<Queue>, graph: &Graph) -> Result<(), Fail> {
+    for channel in graph.channels() {
+        queues.push(Queue::new(alloc, &channel.initial)?)?;
+    }
+    Ok(())
 }
 
 /// The sum of the tokens, within the range of a token.
@@ -182,6 +183,15 @@ fn same(alloc: Global, token: i32, count: u32) -> Result<Queue, Fail> {
 }
 
 impl Plain {
+    fn add_feeds(&mut self, alloc: Global, feeds: &[Vec<i32>]) -> Result<(), Fail> {
+        for feed in feeds {
+            self.feeds.push(Queue::new(alloc, feed)?)?;
+            self.fired.push(0)?;
+            self.sinks.push(Vec::new(alloc))?;
+        }
+        Ok(())
+    }
+
     fn fired(&self, actor: u32) -> usize {
         self.fired.get(actor as usize).copied().unwrap_or(0)
     }
@@ -334,20 +344,18 @@ fn outcome_of<R: Threads + Wait + Abort + Sync>(
     periods: u32,
     workers: u32,
 ) -> Result<Outcome, Fail> {
-    assert!(rt; are_feeds(accepted.graph(), feeds));
-    assert!(rt; 1 <= workers && workers <= 8);
-    assert!(rt; 1 <= periods && periods <= 1000);
-    match run(rt, alloc, accepted, feeds, workers, periods, None, &Open) {
-        Ok(outcome) => Ok(outcome),
-        Err(fault) => Err(fault.into()),
-    }
+    Ok(ran(rt, alloc, accepted, feeds, workers, periods, None, &Open)?)
 }
 
 fn check_sinks<R: Abort>(rt: &R, outcome: &Outcome, sinks: &[Vec<i32>]) {
     expect_eq(&rt, outcome.ending, Ending::Complete);
-    expect_eq(&rt, outcome.sinks.len(), sinks.len());
-    for (found, wanted) in outcome.sinks.iter().zip(sinks) {
-        expect_eq(&rt, found.as_slice(), wanted.as_slice());
+    check_lists(rt, &outcome.sinks, sinks);
+}
+
+fn check_lists<R: Abort>(rt: &R, found: &[Vec<i32>], wanted: &[Vec<i32>]) {
+    expect_eq(&rt, found.len(), wanted.len());
+    for (list, want) in found.iter().zip(wanted) {
+        expect_eq(&rt, list.as_slice(), want.as_slice());
     }
 }
 
@@ -385,15 +393,28 @@ fn sinks_take_what_they_take_in_a_plain_run(rt: HostRuntime) -> Result<(), Fail>
     Ok(())
 }
 
+fn check_first<R: Abort>(rt: &R, sinks: &[Vec<i32>], wanted: &[i32]) -> Result<(), Fail> {
+    let Some(taken) = sinks.first() else {
+        return Err(Fail::new("no sink"));
+    };
+    expect_eq(&rt, taken.as_slice(), wanted);
+    Ok(())
+}
+
+fn check_sums<R: Abort>(
+    rt: &R,
+    alloc: Global,
+    graph: &Graph,
+    feeds: &[Vec<i32>],
+) -> Result<(), Fail> {
+    let sinks = plain_sinks(alloc, graph, feeds)?;
+    let wanted = [6, 2_000_000_006, 2_147_483_647, 2_147_483_640];
+    check_first(rt, &sinks, &wanted)
+}
+
 #[test]
 fn the_plain_run_sums(rt: HostRuntime) -> Result<(), Fail> {
     let accepted = accepted_in(rt.alloc(), SAMPLES[1].graph)?;
     let feeds = feeds_of(rt.alloc(), SAMPLES[1].feeds)?;
-    let sinks = plain_sinks(rt.alloc(), accepted.graph(), &feeds)?;
-    let Some(taken) = sinks.first() else {
-        return Err(Fail::new("no sink"));
-    };
-    let wanted = [6, 2_000_000_006, 2_147_483_647, 2_147_483_640];
-    expect_eq(&rt, taken.as_slice(), wanted.as_slice());
-    Ok(())
+    check_sums(&rt, rt.alloc(), accepted.graph(), &feeds)
 }

@@ -2,15 +2,12 @@ ghost use Rattle.std.specs.Prelude.{◌≤◌, IfOk, length};
 ghost use Rattle.csdf_kernel.specs.Value.{HasFilterInRange};
 ghost use Rattle.csdf_floor.specs.Floor.{IsReady};
 
-use crate::shared::{accepted_in, expect_eq, feeds_of};
+use crate::shared::{accepted_in, deliver, done_of, expect_eq, feeds_of, ran, settled, told_of};
 use csdf_analysis::Accepted;
 use csdf_core::Refusal;
 use csdf_graph::Kernel;
-use csdf_kernel::{Counts, Done, Inputs, Job, eval};
-use csdf_run::{
-    DeliverFault, Ending, Floor, Open, Outcome, RunFault, StartFault, are_feeds, printed_report,
-    run, settle,
-};
+use csdf_kernel::{Counts, Done, Inputs, Job};
+use csdf_run::{DeliverFault, Ending, Floor, Open, Outcome, RunFault, StartFault, are_feeds};
 use std::alloc::Global;
 use std::process::Abort;
 use std::sync::Wait;
@@ -213,19 +210,6 @@ const CASES: [Case; 11] = [
     },
 ];
 
-/// What the sinks took, and the report.
-fn told_of(alloc: Global, accepted: &Accepted, outcome: &Outcome) -> Result<String, Fail> {
-    let mut text = String::new(alloc);
-    for sink in &outcome.sinks {
-        for token in sink {
-            write!(text, "{token} ")?;
-        }
-    }
-    let report = printed_report(alloc, accepted.graph(), outcome)?;
-    write!(text, "\n{report}")?;
-    Ok(text)
-}
-
 fn outcome_of<R: Threads + Wait + Abort + Sync>(
     rt: &R,
     alloc: Global,
@@ -234,22 +218,10 @@ fn outcome_of<R: Threads + Wait + Abort + Sync>(
     workers: u32,
 ) -> Result<Outcome, Fail> {
     let feeds = feeds_of(alloc, case.feed)?;
-    assert!(rt; are_feeds(accepted.graph(), &feeds));
-    assert!(rt; 1 <= workers && workers <= 8);
-    assert!(rt; 1 <= case.periods && case.periods <= 1000);
-    match run(
-        rt,
-        alloc,
-        accepted,
-        &feeds,
-        workers,
-        case.periods,
-        case.firings,
-        &Open,
-    ) {
-        Ok(outcome) => Ok(outcome),
-        Err(fault) => Err(fault.into()),
-    }
+    let (periods, firings) = (case.periods, case.firings);
+    Ok(ran(
+        rt, alloc, accepted, &feeds, workers, periods, firings, &Open,
+    )?)
 }
 
 fn check_told<R: Abort>(
@@ -315,15 +287,6 @@ fn floor_of<R: Abort>(
     Ok(Floor::new(alloc, accepted, &feeds, 2, None)?)
 }
 
-fn done_of(alloc: Global, job: Job) -> Result<Done, Fail>
-    requires { IsReady job }
-{
-    match eval(alloc, job) {
-        Ok(done) => Ok(done),
-        Err((_, fault)) => Err(fault.into()),
-    }
-}
-
 fn started(alloc: Global, floor: &mut Floor, actor: u32, firing: u32) -> Result<Job, Fail>
     ensures { IfOk result IsReady }
 {
@@ -333,14 +296,28 @@ fn started(alloc: Global, floor: &mut Floor, actor: u32, firing: u32) -> Result<
     }
 }
 
+/// Does the job, and delivers it.
+fn finish(alloc: Global, floor: &mut Floor, job: Job) -> Result<(), Fail>
+    requires { IsReady job }
+{
+    let done = done_of(alloc, job)?;
+    deliver(alloc, floor, &done)
+}
+
 /// Makes the actor's firing, from its start to its delivery.
 fn fire(alloc: Global, floor: &mut Floor, actor: u32, firing: u32) -> Result<(), Fail> {
     let job = started(alloc, floor, actor, firing)?;
-    let done = done_of(alloc, job)?;
-    match floor.deliver(alloc, &done) {
-        Ok(()) => Ok(()),
-        Err(fault) => Err(fault.into()),
-    }
+    finish(alloc, floor, job)
+}
+
+/// Asserts that the result is a stranger to the floor, and is not taken.
+fn expect_stranger<R: Abort>(rt: &R, alloc: Global, floor: &mut Floor, done: &Done) {
+    expect_eq(&rt, floor.deliver(alloc, done), Err(DeliverFault::Stranger));
+}
+
+/// Asserts that the result is taken.
+fn expect_taken<R: Abort>(rt: &R, alloc: Global, floor: &mut Floor, done: &Done) {
+    expect_eq(&rt, floor.deliver(alloc, done), Ok(()));
 }
 
 /// The job, with other inputs in the place of its own.
@@ -381,12 +358,8 @@ fn done_with<R: Abort>(
 
 fn check_taken_once<R: Abort>(rt: &R, alloc: Global, floor: &mut Floor) -> Result<(), Fail> {
     let done = done_with(rt, alloc, floor, 0, &[2], &[1, 2])?;
-    expect_eq(&rt, floor.deliver(alloc, &done), Ok(()));
-    expect_eq(
-        &rt,
-        floor.deliver(alloc, &done),
-        Err(DeliverFault::Stranger),
-    );
+    expect_taken(rt, alloc, floor, &done);
+    expect_stranger(rt, alloc, floor, &done);
     Ok(())
 }
 
@@ -413,10 +386,22 @@ fn a_result_is_taken_once(rt: HostRuntime) -> Result<(), Fail> {
 /// The firing with other inputs than its own is a stranger, and with its own it is taken.
 fn check_strangers<R: Abort>(rt: &R, alloc: Global, floor: &mut Floor) -> Result<(), Fail> {
     let job = started(alloc, floor, 0, 1)?;
-    let stranger = altered(alloc, &job, &[4])?;
-    check_stranger(rt, alloc, floor, stranger)?;
+    check_altered(rt, alloc, floor, &job)?;
+    check_taken(rt, alloc, floor, job)
+}
+
+fn check_altered<R: Abort>(rt: &R, alloc: Global, floor: &mut Floor, job: &Job) -> Result<(), Fail>
+    requires { IsReady job.now }
+{
+    let stranger = altered(alloc, job, &[4])?;
+    check_stranger(rt, alloc, floor, stranger)
+}
+
+fn check_taken<R: Abort>(rt: &R, alloc: Global, floor: &mut Floor, job: Job) -> Result<(), Fail>
+    requires { IsReady job }
+{
     let done = done_of(alloc, job)?;
-    expect_eq(&rt, floor.deliver(alloc, &done), Ok(()));
+    expect_taken(rt, alloc, floor, &done);
     Ok(())
 }
 
@@ -424,11 +409,7 @@ fn check_stranger<R: Abort>(rt: &R, alloc: Global, floor: &mut Floor, job: Job) 
     requires { IsReady job }
 {
     let done = done_of(alloc, job)?;
-    expect_eq(
-        &rt,
-        floor.deliver(alloc, &done),
-        Err(DeliverFault::Stranger),
-    );
+    expect_stranger(rt, alloc, floor, &done);
     expect_eq(&rt, floor.journal().len(), 6);
     Ok(())
 }
@@ -457,10 +438,7 @@ fn other_done(alloc: Global, kernel: Kernel, actor: u32, inputs: &[i32]) -> Resu
         counts,
         inputs: Inputs::from_slice(alloc, inputs)?,
     };
-    match eval(alloc, job) {
-        Ok(done) => Ok(done),
-        Err((_, error)) => Err(error.into()),
-    }
+    done_of(alloc, job)
 }
 
 fn check_other<R: Abort>(
@@ -475,11 +453,7 @@ fn check_other<R: Abort>(
     requires filter { HasFilterInRange kernel }
 {
     let done = other_done(alloc, kernel, actor, inputs)?;
-    expect_eq(
-        &rt,
-        floor.deliver(alloc, &done),
-        Err(DeliverFault::Stranger),
-    );
+    expect_stranger(rt, alloc, floor, &done);
     Ok(())
 }
 
@@ -538,7 +512,7 @@ fn asked_for(alloc: Global, feed: &[i32]) -> Result<Asked, Fail> {
 }
 
 /// The end of the floor with these totals.
-fn settled<R: Abort>(
+fn settled_for<R: Abort>(
     rt: &R,
     alloc: Global,
     asked: &Asked,
@@ -546,17 +520,8 @@ fn settled<R: Abort>(
     firings: Option<u32>,
     totals: &[u32],
 ) -> Result<Outcome, RunFault> {
-    assert!(rt; are_feeds(asked.accepted.graph(), &asked.feeds));
-    assert!(rt; totals.len() == asked.accepted.graph().actors().len());
-    settle(
-        alloc,
-        floor,
-        &asked.accepted,
-        &asked.feeds,
-        2,
-        firings,
-        totals,
-    )
+    let (accepted, feeds) = (&asked.accepted, &asked.feeds);
+    settled(rt, alloc, floor, accepted, feeds, 2, firings, totals)
 }
 
 const DRY: &str = "6 \nending dry\nx written 5 taken 3 held 2 peak 3 capacity 3 closed\n\
@@ -564,7 +529,7 @@ const DRY: &str = "6 \nending dry\nx written 5 taken 3 held 2 peak 3 capacity 3 
 
 fn check_dry<R: Abort>(rt: &R, alloc: Global, asked: &Asked) -> Result<(), Fail> {
     let floor = dry_floor(rt, alloc)?;
-    match settled(rt, alloc, asked, floor, None, &[3, 1, 1]) {
+    match settled_for(rt, alloc, asked, floor, None, &[3, 1, 1]) {
         Ok(outcome) => {
             expect_eq(&rt, outcome.ending, Ending::Dry);
             check_told(rt, alloc, &asked.accepted, &outcome, DRY)
@@ -588,7 +553,7 @@ fn check_mixed<R: Abort>(
     firings: Option<u32>,
     totals: &[u32],
 ) {
-    let answer = settled(rt, alloc, asked, floor, firings, totals);
+    let answer = settled_for(rt, alloc, asked, floor, firings, totals);
     assert!(rt; matches!(answer, Err(RunFault::Mixed)));
 }
 

@@ -1,11 +1,19 @@
 //! Graphs and steps with which several tests begin.
 
+ghost use Rattle.std.specs.Prelude.{◌≤◌, length, All, IfOk};
+ghost use Rattle.csdf_kernel.specs.Value.{HasFilterInRange};
+ghost use Rattle.csdf_floor.specs.Floor.{IsReady};
+
 use csdf_analysis::{Accepted, accept};
-use csdf_graph::read_graph;
+use csdf_graph::{Kernel, read_graph};
+use csdf_kernel::{Counts, Done, Inputs, Job, eval};
+use csdf_run::{Floor, Gate, Outcome, RunFault, are_feeds, printed_report, run, settle};
 use std::alloc::Global;
 use std::fmt::Debug;
 use std::process::Abort;
+use std::sync::Wait;
 use std::test::Fail;
+use std::thread::Threads;
 
 /// Two sources, and the sums of their tokens.
 pub(crate) const TWO_SOURCES: &str = r#"actor = [
@@ -42,4 +50,145 @@ pub(crate) fn feeds_of(alloc: Global, feed: &[i32]) -> Result<Vec<Vec<i32>>, Fai
 /// macro takes in its place.
 pub(crate) fn expect_eq<T: PartialEq + Debug + Drop>(rt: &impl Abort, found: T, want: T) {
     assert_eq!(rt; found, want);
+}
+
+/// Asserts that a filter's number of taps and its shift are in range.
+fn expect_filter(rt: &impl Abort, kernel: &Kernel)
+    ensures { HasFilterInRange kernel.now }
+{
+    if let Kernel::Fir { taps, shift, .. } = kernel {
+        assert!(rt; *taps <= 16);
+        assert!(rt; *shift <= 31);
+    }
+}
+
+/// Asserts that the counts are few and small.
+fn expect_counts(rt: &impl Abort, counts: &[u32])
+    ensures few { length counts.now ≤ 128 }
+    ensures small { All (λ n. n ≤ 64) counts.now }
+{
+    assert!(rt; counts.len() <= 128);
+    assert!(rt; counts.iter().all(|count| *count <= 64));
+}
+
+/// The job over the inputs, with counts that were copied.
+fn job_with(alloc: Global, kernel: Kernel, counts: Counts, inputs: &[i32]) -> Result<Job, Fail>
+    requires few { length counts.items ≤ 128 }
+    requires small { All (λ n. n ≤ 64) counts.items }
+    requires inputs { length inputs.now ≤ 8192 }
+    requires filter { HasFilterInRange kernel }
+    ensures { IfOk result IsReady }
+{
+    Ok(Job {
+        kernel,
+        actor: 3,
+        firing: 5,
+        counts,
+        inputs: Inputs::from_slice(alloc, inputs)?,
+    })
+}
+
+/// A job of actor 3 at its firing 5.
+pub(crate) fn job_of(
+    rt: &impl Abort,
+    alloc: Global,
+    kernel: Kernel,
+    counts: &[u32],
+    inputs: &[i32],
+) -> Result<Job, Fail>
+    ensures { IfOk result IsReady }
+{
+    expect_filter(rt, &kernel);
+    expect_counts(rt, counts);
+    assert!(rt; inputs.len() <= 8192);
+    let copy = Counts::from_slice(alloc, counts)?;
+    job_with(alloc, kernel, copy, inputs)
+}
+
+fn tell_sink(text: &mut String, sink: &[i32]) -> Result<(), Fail> {
+    for token in sink {
+        write!(text, "{token} ")?;
+    }
+    Ok(())
+}
+
+fn tell_sinks(text: &mut String, sinks: &[Vec<i32>]) -> Result<(), Fail> {
+    for sink in sinks {
+        tell_sink(text, sink)?;
+    }
+    Ok(())
+}
+
+fn tell_report(
+    alloc: Global,
+    text: &mut String,
+    accepted: &Accepted,
+    outcome: &Outcome,
+) -> Result<(), Fail> {
+    let report = printed_report(alloc, accepted.graph(), outcome)?;
+    write!(text, "\n{report}")?;
+    Ok(())
+}
+
+/// What the sinks took, and the report.
+pub(crate) fn told_of(
+    alloc: Global,
+    accepted: &Accepted,
+    outcome: &Outcome,
+) -> Result<String, Fail> {
+    let mut text = String::new(alloc);
+    tell_sinks(&mut text, &outcome.sinks)?;
+    tell_report(alloc, &mut text, accepted, outcome)?;
+    Ok(text)
+}
+
+/// Does the job.
+pub(crate) fn done_of(alloc: Global, job: Job) -> Result<Done, Fail>
+    requires { IsReady job }
+{
+    match eval(alloc, job) {
+        Ok(done) => Ok(done),
+        Err((_, fault)) => Err(fault.into()),
+    }
+}
+
+pub(crate) fn deliver(alloc: Global, floor: &mut Floor, done: &Done) -> Result<(), Fail> {
+    match floor.deliver(alloc, done) {
+        Ok(()) => Ok(()),
+        Err(fault) => Err(fault.into()),
+    }
+}
+
+/// Runs the graph over the feeds.
+pub(crate) fn ran<R: Threads + Wait + Abort + Sync, G: Gate>(
+    rt: &R,
+    alloc: Global,
+    accepted: &Accepted,
+    feeds: &[Vec<i32>],
+    workers: u32,
+    periods: u32,
+    firings: Option<u32>,
+    gate: &G,
+) -> Result<Outcome, RunFault> {
+    assert!(rt; are_feeds(accepted.graph(), feeds));
+    assert!(rt; 1 <= workers && workers <= 8);
+    assert!(rt; 1 <= periods && periods <= 1000);
+    run(rt, alloc, accepted, feeds, workers, periods, firings, gate)
+}
+
+/// The end of the floor with these totals.
+pub(crate) fn settled<R: Abort>(
+    rt: &R,
+    alloc: Global,
+    floor: Floor,
+    accepted: &Accepted,
+    feeds: &[Vec<i32>],
+    periods: u32,
+    firings: Option<u32>,
+    totals: &[u32],
+) -> Result<Outcome, RunFault> {
+    assert!(rt; are_feeds(accepted.graph(), feeds));
+    assert!(rt; 1 <= periods && periods <= 1000);
+    assert!(rt; totals.len() == accepted.graph().actors().len());
+    settle(alloc, floor, accepted, feeds, periods, firings, totals)
 }

@@ -30,6 +30,19 @@ channel = [
 ]
 "#;
 
+fn add_texts(alloc: Global, texts: &mut Vec<Vec<u8>>, feeds: &[&str]) -> Result<(), Fail> {
+    for feed in feeds {
+        texts.push(Vec::from_slice(alloc, feed.as_bytes())?)?;
+    }
+    Ok(())
+}
+
+fn texts_in(alloc: Global, feeds: &[&str]) -> Result<Vec<Vec<u8>>, Fail> {
+    let mut texts = Vec::new(alloc);
+    add_texts(alloc, &mut texts, feeds)?;
+    Ok(texts)
+}
+
 /// A period of the graph over these texts, by one worker.
 fn period_of<R: Threads + Wait + Sync>(
     rt: &R,
@@ -37,10 +50,7 @@ fn period_of<R: Threads + Wait + Sync>(
     graph: &str,
     feeds: &[&str],
 ) -> Result<Result<Texts, TextsFault>, Fail> {
-    let mut texts = Vec::new(alloc);
-    for feed in feeds {
-        texts.push(Vec::from_slice(alloc, feed.as_bytes())?)?;
-    }
+    let texts = texts_in(alloc, feeds)?;
     Ok(run_texts(rt, alloc, graph.as_bytes(), &texts, 1, 1, None))
 }
 
@@ -60,6 +70,19 @@ fn check_refused<R: Threads + Wait + Abort + Sync>(
     }
 }
 
+fn check_sinks<R: Abort>(rt: &R, found: &[Vec<u8>], sinks: &[&str]) {
+    expect_eq(&rt, found.len(), sinks.len());
+    for (text, sink) in found.iter().zip(sinks) {
+        expect_eq(&rt, text.as_slice(), sink.as_bytes());
+    }
+}
+
+fn check_texts<R: Abort>(rt: &R, texts: &Texts, sinks: &[&str], report: &str) {
+    expect_eq(&rt, texts.ending, Ending::Complete);
+    expect_eq(&rt, texts.report.as_slice(), report.as_bytes());
+    check_sinks(rt, &texts.sinks, sinks);
+}
+
 fn check_told<R: Threads + Wait + Abort + Sync>(
     rt: &R,
     alloc: Global,
@@ -71,12 +94,7 @@ fn check_told<R: Threads + Wait + Abort + Sync>(
     let Ok(texts) = period_of(rt, alloc, graph, feeds)? else {
         return Err(Fail::new("refused"));
     };
-    expect_eq(&rt, texts.ending, Ending::Complete);
-    expect_eq(&rt, texts.report.as_slice(), report.as_bytes());
-    expect_eq(&rt, texts.sinks.len(), sinks.len());
-    for (text, sink) in texts.sinks.iter().zip(sinks) {
-        expect_eq(&rt, text.as_slice(), sink.as_bytes());
-    }
+    check_texts(rt, &texts, sinks, report);
     Ok(())
 }
 

@@ -83,6 +83,17 @@ channel = [
 ]
 "#;
 
+fn check_capacities(
+    rt: &impl Abort,
+    accepted: &Accepted,
+    text: &str,
+    capacities: &[u32],
+    cells: u32,
+) {
+    expect_eq_of(rt, accepted.capacities(), capacities, text);
+    expect_eq_of(rt, accepted.cells(), cells, text);
+}
+
 /// Asserts the capacities of the graph, and its number of cells.
 fn expect_capacities(
     rt: &(impl Abort + AllocGlobal),
@@ -91,43 +102,58 @@ fn expect_capacities(
     cells: u32,
 ) -> Result<(), Fail> {
     let accepted = accepted_in(rt.alloc(), text)?;
-    expect_eq_of(rt, accepted.capacities(), capacities, text);
-    expect_eq_of(rt, accepted.cells(), cells, text);
+    check_capacities(rt, &accepted, text, capacities, cells);
     Ok(())
 }
 
+/// Graphs, their least capacities, and their cells.
+const LEAST: [(&str, &[u32], u32); 10] = [
+    (CHAIN, &[4, 2], 6),
+    (TWO_PHASES, &[1], 1),
+    (TWO_TOKENS, &[2], 2),
+    (UNEVEN_PHASES, &[3], 3),
+    (CYCLE, &[1, 1], 2),
+    (SELF_LOOP, &[1], 1),
+    (WIDE_CHAIN, &[5, 2], 7),
+    (LATE_SINK, &[1024, 1], 1025),
+    (LATE_SINK_GIVEN_SECOND, &[1024, 2], 1026),
+    (CONVERTER, &[1, 4, 8, 14, 5], 32),
+];
+
 #[test]
 fn finds_the_least_capacities(rt: HostRuntime) -> Result<(), Fail> {
-    for (text, capacities, cells) in [
-        (CHAIN, [4, 2].as_slice(), 6),
-        (TWO_PHASES, [1].as_slice(), 1),
-        (TWO_TOKENS, [2].as_slice(), 2),
-        (UNEVEN_PHASES, [3].as_slice(), 3),
-        (CYCLE, [1, 1].as_slice(), 2),
-        (SELF_LOOP, [1].as_slice(), 1),
-        (WIDE_CHAIN, [5, 2].as_slice(), 7),
-        (LATE_SINK, [1024, 1].as_slice(), 1025),
-        (LATE_SINK_GIVEN_SECOND, [1024, 2].as_slice(), 1026),
-        (CONVERTER, [1, 4, 8, 14, 5].as_slice(), 32),
-    ] {
-        expect_capacities(&rt, text, capacities, cells)?;
+    for (text, capacities, cells) in &LEAST {
+        expect_capacities(&rt, *text, *capacities, *cells)?;
+    }
+    Ok(())
+}
+
+/// Graphs, and why they are refused.
+const REFUSED: [(&str, AcceptFault); 5] = [
+    (DISAGREEING, AcceptFault::Unbalanced(1)),
+    (STUCK_CYCLE, AcceptFault::Deadlock),
+    (SHORT_CYCLE, AcceptFault::Deadlock),
+    (TIGHT_CHAIN, AcceptFault::TooTight),
+    (LATE_SINK_TOO_TIGHT, AcceptFault::TooTight),
+];
+
+/// Asserts why the graph is refused.
+fn expect_refused(
+    rt: &(impl Abort + AllocGlobal),
+    text: &str,
+    want: AcceptFault,
+) -> Result<(), Fail> {
+    match accept(rt.alloc(), graph(rt, text)?) {
+        Ok(_) => assert!(rt; false, "accepted: {text}"),
+        Err((_, fault)) => expect_eq_of(rt, fault, want, text),
     }
     Ok(())
 }
 
 #[test]
 fn says_why_a_graph_is_refused(rt: HostRuntime) -> Result<(), Fail> {
-    for (text, want) in [
-        (DISAGREEING, AcceptFault::Unbalanced(1)),
-        (STUCK_CYCLE, AcceptFault::Deadlock),
-        (SHORT_CYCLE, AcceptFault::Deadlock),
-        (TIGHT_CHAIN, AcceptFault::TooTight),
-        (LATE_SINK_TOO_TIGHT, AcceptFault::TooTight),
-    ] {
-        match accept(rt.alloc(), graph(&rt, text)?) {
-            Ok(_) => assert!(rt; false, "accepted: {text}"),
-            Err((_, fault)) => expect_eq_of(&rt, fault, want, text),
-        }
+    for (text, want) in &REFUSED {
+        expect_refused(&rt, *text, *want)?;
     }
     Ok(())
 }
@@ -149,13 +175,21 @@ fn prints_the_schedule(rt: HostRuntime) -> Result<(), Fail> {
     expect_schedule(&rt, &chain, &[0, 0, 1, 0, 1, 2])
 }
 
+fn check_copy(rt: &impl Abort, copy: &Accepted) {
+    expect_eq(rt, copy.capacities(), [4, 2].as_slice());
+    expect_eq(rt, copy.vector().q.as_slice(), [3, 2, 1].as_slice());
+    expect_eq(rt, copy.graph().channels().len(), 2);
+}
+
+fn copy_of(alloc: Global, text: &str) -> Result<Accepted, Fail> {
+    let accepted = accepted_in(alloc, text)?;
+    Ok(accepted.try_copy(alloc)?)
+}
+
 #[test]
 fn copies_what_is_accepted(rt: HostRuntime) -> Result<(), Fail> {
-    let chain = accepted_in(rt.alloc(), CHAIN)?;
-    let copy = chain.try_copy(rt.alloc())?;
-    expect_eq(&rt, copy.capacities(), [4, 2].as_slice());
-    expect_eq(&rt, copy.vector().q.as_slice(), [3, 2, 1].as_slice());
-    expect_eq(&rt, copy.graph().channels().len(), 2);
+    let copy = copy_of(rt.alloc(), CHAIN)?;
+    check_copy(&rt, &copy);
     Ok(())
 }
 

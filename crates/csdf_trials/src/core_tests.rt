@@ -1,6 +1,6 @@
 ghost use Rattle.std.specs.Prelude.{◌≡◌, ◌≤◌, All, length, IfOk};
 
-use crate::shared::{CHAIN, accepted_in, expect_eq};
+use crate::shared::{CHAIN, accepted_in, expect_eq, expect_eq_of};
 use csdf_analysis::Accepted;
 use csdf_core::{Core, Move, Played, Reply, Setup, play};
 use csdf_graph::{Actor, Kernel};
@@ -104,35 +104,62 @@ fn supplies(alloc: Global, actors: &[Actor], tokens: u32) -> Result<Vec<u32>, Al
         .collect(alloc)
 }
 
+fn limits_of(alloc: Global, actors: &[Actor], limit: u32) -> Result<Vec<u32>, AllocError>
+    requires { limit ≤ 16_384_000 }
+    ensures length { IfOk result (λ limits. length limits.items ≡ length actors.now) }
+    ensures few { IfOk result (λ limits. All (λ n. n ≤ 16_384_000) limits.items) }
+{
+    vec![in alloc; limit; actors.len()]
+}
+
 /// The graph, with these limits for each of its actors.
-pub(crate) fn setup_of<'a>(
+fn setup_of<'a>(
     alloc: Global,
     accepted: &'a Accepted,
     limits: &Limits,
 ) -> Result<Setup<'a>, AllocError>
-    ensures capacities { length accepted.now.capacities ≡ length accepted.now.graph.channels }
     ensures accepted { IfOk result (λ setup. setup.accepted.now ≡ accepted.now) }
     ensures limits { IfOk result (λ setup. length setup.limits.items ≡ length accepted.now.graph.actors) }
     ensures supply { IfOk result (λ setup. length setup.supply.items ≡ length accepted.now.graph.actors) }
     ensures few { IfOk result (λ setup. All (λ n. n ≤ 16_384_000) setup.limits.items) }
 {
     let actors = accepted.graph().actors();
+    let each = limits_of(alloc, actors, limits.limit)?;
+    let supply = supplies(alloc, actors, limits.supply)?;
     Ok(Setup {
         accepted,
-        limits: vec![in alloc; limits.limit; actors.len()]?,
-        supply: supplies(alloc, actors, limits.supply)?,
+        limits: each,
+        supply,
         firings: limits.firings,
     })
 }
 
-/// Plays the script from the start.
-fn played(alloc: Global, accepted: &Accepted, limits: &Limits, script: &str) -> Result<Played, Fail>
-    ensures actors { IfOk result (λ p. length p.core.plan.sources ≡ length accepted.now.graph.actors) }
-    ensures channels { IfOk result (λ p. length p.core.plan.channels ≡ length accepted.now.graph.channels) }
-{
-    let moves = moves_in(alloc, script)?;
+/// A core of the graph with ample limits, on which nothing has fired.
+pub(crate) fn opening_core(alloc: Global, accepted: &Accepted) -> Result<Core, Fail> {
+    let setup = setup_of(alloc, accepted, &AMPLE)?;
+    Ok(Core::new(alloc, setup)?)
+}
+
+/// Plays the moves from the start.
+fn played_by(
+    alloc: Global,
+    accepted: &Accepted,
+    limits: &Limits,
+    moves: &[Move],
+) -> Result<Played, Fail> {
     let setup = setup_of(alloc, accepted, limits)?;
-    Ok(play(alloc, setup, &moves)?)
+    Ok(play(alloc, setup, moves)?)
+}
+
+/// Plays the script from the start.
+fn played(
+    alloc: Global,
+    accepted: &Accepted,
+    limits: &Limits,
+    script: &str,
+) -> Result<Played, Fail> {
+    let moves = moves_in(alloc, script)?;
+    played_by(alloc, accepted, limits, &moves)
 }
 
 /// The reply, with the tokens that a read handed out.
@@ -188,7 +215,7 @@ fn expect(
     replies: &str,
 ) -> Result<(), Fail> {
     let answers = answers(alloc, text, limits, script)?;
-    assert_eq!(rt; answers.as_str(), replies, "to {script}");
+    expect_eq_of(rt, answers.as_str(), replies, script);
     Ok(())
 }
 
@@ -201,10 +228,8 @@ fn show_cells(text: &mut String, cells: Cells<'_>) -> Result<(), AllocError> {
 }
 
 /// A line for each actor.
-fn show_actors(text: &mut String, core: &Core, actors: u32) -> Result<(), AllocError>
-    requires { actors ≡ length core.now.plan.sources }
-{
-    for actor in 0..actors {
+fn show_actors(text: &mut String, core: &Core) -> Result<(), AllocError> {
+    for actor in 0..core.actors() {
         let fired = core.fired(actor);
         let stage = core.stage(actor);
         let need = core.need(actor);
@@ -218,10 +243,8 @@ fn show_actors(text: &mut String, core: &Core, actors: u32) -> Result<(), AllocE
 }
 
 /// A line for each channel.
-fn show_channels(text: &mut String, core: &Core, channels: u32) -> Result<(), AllocError>
-    requires { channels ≡ length core.now.plan.channels }
-{
-    for channel in 0..channels {
+fn show_channels(text: &mut String, core: &Core) -> Result<(), AllocError> {
+    for channel in 0..core.channels() {
         let len = core.len(channel);
         let peak = core.peak(channel);
         let is_open = core.is_open(channel);
@@ -235,19 +258,26 @@ fn show_channels(text: &mut String, core: &Core, channels: u32) -> Result<(), Al
     Ok(())
 }
 
-/// All that the core shows, and what an actor that is not there needs.
-pub(crate) fn shown(alloc: Global, core: &Core, actors: u32, channels: u32) -> Result<String, Fail>
-    requires actors { actors ≡ length core.now.plan.sources }
-    requires channels { channels ≡ length core.now.plan.channels }
-{
-    let mut text = String::new(alloc);
-    show_actors(&mut text, core, actors)?;
-    show_channels(&mut text, core, channels)?;
+/// The free cells, whether the core is quiet, and what an actor that is not there needs.
+fn show_rest(text: &mut String, core: &Core) -> Result<(), AllocError> {
     write!(text, "free cells")?;
-    show_cells(&mut text, core.free_cells())?;
+    show_cells(text, core.free_cells())?;
     let is_quiet = core.is_quiet();
     let need = core.need(64);
     write!(text, "\nquiet {is_quiet}\nactor 64: needs {need}\n")?;
+    Ok(())
+}
+
+fn show_all(text: &mut String, core: &Core) -> Result<(), AllocError> {
+    show_actors(text, core)?;
+    show_channels(text, core)?;
+    show_rest(text, core)
+}
+
+/// All that the core shows, and what an actor that is not there needs.
+pub(crate) fn shown(alloc: Global, core: &Core) -> Result<String, Fail> {
+    let mut text = String::new(alloc);
+    show_all(&mut text, core)?;
     Ok(text)
 }
 
@@ -258,11 +288,8 @@ fn state_of(
     limits: &Limits,
     script: &str,
 ) -> Result<String, Fail> {
-    let graph = accepted.graph();
-    let actors = u32::try_from(graph.actors().len())?;
-    let channels = u32::try_from(graph.channels().len())?;
     let played = played(alloc, accepted, limits, script)?;
-    shown(alloc, &played.core, actors, channels)
+    shown(alloc, &played.core)
 }
 
 /// What the core of the file's graph shows after the script.
@@ -271,21 +298,26 @@ fn state_after(alloc: Global, text: &str, limits: &Limits, script: &str) -> Resu
     state_of(alloc, &accepted, limits, script)
 }
 
+const WHOLE_SCRIPTS: [(&str, &str); 3] = [
+    (
+        "begin 0 / read 0 / write 0 5 6 / finish 0 / begin 0 / read 0 / write 0 7 / finish 0 / begin 1 / read 1 / write 1 / finish 1",
+        "ok / ok / ok / ok / ok / ok / ok / ok / ok / ok 5 6 7 / ok / ok",
+    ),
+    (
+        "begin 0 / read 0 / write 0 5 6 / finish 0 / begin 0 / read 0 / write 0 7 / finish 0 / begin 0 / begin 1 / read 1 / begin 0",
+        "ok / ok / ok / ok / ok / ok / ok / ok / Full(0) / ok / ok 5 6 7 / ok",
+    ),
+    (
+        "begin 0 / close 0 / read 0 / close 0 / write 0 5 6 / finish 0 / close 0 / begin 0 / close 0 / close 128",
+        "ok / Busy / ok / Busy / ok / ok / ok / Closed(0) / Closed(0) / Unknown",
+    ),
+];
+
 #[test]
 fn answers_whole_scripts(rt: HostRuntime) -> Result<(), Fail> {
-    let alloc = rt.alloc();
-    let script =
-        "begin 0 / read 0 / write 0 5 6 / finish 0 / begin 0 / read 0 / write 0 7 / finish 0 / begin 1 / read 1 / write 1 / finish 1";
-    let replies = "ok / ok / ok / ok / ok / ok / ok / ok / ok / ok 5 6 7 / ok / ok";
-    expect(&rt, alloc, PAIR, &AMPLE, script, replies)?;
-    let script =
-        "begin 0 / read 0 / write 0 5 6 / finish 0 / begin 0 / read 0 / write 0 7 / finish 0 / begin 0 / begin 1 / read 1 / begin 0";
-    let replies = "ok / ok / ok / ok / ok / ok / ok / ok / Full(0) / ok / ok 5 6 7 / ok";
-    expect(&rt, alloc, PAIR, &AMPLE, script, replies)?;
-    let script =
-        "begin 0 / close 0 / read 0 / close 0 / write 0 5 6 / finish 0 / close 0 / begin 0 / close 0 / close 128";
-    let replies = "ok / Busy / ok / Busy / ok / ok / ok / Closed(0) / Closed(0) / Unknown";
-    expect(&rt, alloc, PAIR, &AMPLE, script, replies)?;
+    for (script, replies) in &WHOLE_SCRIPTS {
+        expect(&rt, rt.alloc(), PAIR, &AMPLE, *script, *replies)?;
+    }
     Ok(())
 }
 
@@ -327,14 +359,25 @@ fn keeps_to_the_limits(rt: HostRuntime) -> Result<(), Fail> {
     Ok(())
 }
 
+/// Asserts the replies of the graph whose file begins with its number of cells.
+fn expect_with_cells(
+    rt: &impl Abort,
+    alloc: Global,
+    cells: &str,
+    graph: &str,
+    script: &str,
+    replies: &str,
+) -> Result<(), Fail> {
+    let text = format!(in alloc; "{cells}{graph}")?;
+    expect(rt, alloc, text.as_str(), &AMPLE, script, replies)
+}
+
 #[test]
 fn reserves_cells(rt: HostRuntime) -> Result<(), Fail> {
     let alloc = rt.alloc();
-    let three = format!(in alloc; "cells = 3\n{CHAIN}")?;
     let script = "begin 0 / read 0 / write 0 1 2 / finish 0 / begin 0";
     let replies = "ok / ok / ok / ok / NoCells";
-    expect(&rt, alloc, &three, &AMPLE, script, replies)?;
-    let four = format!(in alloc; "cells = 4\n{CHAIN}")?;
+    expect_with_cells(&rt, alloc, "cells = 3\n", CHAIN, script, replies)?;
     let script =
         "begin 0 / read 0 / write 0 1 2 / finish 0 / begin 0 / read 0 / write 0 3 4 / finish 0 / \
         begin 1 / read 1 / write 1 9 / finish 1 / begin 0 / read 0 / write 0 5 6 / finish 0 / \
@@ -343,9 +386,8 @@ fn reserves_cells(rt: HostRuntime) -> Result<(), Fail> {
     let replies =
         "ok / ok / ok / ok / ok / ok / ok / ok / ok / ok 1 2 3 / ok / ok / ok / ok / ok / ok / \
         ok / ok 4 5 6 / ok / ok / ok / ok / ok / ok / ok / NoCells / ok 9 8 / ok";
-    expect(&rt, alloc, &four, &AMPLE, script, replies)?;
-    let one = format!(in alloc; "cells = 1\n{LOOP}")?;
-    expect(&rt, alloc, &one, &AMPLE, "begin 0", "ok")?;
+    expect_with_cells(&rt, alloc, "cells = 4\n", CHAIN, script, replies)?;
+    expect_with_cells(&rt, alloc, "cells = 1\n", LOOP, "begin 0", "ok")?;
     Ok(())
 }
 

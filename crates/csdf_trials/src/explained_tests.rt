@@ -1,7 +1,8 @@
-use crate::shared::expect_eq;
+use crate::shared::{expect_eq, expect_eq_of};
 use csdf_answers::explain_fault;
 use csdf_graph::{read_graph, read_script};
 use std::alloc::{AllocError, Global};
+use std::process::Abort;
 use std::test::*;
 
 const PAIR: &str = r#"actor = [
@@ -134,12 +135,27 @@ fn explained(alloc: Global, bytes: &[u8]) -> Result<String, AllocError> {
     }
 }
 
+/// Asserts what is said of a text that came of an edit.
+fn expect_explained(
+    rt: &(impl Abort + AllocGlobal),
+    text: &str,
+    told: &str,
+    edit: &str,
+) -> Result<(), Fail> {
+    let found = explained(rt.alloc(), text.as_bytes())?;
+    expect_eq_of(rt, found.as_str(), told, edit);
+    Ok(())
+}
+
+fn check_case(rt: &(impl Abort + AllocGlobal), case: &Case) -> Result<(), Fail> {
+    let text = PAIR.replacen(rt.alloc(), case.old, case.new, 1)?;
+    expect_explained(rt, text.as_str(), case.told, case.new)
+}
+
 #[test]
 fn explains_refused_files(rt: HostRuntime) -> Result<(), Fail> {
     for case in &CASES {
-        let text = PAIR.replacen(rt.alloc(), case.old, case.new, 1)?;
-        let told = explained(rt.alloc(), text.as_bytes())?;
-        assert_eq!(rt; told.as_str(), case.told, "{}", case.new);
+        check_case(&rt, case)?;
     }
     Ok(())
 }
@@ -172,15 +188,26 @@ const SCRIPTS: [(&str, &str); 6] = [
     ),
 ];
 
+/// What is said of a text whose script is refused.
+fn explained_script(alloc: Global, text: &str) -> Result<String, Fail> {
+    match read_script(alloc, text.as_bytes()) {
+        Ok(_) => Err(Fail::from("a script is taken")),
+        Err(fault) => Ok(explain_fault(alloc, text.as_bytes(), fault)?),
+    }
+}
+
+/// Asserts what is said of the pair with this table of its script.
+fn check_script(rt: &(impl Abort + AllocGlobal), table: &str, wanted: &str) -> Result<(), Fail> {
+    let text = format!(in rt.alloc(); "{PAIR}[script]\n{table}\n")?;
+    let told = explained_script(rt.alloc(), text.as_str())?;
+    expect_eq(rt, told.as_str(), wanted);
+    Ok(())
+}
+
 #[test]
 fn explains_refused_scripts(rt: HostRuntime) -> Result<(), Fail> {
     for (table, wanted) in &SCRIPTS {
-        let text = format!(in rt.alloc(); "{PAIR}[script]\n{table}\n")?;
-        let Err(fault) = read_script(rt.alloc(), text.as_bytes()) else {
-            return Err(Fail::from("a script is taken"));
-        };
-        let told = explain_fault(rt.alloc(), text.as_bytes(), fault)?;
-        expect_eq(&rt, told.as_str(), *wanted);
+        check_script(&rt, *table, *wanted)?;
     }
     Ok(())
 }

@@ -134,84 +134,88 @@ fn reads_the_tables_of_the_pair(rt: HostRuntime) -> Result<(), Fail> {
     Ok(())
 }
 
+/// Asserts which channels an actor reads, and which it writes.
+fn check_gathered(rt: &impl Abort, graph: &Graph, actor: u32, inputs: &[u32], outputs: &[u32]) {
+    assert!(rt; (actor as usize) < graph.actors().len());
+    expect_eq(rt, graph.inputs(actor), inputs);
+    expect_eq(rt, graph.outputs(actor), outputs);
+}
+
 #[test]
 fn gathers_channels_of_two(rt: HostRuntime) -> Result<(), Fail> {
     let pair = read_graph(rt.alloc(), PAIR.as_bytes())?;
-    assert_eq!(rt; pair.actors().len(), 2);
-    expect_eq(
-        &rt,
-        (pair.inputs(0).len(), pair.inputs(1)),
-        (0, [0].as_slice()),
-    );
-    expect_eq(
-        &rt,
-        (pair.outputs(0), pair.outputs(1).len()),
-        ([0].as_slice(), 0),
-    );
+    expect_eq(&rt, pair.actors().len(), 2);
+    check_gathered(&rt, &pair, 0, &[], &[0]);
+    check_gathered(&rt, &pair, 1, &[0], &[]);
     Ok(())
 }
 
 #[test]
 fn gathers_channels_of_one(rt: HostRuntime) -> Result<(), Fail> {
     let own = copy_of(&rt, LOOP)?;
-    assert_eq!(rt; own.actors().len(), 1);
-    expect_eq(
-        &rt,
-        (own.inputs(0), own.outputs(0)),
-        ([0].as_slice(), [0].as_slice()),
-    );
+    expect_eq(&rt, own.actors().len(), 1);
+    check_gathered(&rt, &own, 0, &[0], &[0]);
     Ok(())
 }
 
+const EDITS_OF_ACTORS: [(&str, &str, GraphFault); 8] = [
+    ("\"source\"", "\"mix\"", GraphFault::Shape(At::Actor(0))),
+    (
+        "phases = 2",
+        "phases = 2\nshift = 0",
+        GraphFault::Shape(At::Actor(0)),
+    ),
+    (
+        "\"snk\"\nkernel",
+        "\"9x\"\nkernel",
+        GraphFault::Name(At::Actor(1)),
+    ),
+    ("phases = 2", "phases = 0", GraphFault::Range(At::Actor(0))),
+    ("phases = 2", "phases = 17", GraphFault::Range(At::Actor(0))),
+    ("\"source\"", "\"copy\"", GraphFault::KernelPorts(0)),
+    (CHANNEL, "", GraphFault::KernelPorts(0)),
+    ("finish snk\",\n]", "finish snk\",\n", GraphFault::NotToml),
+];
+
 #[test]
 fn refuses_edits_of_actors(rt: HostRuntime) -> Result<(), Fail> {
-    let actor = At::Actor(0);
-    let edits = [
-        ("\"source\"", "\"mix\"", GraphFault::Shape(actor)),
-        (
-            "phases = 2",
-            "phases = 2\nshift = 0",
-            GraphFault::Shape(actor),
-        ),
-        (
-            "\"snk\"\nkernel",
-            "\"9x\"\nkernel",
-            GraphFault::Name(At::Actor(1)),
-        ),
-        ("phases = 2", "phases = 0", GraphFault::Range(actor)),
-        ("phases = 2", "phases = 17", GraphFault::Range(actor)),
-        ("\"source\"", "\"copy\"", GraphFault::KernelPorts(0)),
-        (CHANNEL, "", GraphFault::KernelPorts(0)),
-        ("finish snk\",\n]", "finish snk\",\n", GraphFault::NotToml),
-    ];
-    for (old, new, fault) in edits {
-        expect_edited(&rt, old, new, Some(fault))?;
+    for (old, new, fault) in &EDITS_OF_ACTORS {
+        expect_edited(&rt, *old, *new, Some(*fault))?;
     }
     Ok(())
 }
 
+const MANY: &str = "initial = [1, 2, 3, 4]\ncapacity";
+
+const EDITS_OF_THE_CHANNEL: [(&str, &str, GraphFault); 10] = [
+    (
+        "capacity",
+        "rate = 1\ncapacity",
+        GraphFault::Shape(At::Channel(0)),
+    ),
+    ("[2, 1]", "[2.0, 1.0]", GraphFault::Shape(At::Channel(0))),
+    (
+        "capacity = 3",
+        "capacity = 0",
+        GraphFault::Range(At::Channel(0)),
+    ),
+    (
+        "capacity = 3",
+        "capacity = 65536",
+        GraphFault::Range(At::Channel(0)),
+    ),
+    ("[2, 1]", "[2, 65]", GraphFault::Range(At::Channel(0))),
+    ("capacity", MANY, GraphFault::Range(At::Channel(0))),
+    ("to = \"snk\"", "to = \"zz\"", GraphFault::UnknownActor(0)),
+    ("[2, 1]", "[2]", GraphFault::PhaseLength(0)),
+    ("[2, 1]", "[0]", GraphFault::PhaseLength(0)),
+    ("[2, 1]", "[0, 0]", GraphFault::ZeroRate(0)),
+];
+
 #[test]
 fn refuses_edits_of_the_channel(rt: HostRuntime) -> Result<(), Fail> {
-    let channel = At::Channel(0);
-    let many = "initial = [1, 2, 3, 4]\ncapacity";
-    let edits = [
-        ("capacity", "rate = 1\ncapacity", GraphFault::Shape(channel)),
-        ("[2, 1]", "[2.0, 1.0]", GraphFault::Shape(channel)),
-        ("capacity = 3", "capacity = 0", GraphFault::Range(channel)),
-        (
-            "capacity = 3",
-            "capacity = 65536",
-            GraphFault::Range(channel),
-        ),
-        ("[2, 1]", "[2, 65]", GraphFault::Range(channel)),
-        ("capacity", many, GraphFault::Range(channel)),
-        ("to = \"snk\"", "to = \"zz\"", GraphFault::UnknownActor(0)),
-        ("[2, 1]", "[2]", GraphFault::PhaseLength(0)),
-        ("[2, 1]", "[0]", GraphFault::PhaseLength(0)),
-        ("[2, 1]", "[0, 0]", GraphFault::ZeroRate(0)),
-    ];
-    for (old, new, fault) in edits {
-        expect_edited(&rt, old, new, Some(fault))?;
+    for (old, new, fault) in &EDITS_OF_THE_CHANNEL {
+        expect_edited(&rt, *old, *new, Some(*fault))?;
     }
     Ok(())
 }
@@ -312,24 +316,25 @@ fn reads_the_limit_on_firings(rt: HostRuntime) -> Result<(), Fail> {
     Ok(())
 }
 
+const EDITS_OF_THE_SCRIPT: [(&str, &str, GraphFault); 4] = [
+    (
+        "[script]\n",
+        "[script]\nlimit = -1\n",
+        GraphFault::Range(At::Script),
+    ),
+    (
+        "[script]\n",
+        "[script]\nfirings = 1048576001\n",
+        GraphFault::Range(At::Script),
+    ),
+    ("  \"begin src\", ", "  1, ", GraphFault::Shape(At::Script)),
+    ("finish snk\",\n]", "finish snk\",\n", GraphFault::NotToml),
+];
+
 #[test]
 fn refuses_scripts(rt: HostRuntime) -> Result<(), Fail> {
-    let table = [
-        (
-            "[script]\n",
-            "[script]\nlimit = -1\n",
-            GraphFault::Range(At::Script),
-        ),
-        (
-            "[script]\n",
-            "[script]\nfirings = 1048576001\n",
-            GraphFault::Range(At::Script),
-        ),
-        ("  \"begin src\", ", "  1, ", GraphFault::Shape(At::Script)),
-        ("finish snk\",\n]", "finish snk\",\n", GraphFault::NotToml),
-    ];
-    for (old, new, fault) in table {
-        expect_script_fault(&rt, old, new, fault)?;
+    for (old, new, fault) in &EDITS_OF_THE_SCRIPT {
+        expect_script_fault(&rt, *old, *new, *fault)?;
     }
     Ok(())
 }

@@ -2,7 +2,7 @@
 //! after another.
 
 use crate::analysis_tests::graph;
-use crate::core_tests::{AMPLE, PAIR, moves_in, setup_of, shown, text_of};
+use crate::core_tests::{PAIR, moves_in, opening_core, shown, text_of};
 use crate::shared::{CHAIN, accepted_in, expect_eq};
 use csdf_analysis::{AcceptFault, Accepted, accept, capacities, repetition};
 use csdf_core::{Core, Move, Reply, play_on};
@@ -51,19 +51,9 @@ const SCRIPT: &str =
 
 const REPLIES: &str = "ok / ok / ok / ok / ok / ok / ok / ok / ok / ok 5 6 7 / ok / ok";
 
-/// A core of the graph on which nothing has fired.
-fn opening_core(alloc: Global, accepted: &Accepted) -> Result<Core, Fail> {
-    let setup = setup_of(alloc, accepted, &AMPLE)?;
-    Ok(Core::new(alloc, setup)?)
-}
-
-fn shown_by(alloc: Global, core: &Core) -> Result<String, Fail> {
-    shown(alloc, core, core.actors(), core.channels())
-}
-
 /// Whether the core shows this.
 fn shows(alloc: Global, core: &Core, state: &str) -> Result<bool, Fail> {
-    let now = shown_by(alloc, core)?;
+    let now = shown(alloc, core)?;
     Ok(now.as_str() == state)
 }
 
@@ -89,7 +79,7 @@ fn is_after_a_front(
     core: &Core,
     moves: &[Move],
 ) -> Result<bool, Fail> {
-    let state = shown_by(alloc, core)?;
+    let state = shown(alloc, core)?;
     let mut other = opening_core(alloc, accepted)?;
     comes_to_show(alloc, &mut other, moves, state.as_str())
 }
@@ -126,9 +116,13 @@ fn check_front(
     Ok(())
 }
 
+fn play_script_front(rt: &impl Abort, alloc: Global, accepted: &Accepted) -> Result<(), Fail> {
+    let moves = moves_in(alloc, SCRIPT)?;
+    play_front(rt, alloc, accepted, &moves)
+}
+
 #[test]
 fn plays_a_front_of_the_moves(rt: HostRuntime) -> Result<(), Fail> {
     let accepted = accepted_in(rt.alloc(), PAIR)?;
-    let moves = moves_in(rt.alloc(), SCRIPT)?;
-    play_front(&rt, rt.alloc(), &accepted, &moves)
+    play_script_front(&rt, rt.alloc(), &accepted)
 }

@@ -1,8 +1,8 @@
 //! Printed schedules, played over and over.
+use crate::core_tests::opening_core;
 use crate::shared::{accepted_in, expect_eq};
 use csdf_analysis::{Accepted, schedule};
-use csdf_core::{Core, Setup};
-use csdf_graph::Kernel;
+use csdf_core::Core;
 use std::alloc::{AllocError, Global};
 use std::process::Abort;
 use std::test::Fail;
@@ -88,38 +88,25 @@ channel = [
 ]
 "#;
 
-/// A core with ample limits and files.
-fn core_of(rt: &impl Abort, alloc: Global, accepted: &Accepted) -> Result<Core, AllocError> {
-    let actors = accepted.graph().actors();
-    let mut supply = Vec::new(alloc);
-    for actor in actors {
-        let tokens = if actor.kernel == Kernel::Source {
-            1_000_000
-        } else {
-            0
-        };
-        supply.push(tokens)?;
-    }
-    assert_eq!(rt; supply.len(), actors.len());
-    let limits = vec![in alloc; 1_000_000; actors.len()]?;
-    let firings = None;
-    let setup = Setup {
-        accepted,
-        limits,
-        supply,
-        firings,
-    };
-    Core::new(alloc, setup)
+fn read(rt: &impl Abort, alloc: Global, core: &mut Core, actor: u32) -> Result<(), Fail> {
+    let mut inputs = vec![in alloc; 0; core.need(actor)]?;
+    assert!(rt; core.need(actor) <= inputs.len());
+    core.read(actor, &mut inputs)?;
+    Ok(())
+}
+
+/// Writes zeros.
+fn write(alloc: Global, core: &mut Core, actor: u32) -> Result<(), Fail> {
+    let outputs = vec![in alloc; 0; core.gives(actor)]?;
+    core.write(actor, &outputs)?;
+    Ok(())
 }
 
 /// Makes a whole firing of the actor, which writes zeros.
 fn fire(rt: &impl Abort, alloc: Global, core: &mut Core, actor: u32) -> Result<(), Fail> {
     core.begin(actor)?;
-    let mut inputs = vec![in alloc; 0; core.need(actor)]?;
-    assert!(rt; core.need(actor) <= inputs.len());
-    core.read(actor, &mut inputs)?;
-    let outputs = vec![in alloc; 0; core.gives(actor)]?;
-    core.write(actor, &outputs)?;
+    read(rt, alloc, core, actor)?;
+    write(alloc, core, actor)?;
     core.finish(actor)?;
     Ok(())
 }
@@ -166,7 +153,7 @@ fn play_three(
 /// Plays the printed schedule of the graph three times over.
 fn play_schedule(rt: &impl Abort, alloc: Global, accepted: &Accepted) -> Result<(), Fail> {
     let firings = schedule(alloc, accepted)?;
-    play_three(rt, alloc, &mut core_of(rt, alloc, accepted)?, &firings)
+    play_three(rt, alloc, &mut opening_core(alloc, accepted)?, &firings)
 }
 
 #[test]

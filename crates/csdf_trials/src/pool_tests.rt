@@ -4,6 +4,7 @@ mod plain;
 
 ghost use Rattle.std.specs.Prelude.{◌≡◌, ◌<◌, length, IfOk};
 
+use crate::shared::expect_eq;
 use csdf_pool::{NoCell, Pool};
 use plain::Plain;
 use std::alloc::{AllocError, Global};
@@ -52,18 +53,29 @@ impl Two {
         Ok(tokens)
     }
 
-    // The cells and tokens of both chains, and the free cells, as `1=8 | 2=9 | 3 0`.
-    fn shown(&self, alloc: Global) -> Result<String, AllocError> {
-        let mut text = String::new(alloc);
-        for chain in 0..2 {
-            for (cell, token) in self.pool.cells(chain).zip(self.pool.tokens(chain)) {
-                write!(text, "{cell}={token} ")?;
-            }
-            write!(text, "| ")?;
+    fn show_chain(&self, text: &mut String, chain: u32) -> Result<(), AllocError>
+        requires { chain < 2 }
+    {
+        for (cell, token) in self.pool.cells(chain).zip(self.pool.tokens(chain)) {
+            write!(text, "{cell}={token} ")?;
         }
+        write!(text, "| ")?;
+        Ok(())
+    }
+
+    fn show(&self, text: &mut String) -> Result<(), AllocError> {
+        self.show_chain(text, 0)?;
+        self.show_chain(text, 1)?;
         for cell in self.pool.free_cells() {
             write!(text, "{cell} ")?;
         }
+        Ok(())
+    }
+
+    // The cells and tokens of both chains, and the free cells, as `1=8 | 2=9 | 3 0`.
+    fn shown(&self, alloc: Global) -> Result<String, AllocError> {
+        let mut text = String::new(alloc);
+        self.show(&mut text)?;
         Ok(text)
     }
 }
@@ -81,21 +93,45 @@ enum Call {
 #[derive(Drop)]
 struct Step(Call, &'static str);
 
+fn check_taken(
+    rt: &impl Abort,
+    alloc: Global,
+    two: &mut Two,
+    chain: u32,
+    answer: &[i32],
+) -> Result<(), Fail> {
+    let taken = two.take_some(alloc, chain, answer.len())?;
+    expect_eq(rt, taken.as_slice(), answer);
+    Ok(())
+}
+
+fn check_call(rt: &impl Abort, alloc: Global, two: &mut Two, call: &Call) -> Result<(), Fail> {
+    match call {
+        Call::Put(chain, token, answer) => expect_eq(rt, two.put(*chain, *token), *answer),
+        Call::Take(chain, answer) => expect_eq(rt, two.take(*chain), *answer),
+        Call::PutAll(chain, tokens) => assert!(rt; two.put_all(*chain, *tokens)),
+        Call::TakeInto(chain, answer) => return check_taken(rt, alloc, two, *chain, *answer),
+    }
+    Ok(())
+}
+
+fn check_shown(rt: &impl Abort, alloc: Global, two: &Two, want: &str) -> Result<(), Fail> {
+    let shown = two.shown(alloc)?;
+    expect_eq(rt, shown.as_str(), want);
+    Ok(())
+}
+
+fn check_step(rt: &impl Abort, alloc: Global, two: &mut Two, step: &Step) -> Result<(), Fail> {
+    check_call(rt, alloc, two, &step.0)?;
+    check_shown(rt, alloc, two, step.1)
+}
+
 fn plays(rt: &impl Abort, alloc: Global, cells: u32, steps: &[Step]) -> Result<(), Fail>
     requires { cells < 1000 }
 {
     let mut two = Two::new(alloc, cells)?;
     for step in steps {
-        match step.0 {
-            Call::Put(chain, token, answer) => assert_eq!(rt; two.put(chain, token), answer),
-            Call::Take(chain, answer) => assert_eq!(rt; two.take(chain), answer),
-            Call::PutAll(chain, tokens) => assert!(rt; two.put_all(chain, tokens)),
-            Call::TakeInto(chain, answer) => {
-                let taken = two.take_some(alloc, chain, answer.len())?;
-                assert_eq!(rt; taken.as_slice(), answer);
-            }
-        }
-        assert_eq!(rt; two.shown(alloc)?.as_str(), step.1);
+        check_step(rt, alloc, &mut two, step)?;
     }
     Ok(())
 }
@@ -135,20 +171,41 @@ fn whole_segments(rt: HostRuntime) -> Result<(), Fail> {
     plays(&rt, rt.alloc(), 6, &steps)
 }
 
+fn check_no_chains(rt: &impl Abort, alloc: Global) -> Result<(), Fail> {
+    let pool = Pool::new(alloc, 0, 0)?;
+    expect_eq(rt, pool.free_len(), 0);
+    expect_eq(rt, pool.free_cells().count(), 0);
+    Ok(())
+}
+
+fn check_no_cells(rt: &impl Abort, two: &mut Two) {
+    expect_eq(rt, two.put(0, 1), Err(NoCell));
+    expect_eq(rt, two.take(0), None);
+}
+
 #[test]
 fn no_cells_and_no_chains(rt: HostRuntime) -> Result<(), Fail> {
-    let pool = Pool::new(rt.alloc(), 0, 0)?;
-    assert_eq!(rt; pool.free_len(), 0);
-    assert_eq!(rt; pool.free_cells().count(), 0);
+    check_no_chains(&rt, rt.alloc())?;
     let mut two = Two::new(rt.alloc(), 0)?;
-    assert_eq!(rt; two.put(0, 1), Err(NoCell));
-    assert_eq!(rt; two.take(0), None);
+    check_no_cells(&rt, &mut two);
     Ok(())
 }
 
 // The next number of a fixed sequence.
 fn next(seed: u64) -> u64 {
     (seed % 1_000_003 * 48_271 + 11) % 1_000_003
+}
+
+// Takes so many tokens from both pools: whether they are the same.
+fn same_taken(
+    alloc: Global,
+    two: &mut Two,
+    plain: &mut Plain,
+    chain: u32,
+    n: usize,
+) -> Result<bool, AllocError> {
+    let taken = two.take_some(alloc, chain, n)?;
+    Ok(taken.as_slice() == plain.take_some(alloc, chain, n)?.as_slice())
 }
 
 // One call on both pools, picked by the number: whether both answered alike.
@@ -169,25 +226,30 @@ fn same_answer(
             let put = two.put_all(chain, &tokens[..n.min(3)]);
             Ok(put == plain.put_all(chain, &tokens[..n.min(3)])?)
         }
-        _ => {
-            let taken = two.take_some(alloc, chain, n)?;
-            Ok(taken.as_slice() == plain.take_some(alloc, chain, n)?.as_slice())
-        }
+        _ => same_taken(alloc, two, plain, chain, n),
     }
+}
+
+// Both pools show the same.
+fn check_alike(rt: &impl Abort, alloc: Global, two: &Two, plain: &Plain) -> Result<(), Fail> {
+    let shown = plain.shown(alloc)?;
+    check_shown(rt, alloc, two, shown.as_str())
+}
+
+// Makes many calls on both pools.
+fn play_both(rt: &impl Abort, alloc: Global, two: &mut Two, plain: &mut Plain) -> Result<(), Fail> {
+    let mut pick = 5;
+    for _ in 0..2000 {
+        pick = next(pick);
+        assert!(rt; same_answer(alloc, two, plain, pick)?);
+        check_alike(rt, alloc, two, plain)?;
+    }
+    Ok(())
 }
 
 #[test]
 fn beside_the_plain_pool(rt: HostRuntime) -> Result<(), Fail> {
     let mut two = Two::new(rt.alloc(), 11)?;
     let mut plain = Plain::new(rt.alloc(), 11)?;
-    let mut pick = 5;
-    for _ in 0..2000 {
-        pick = next(pick);
-        assert!(rt; same_answer(rt.alloc(), &mut two, &mut plain, pick)?);
-        assert_eq!(rt;
-            two.shown(rt.alloc())?.as_str(),
-            plain.shown(rt.alloc())?.as_str()
-        );
-    }
-    Ok(())
+    play_both(&rt, rt.alloc(), &mut two, &mut plain)
 }

@@ -1,6 +1,6 @@
 //! Worked examples of questions.
 
-use crate::shared::{CHAIN, DISAGREEING, STUCK_CYCLE, expect_eq};
+use crate::shared::{CHAIN, DISAGREEING, STUCK_CYCLE, expect_eq, line_of};
 use csdf_answers::{Question, describe};
 use csdf_graph::ToWriter;
 use std::process::Abort;
@@ -18,7 +18,7 @@ fn answer_to(
         Ok(()) => Ok(String::from_utf8(written)?),
         Err(fault) => {
             expect_eq(rt, written.len(), 0);
-            Ok(format!(in rt.alloc(); "{fault}")?)
+            line_of(rt, &fault)
         }
     }
 }

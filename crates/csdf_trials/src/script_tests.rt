@@ -1,7 +1,7 @@
 //! Worked examples of scripts.
 
 use crate::core_tests::LOOP;
-use crate::shared::{CHAIN, DISAGREEING, STUCK_CYCLE, expect_eq};
+use crate::shared::{CHAIN, DISAGREEING, STUCK_CYCLE, expect_eq, line_of};
 use csdf_answers::{Name, Stream, ToolFault, play_script};
 use csdf_graph::{At, Fused, GraphFault, ToWriter};
 use std::process::Abort;
@@ -52,17 +52,22 @@ channel = [
 "#;
 
 /// A file's answer: what is written for it, or the line of its fault, for which nothing is.
-fn answer_to(rt: &(impl Abort + AllocGlobal), graph: &str, script: &str) -> Result<String, Fail> {
-    let file = format!(in rt.alloc(); "{graph}{script}")?;
+fn answer_of(rt: &(impl Abort + AllocGlobal), file: &str) -> Result<String, Fail> {
     let mut written = Vec::new(rt.alloc());
     let mut writer = ToWriter::new(&mut written);
     match play_script(rt.alloc(), file.as_bytes(), &mut writer) {
         Ok(()) => Ok(String::from_utf8(written)?),
         Err(fault) => {
             expect_eq(rt, written.len(), 0);
-            Ok(format!(in rt.alloc(); "{fault}")?)
+            line_of(rt, &fault)
         }
     }
+}
+
+/// The answer to the graph's and the script's file.
+fn answer_to(rt: &(impl Abort + AllocGlobal), graph: &str, script: &str) -> Result<String, Fail> {
+    let file = format!(in rt.alloc(); "{graph}{script}")?;
+    answer_of(rt, file.as_str())
 }
 
 /// Asserts what is answered to a file.
@@ -77,34 +82,32 @@ fn expect(
     Ok(())
 }
 
-#[test]
-fn a_pair_fires_and_is_refused(rt: HostRuntime) -> Result<(), Fail> {
-    let table = [
-        (
-            r#"[script]
+const SCRIPTS_OF_THE_PAIR: [(&str, &str); 6] = [
+    (
+        r#"[script]
 moves = [
   "begin src", "read src", "write src 5 6", "finish src",
   "begin src", "read src", "write src 7", "finish src",
   "begin src", "begin snk", "read snk", "begin src",
 ]
 "#,
-            "begin src: ok\nread src: ok\nwrite src: ok\nfinish src: ok\n\
+        "begin src: ok\nread src: ok\nwrite src: ok\nfinish src: ok\n\
              begin src: ok\nread src: ok\nwrite src: ok\nfinish src: ok\n\
              begin src: refused Full x\nbegin snk: ok\nread snk: ok 5 6 7\nbegin src: ok\n",
-        ),
-        (
-            r#"[script]
+    ),
+    (
+        r#"[script]
 moves = [
   "begin src", "close x", "read src", "close x", "write src 5 6", "finish src", "close x",
   "begin src", "close x", "close zz",
 ]
 "#,
-            "begin src: ok\nclose x: refused Busy\nread src: ok\nclose x: refused Busy\n\
+        "begin src: ok\nclose x: refused Busy\nread src: ok\nclose x: refused Busy\n\
              write src: ok\nfinish src: ok\nclose x: ok\nbegin src: refused Closed x\n\
              close x: refused Closed x\nclose zz: refused Unknown\n",
-        ),
-        (
-            r#"[script]
+    ),
+    (
+        r#"[script]
 limit = 1
 supply = 2
 moves = [
@@ -112,30 +115,33 @@ moves = [
   "read src", "write src 5", "write src 5 6", "finish src", "begin src",
 ]
 "#,
-            "begin zzz: refused Unknown\nread src: refused NotBegun\nbegin snk: refused Short x\n\
+        "begin zzz: refused Unknown\nread src: refused NotBegun\nbegin snk: refused Short x\n\
              begin src: ok\nbegin src: refused Busy\nwrite src: refused NotRead\n\
              finish src: refused NotWritten\nread src: ok\nwrite src: refused WrongCount\n\
              write src: ok\nfinish src: ok\nbegin src: refused Spent\n",
-        ),
-        (
-            r#"[script]
+    ),
+    (
+        r#"[script]
 supply = 2
 moves = ["begin src", "read src", "write src 5 6", "finish src", "begin src"]
 "#,
-            "begin src: ok\nread src: ok\nwrite src: ok\nfinish src: ok\nbegin src: refused Dry\n",
-        ),
-        (
-            r#"[script]
+        "begin src: ok\nread src: ok\nwrite src: ok\nfinish src: ok\nbegin src: refused Dry\n",
+    ),
+    (
+        r#"[script]
 firings = 1
 moves = ["begin src", "begin snk", "read src", "write src 5 6", "finish src", "begin src"]
 "#,
-            "begin src: ok\nbegin snk: refused Short x\nread src: ok\nwrite src: ok\n\
+        "begin src: ok\nbegin snk: refused Short x\nread src: ok\nwrite src: ok\n\
              finish src: ok\nbegin src: refused Stopped\n",
-        ),
-        ("", ""),
-    ];
-    for (script, want) in table {
-        expect(&rt, PAIR, script, want)?;
+    ),
+    ("", ""),
+];
+
+#[test]
+fn a_pair_fires_and_is_refused(rt: HostRuntime) -> Result<(), Fail> {
+    for (script, want) in &SCRIPTS_OF_THE_PAIR {
+        expect(&rt, PAIR, *script, *want)?;
     }
     Ok(())
 }
@@ -199,22 +205,20 @@ fn expect_with_cells(
     expect(rt, file.as_str(), script, want)
 }
 
-#[test]
-fn cells_may_be_fewer_than_the_capacities(rt: HostRuntime) -> Result<(), Fail> {
-    let table = [
-        (
-            "cells = 3\n",
-            CHAIN,
-            r#"[script]
+const FEW_CELLS: [(&str, &str, &str, &str); 4] = [
+    (
+        "cells = 3\n",
+        CHAIN,
+        r#"[script]
 moves = ["begin a", "read a", "write a 1 2", "finish a", "begin a", "cells"]
 "#,
-            "begin a: ok\nread a: ok\nwrite a: ok\nfinish a: ok\nbegin a: refused NoCells\n\
+        "begin a: ok\nread a: ok\nwrite a: ok\nfinish a: ok\nbegin a: refused NoCells\n\
              cells x: 0 1\ncells y:\nfree: 2\n",
-        ),
-        (
-            "cells = 4\n",
-            CHAIN,
-            r#"[script]
+    ),
+    (
+        "cells = 4\n",
+        CHAIN,
+        r#"[script]
 moves = [
   "begin a", "read a", "write a 1 2", "finish a", "begin a", "read a", "write a 3 4", "finish a",
   "begin b", "read b", "write b 9", "finish b", "begin a", "read a", "write a 5 6", "finish a",
@@ -222,71 +226,77 @@ moves = [
   "begin a", "read a", "write a 7 8", "finish a", "begin a", "read c", "begin a",
 ]
 "#,
-            "begin a: ok\nread a: ok\nwrite a: ok\nfinish a: ok\n\
+        "begin a: ok\nread a: ok\nwrite a: ok\nfinish a: ok\n\
              begin a: ok\nread a: ok\nwrite a: ok\nfinish a: ok\n\
              begin b: ok\nread b: ok 1 2 3\nwrite b: ok\nfinish b: ok\n\
              begin a: ok\nread a: ok\nwrite a: ok\nfinish a: ok\n\
              begin b: ok\nread b: ok 4 5 6\nwrite b: ok\nfinish b: ok\nbegin c: ok\n\
              begin a: ok\nread a: ok\nwrite a: ok\nfinish a: ok\n\
              begin a: refused NoCells\nread c: ok 9 8\nbegin a: ok\n",
-        ),
-        (
-            "cells = 1\n",
-            LOOP,
-            "[script]\nmoves = [\"begin a\"]\n",
-            "begin a: ok\n",
-        ),
-        (
-            "cells = 0\n",
-            LOOP,
-            "[script]\nmoves = [\"begin a\"]\n",
-            "csdf: graph: range at file",
-        ),
-    ];
-    for (cells, graph, script, want) in table {
-        expect_with_cells(&rt, cells, graph, script, want)?;
+    ),
+    (
+        "cells = 1\n",
+        LOOP,
+        "[script]\nmoves = [\"begin a\"]\n",
+        "begin a: ok\n",
+    ),
+    (
+        "cells = 0\n",
+        LOOP,
+        "[script]\nmoves = [\"begin a\"]\n",
+        "csdf: graph: range at file",
+    ),
+];
+
+#[test]
+fn cells_may_be_fewer_than_the_capacities(rt: HostRuntime) -> Result<(), Fail> {
+    for (cells, graph, script, want) in &FEW_CELLS {
+        expect_with_cells(&rt, *cells, *graph, *script, *want)?;
     }
     Ok(())
 }
 
+const FAULTY: &str =
+    "[script]\nmoves = [\"begin src\", \"read src\", \"write src 5 6\", \"begin\"]\n";
+
+const FIRST_FAULTS: [(&str, &str, &str); 11] = [
+    (PAIR, FAULTY, "csdf: script: line 3"),
+    (
+        PAIR,
+        "[script]\nmoves = [\"begin src\"\n",
+        "csdf: graph: not TOML",
+    ),
+    (
+        PAIR,
+        "[script]\nlimit = -1\n",
+        "csdf: graph: range at script",
+    ),
+    (
+        PAIR,
+        "[script]\nmoves = [1]\n",
+        "csdf: graph: shape at script",
+    ),
+    (DISAGREEING, "", "csdf: graph: unbalanced at channel y"),
+    (HUGE, "", "csdf: graph: too large at channel x"),
+    (STUCK_CYCLE, "", "csdf: graph: deadlock"),
+    (TIGHT, "", "csdf: graph: too tight"),
+    (STUCK_CYCLE, FAULTY, "csdf: script: line 3"),
+    (
+        STUCK_CYCLE,
+        "[script]\nlimit = -1\nmoves = [\"begin\"]\n",
+        "csdf: graph: range at script",
+    ),
+    (
+        STUCK_CYCLE,
+        "[[channel]]\n[script]\nlimit = -1\n",
+        "csdf: graph: not TOML",
+    ),
+];
+
 #[test]
 fn the_first_fault_is_told(rt: HostRuntime) -> Result<(), Fail> {
-    let faulty = "[script]\nmoves = [\"begin src\", \"read src\", \"write src 5 6\", \"begin\"]\n";
-    let table = [
-        (PAIR, faulty, "csdf: script: line 3"),
-        (
-            PAIR,
-            "[script]\nmoves = [\"begin src\"\n",
-            "csdf: graph: not TOML",
-        ),
-        (
-            PAIR,
-            "[script]\nlimit = -1\n",
-            "csdf: graph: range at script",
-        ),
-        (
-            PAIR,
-            "[script]\nmoves = [1]\n",
-            "csdf: graph: shape at script",
-        ),
-        (DISAGREEING, "", "csdf: graph: unbalanced at channel y"),
-        (HUGE, "", "csdf: graph: too large at channel x"),
-        (STUCK_CYCLE, "", "csdf: graph: deadlock"),
-        (TIGHT, "", "csdf: graph: too tight"),
-        (STUCK_CYCLE, faulty, "csdf: script: line 3"),
-        (
-            STUCK_CYCLE,
-            "[script]\nlimit = -1\nmoves = [\"begin\"]\n",
-            "csdf: graph: range at script",
-        ),
-        (
-            STUCK_CYCLE,
-            "[[channel]]\n[script]\nlimit = -1\n",
-            "csdf: graph: not TOML",
-        ),
-    ];
-    for (graph, script, want) in table {
-        expect(&rt, graph, script, want)?;
+    for (graph, script, want) in &FIRST_FAULTS {
+        expect(&rt, *graph, *script, *want)?;
     }
     Ok(())
 }
@@ -297,42 +307,53 @@ fn expect_line(rt: &(impl Abort + AllocGlobal), line: &str, want: &str) -> Resul
     expect(rt, PAIR, script.as_str(), want)
 }
 
+const LINES: [(&str, &str); 17] = [
+    ("", "csdf: script: line 0"),
+    ("   ", "csdf: script: line 0"),
+    ("begin", "csdf: script: line 0"),
+    ("begin src snk", "csdf: script: line 0"),
+    ("begin 9x", "csdf: script: line 0"),
+    ("begin\\tsrc", "csdf: script: line 0"),
+    ("begin src\\r", "csdf: script: line 0"),
+    ("Begin src", "csdf: script: line 0"),
+    ("read src 1", "csdf: script: line 0"),
+    ("write src 1x", "csdf: script: line 0"),
+    ("write src 2147483648", "csdf: script: line 0"),
+    ("cells x", "csdf: script: line 0"),
+    ("close x y", "csdf: script: line 0"),
+    ("  begin   src ", "begin src: ok\n"),
+    ("write zz", "write zz: refused Unknown\n"),
+    ("write src +1 -0 007", "write src: refused NotRead\n"),
+    ("cells", "cells x:\nfree: 0 1 2\n"),
+];
+
 #[test]
 fn lines_have_a_grammar(rt: HostRuntime) -> Result<(), Fail> {
-    let table = [
-        ("", "csdf: script: line 0"),
-        ("   ", "csdf: script: line 0"),
-        ("begin", "csdf: script: line 0"),
-        ("begin src snk", "csdf: script: line 0"),
-        ("begin 9x", "csdf: script: line 0"),
-        ("begin\\tsrc", "csdf: script: line 0"),
-        ("begin src\\r", "csdf: script: line 0"),
-        ("Begin src", "csdf: script: line 0"),
-        ("read src 1", "csdf: script: line 0"),
-        ("write src 1x", "csdf: script: line 0"),
-        ("write src 2147483648", "csdf: script: line 0"),
-        ("cells x", "csdf: script: line 0"),
-        ("close x y", "csdf: script: line 0"),
-        ("  begin   src ", "begin src: ok\n"),
-        ("write zz", "write zz: refused Unknown\n"),
-        ("write src +1 -0 007", "write src: refused NotRead\n"),
-        ("cells", "cells x:\nfree: 0 1 2\n"),
-    ];
-    for (line, want) in table {
-        expect_line(&rt, line, want)?;
+    for (line, want) in &LINES {
+        expect_line(&rt, *line, *want)?;
     }
     Ok(())
+}
+
+/// The fault of a file's script whose answer can't be written.
+fn fault_of_writing(rt: &impl AllocGlobal, file: &str) -> Result<ToolFault, Fail> {
+    let mut written = Vec::new(rt.alloc());
+    let mut writer = Fused::new(ToWriter::new(&mut written), 0);
+    match play_script(rt.alloc(), file.as_bytes(), &mut writer) {
+        Ok(()) => Err(Fail::from("the writer failed")),
+        Err(fault) => Ok(fault),
+    }
+}
+
+fn line_of_writing(rt: &impl AllocGlobal, file: &str) -> Result<String, Fail> {
+    let fault = fault_of_writing(rt, file)?;
+    line_of(rt, &fault)
 }
 
 #[test]
 fn a_failing_writer_is_told(rt: HostRuntime) -> Result<(), Fail> {
     let file = format!(in rt.alloc(); "{PAIR}[script]\nmoves = [\"begin src\"]\n")?;
-    let mut written = Vec::new(rt.alloc());
-    let mut writer = Fused::new(ToWriter::new(&mut written), 0);
-    let Err(fault) = play_script(rt.alloc(), file.as_bytes(), &mut writer) else {
-        return Err(Fail::from("the writer failed"));
-    };
-    let line = format!(in rt.alloc(); "{fault}")?;
+    let line = line_of_writing(&rt, file.as_str())?;
     expect_eq(&rt, line.as_str(), "csdf: device: standard output");
     Ok(())
 }
@@ -397,15 +418,20 @@ fn refusals_have_a_line(rt: HostRuntime) -> Result<(), Fail> {
     expect_told(&rt, &ToolFault::TooLong, "csdf: input too long", 1)
 }
 
+/// Asserts the lines of two devices that failed.
+fn expect_devices_told(rt: &(impl Abort + AllocGlobal)) -> Result<(), Fail> {
+    let input = ToolFault::Device(Stream::Input);
+    expect_told(rt, &input, "csdf: device: standard input", 3)?;
+    let output = ToolFault::Device(Stream::Output);
+    expect_told(rt, &output, "csdf: device: standard output", 3)
+}
+
 #[test]
 fn failures_have_a_line(rt: HostRuntime) -> Result<(), Fail> {
     expect_told(&rt, &ToolFault::Mixed, "csdf: run: mixed", 3)?;
     expect_told(&rt, &ToolFault::Worker, "csdf: run: worker", 3)?;
     expect_told(&rt, &ToolFault::Memory, "csdf: memory", 3)?;
-    let input = ToolFault::Device(Stream::Input);
-    expect_told(&rt, &input, "csdf: device: standard input", 3)?;
-    let output = ToolFault::Device(Stream::Output);
-    expect_told(&rt, &output, "csdf: device: standard output", 3)
+    expect_devices_told(&rt)
 }
 
 #[test]

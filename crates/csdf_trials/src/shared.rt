@@ -1,6 +1,7 @@
 //! Graphs and steps with which several tests begin.
 
 use csdf_analysis::{Accepted, accept};
+use csdf_answers::ToolFault;
 use csdf_graph::read_graph;
 use std::alloc::Global;
 use std::fmt::Debug;
@@ -61,4 +62,9 @@ pub(crate) fn expect_eq_of<T: PartialEq + Debug + Drop>(
     text: &str,
 ) {
     assert_eq!(rt; found, want, "of {text}");
+}
+
+/// The line of a fault.
+pub(crate) fn line_of(rt: &impl AllocGlobal, fault: &ToolFault) -> Result<String, Fail> {
+    Ok(format!(in rt.alloc(); "{fault}")?)
 }

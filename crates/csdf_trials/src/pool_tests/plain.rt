@@ -85,20 +85,27 @@ impl Plain {
         Ok(tokens)
     }
 
-    // The cells and tokens of both chains, and the free cells, as `1=8 | 2=9 | 3 0`.
-    pub fn shown(&self, alloc: Global) -> Result<String, AllocError> {
-        let mut text = String::new(alloc);
-        for (cell, token) in &self.first {
-            write!(text, "{cell}={token} ")?;
-        }
-        write!(text, "| ")?;
-        for (cell, token) in &self.second {
-            write!(text, "{cell}={token} ")?;
-        }
-        write!(text, "| ")?;
+    fn show(&self, text: &mut String) -> Result<(), AllocError> {
+        show_chain(text, &self.first)?;
+        show_chain(text, &self.second)?;
         for cell in &self.free {
             write!(text, "{cell} ")?;
         }
+        Ok(())
+    }
+
+    // The cells and tokens of both chains, and the free cells, as `1=8 | 2=9 | 3 0`.
+    pub fn shown(&self, alloc: Global) -> Result<String, AllocError> {
+        let mut text = String::new(alloc);
+        self.show(&mut text)?;
         Ok(text)
     }
+}
+
+fn show_chain(text: &mut String, chain: &VecDeque<(u32, i32)>) -> Result<(), AllocError> {
+    for (cell, token) in chain {
+        write!(text, "{cell}={token} ")?;
+    }
+    write!(text, "| ")?;
+    Ok(())
 }
