@@ -3,12 +3,12 @@
 # with a stand-in for `rt` whose program prints its words and ends with status 7.
 
 launched="$room/launched"
-mkdir -p "$launched/crates/csdf_tool/src" "$launched/crates/csdf_tool/must-fail" \
+mkdir -p "$launched/crates/csdf/src" "$launched/crates/csdf/must-fail" \
   "$launched/with_rt" "$launched/without_rt"
 cp "$top/csdf" "$launched/csdf"
-echo "csdf_tool:" > "$launched/crates.txt"
-echo "fn main() {}" > "$launched/crates/csdf_tool/src/main.rt"
-: > "$launched/crates/csdf_tool/stdin"
+echo "csdf:" > "$launched/crates.txt"
+echo "fn main() {}" > "$launched/crates/csdf/src/main.rt"
+: > "$launched/crates/csdf/stdin"
 for tool in bash cat chmod dirname env find mkdir mktemp readlink rm sed sha256sum sleep sort tail xargs; do
   ln -s "$(command -v "$tool")" "$launched/without_rt/$tool"
 done
@@ -16,8 +16,8 @@ cat > "$launched/with_rt/rt" << 'EOF'
 #!/usr/bin/env bash
 if [[ -e src/bad.rt ]]; then exit 1; fi
 mkdir -p out
-printf '#!/bin/sh\necho "$@"\nexit 7\n' > out/csdf_tool
-chmod +x out/csdf_tool
+printf '#!/bin/sh\necho "$@"\nexit 7\n' > out/csdf
+chmod +x out/csdf
 echo built >> builds
 EOF
 chmod +x "$launched/with_rt/rt"
@@ -30,8 +30,8 @@ launch() {
     > "$room/out" 2> "$room/told"
   status="$?"
   grep -v "csdf-build" "$room/told" > "$room/err"
-  if [[ -f "$launched/crates/csdf_tool/builds" ]]; then
-    builds="$(wc -l < "$launched/crates/csdf_tool/builds")"
+  if [[ -f "$launched/crates/csdf/builds" ]]; then
+    builds="$(wc -l < "$launched/crates/csdf/builds")"
   fi
   echo "builds $builds" >> "$room/out"
   { wanted "$out"; echo "builds $wanted_builds"; } > "$room/wanted_launch"
@@ -41,25 +41,25 @@ launch() {
 echo "one two" > "$room/words_told"
 echo "csdf: built" > "$room/built"
 sed -n '/^csdf: not built/,/^EOF/p' "$top/csdf" | sed '$d' > "$room/no_rt"
-main="$launched/crates/csdf_tool/src/main.rt"
+main="$launched/crates/csdf/src/main.rt"
 launch "no rt" 3 0 /dev/null "$room/no_rt" without_rt
 launch "first build" 7 1 "$room/words_told" "$room/built" with_rt
 launch "nothing changed" 7 1 "$room/words_told" /dev/null with_rt
-rm "$launched/crates/csdf_tool/out/csdf_tool.sum"
+rm "$launched/crates/csdf/out/csdf.sum"
 launch "built, with no record" 7 1 "$room/words_told" /dev/null with_rt
 launch "built, with a record once more" 7 1 "$room/words_told" /dev/null with_rt
 launch "built, and no rt" 7 1 "$room/words_told" /dev/null without_rt
 touch -d "1 hour" "$main"
 launch "a source with another time" 7 1 "$room/words_told" /dev/null with_rt
-echo "old edit" > "$launched/crates/csdf_tool/must-fail/x.edit"
+echo "old edit" > "$launched/crates/csdf/must-fail/x.edit"
 launch "no source changed" 7 1 "$room/words_told" /dev/null with_rt
 echo "fn main() { }" > "$main"
 touch -d "1970-01-02" "$main"
 launch "an older source with other content" 7 2 "$room/words_told" "$room/built" with_rt
 touch -d "1 hour" "$main"
-rm "$launched/crates/csdf_tool/out/csdf_tool.sum"
+rm "$launched/crates/csdf/out/csdf.sum"
 launch "a newer source, with no record" 7 3 "$room/words_told" "$room/built" with_rt
-echo "#" >> "$launched/crates/csdf_tool/out/csdf_tool"
+echo "#" >> "$launched/crates/csdf/out/csdf"
 launch "another program" 7 4 "$room/words_told" "$room/built" with_rt
-echo > "$launched/crates/csdf_tool/src/bad.rt"
+echo > "$launched/crates/csdf/src/bad.rt"
 launch "a build that fails" 3 4 /dev/null /dev/null with_rt

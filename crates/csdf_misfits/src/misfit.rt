@@ -25,14 +25,14 @@ pub(crate) enum Found<'a> {
 impl fmt::Display for Found<'_> {
     fn fmt<W: fmt::Write>(&self, f: &mut fmt::Formatter<W>) -> fmt::Result {
         match self {
-            Found::Nothing => write!(f, "nothing"),
-            Found::Unlisted => write!(f, "a key that this table has not"),
+            Found::Nothing => f.write_str("nothing"),
+            Found::Unlisted => f.write_str("a key that this table has not"),
             Found::Kind(kind) => write!(f, "a value of kind {kind}"),
             Found::Entry(kind) => write!(f, "an entry of kind {kind}"),
             Found::Number(number) => write!(f, "{number}"),
             Found::Text(text) => write!(f, "{text:?}"),
             Found::Entries(count) => write!(f, "{count} entries"),
-            Found::Zeros => write!(f, "zeros alone"),
+            Found::Zeros => f.write_str("zeros alone"),
             Found::Ports(inputs, outputs) => { write!(f, "{inputs} inputs and {outputs} outputs") }
         }
     }

@@ -34,18 +34,24 @@ pub(crate) fn actor_named<'a>(file: &'a Table, name: &str) -> Option<&'a Table> 
     None
 }
 
+/// The end of a channel at a key, where it names no actor.
+fn unknown_end<'a>(file: &Table, channel: &'a Table, key: &'static str) -> Option<Misfit<'a>> {
+    let name = channel.get(key)?.as_str()?;
+    match actor_named(file, name) {
+        Some(_) => None,
+        None => Some(Misfit {
+            key,
+            found: Found::Text(name),
+            wanted: Wanted::Words("the name of an actor"),
+        }),
+    }
+}
+
 /// The end of a channel that names no actor.
 pub(crate) fn end_misfit(file: &Table, number: u32) -> Option<Misfit<'_>> {
     let channel = table_at(file, At::Channel(number))?;
-    for key in ["from", "to"] {
-        let name = channel.get(key)?.as_str()?;
-        if actor_named(file, name).is_none() {
-            return Some(Misfit {
-                key,
-                found: Found::Text(name),
-                wanted: Wanted::Words("the name of an actor"),
-            });
-        }
+    match unknown_end(file, channel, "from") {
+        Some(misfit) => Some(misfit),
+        None => unknown_end(file, channel, "to"),
     }
-    None
 }

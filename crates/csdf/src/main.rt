@@ -1,16 +1,9 @@
-//! The program `csdf`: it plays the script of a graph file and prints the reply to each move, or
-//! tells whether and how the graph can run for ever in bounded buffers.
+//! The program `csdf`: it plays the script of a graph file and prints the reply to each move, runs
+//! the graph on files, or tells whether and how it can run for ever in bounded buffers.
 #![tactic(auto)]
 
-mod command;
-mod files;
-mod help;
-mod order;
-mod program;
-mod run_files;
-
-use crate::program::run_words;
-use csdf_graph::{FromReader, ToWriter};
+use csdf_bytes::{FromReader, ToWriter};
+use csdf_tool::run_words;
 use std::env::{self, Env};
 use std::io;
 use std::process::ExitCode;
