@@ -183,6 +183,14 @@ fn run_hall<R: Threads + Wait + Sync, G: Gate>(
     totals_of(alloc, board, place)
 }
 
+/// How many actors the graph has.
+fn actor_count(accepted: &Accepted) -> u32
+    ensures count { result ≡ length accepted.now.graph.actors }
+    ensures few { result ≤ 64 }
+{
+    accepted.graph().actors().len() as u32
+}
+
 /// A hall for the run.
 fn hall_of(
     alloc: Global,
@@ -196,8 +204,7 @@ fn hall_of(
     requires some_period { 1 ≤ periods }
     requires few_periods { periods ≤ 1000 }
 {
-    let actors = accepted.graph().actors().len();
-    let mut hints = Hints::new(alloc, accepted, actors as u32)?;
+    let mut hints = Hints::new(alloc, accepted, actor_count(accepted))?;
     let floor = Floor::new(alloc, accepted, feeds, periods, firings)?;
     hints.look(floor.core(), u64::MAX);
     Ok(Hall::new(floor, hints, may_wait))
@@ -240,8 +247,8 @@ fn outcome_of<R: Threads + Wait + Sync, G: Gate>(
     ensures { IfOk result (IsOutcome (work_for accepted.now (feeds_in feeds.now) periods firings)) }
 {
     let hall = hall_of(alloc, accepted, feeds, periods, firings, gate.may_wait())?;
-    let actors = accepted.graph().actors().len();
-    let totals = run_hall(rt, alloc, &hall, actors as u32, workers, gate)?;
+    let actors = actor_count(accepted);
+    let totals = run_hall(rt, alloc, &hall, actors, workers, gate)?;
     outcome_on(
         alloc,
         hall.into_floor(),

@@ -1,3 +1,4 @@
+use Rattle.std.proofs.lemmas.Grind.{common_steps}
 use Rattle.std.proofs.Common.{◌≡◌, ◌≤◌, length, ap, sym, refl, ◌∙◌, arith}
 use Rattle.std.proofs.lemmas.List.{length-map}
 use Rattle.csdf_model.specs.Graph.{actor_view}
@@ -15,3 +16,9 @@ returns c = (
       ∙ ap length c.actors.ensures.value) (λ a lt. c.loop-actor.invariant a (omega (arith, lt, c.loop-actor-test.false))),
   λ same. refl,
 )
+
+pub returns-then-not-is_feed : goal.returns-then-not-is_feed
+returns-then-not-is_feed c = grind (arith, common_steps)
+
+pub returns-then-feeds-actors : goal.returns-then-feeds-actors
+returns-then-feeds-actors c = grind (arith, common_steps)

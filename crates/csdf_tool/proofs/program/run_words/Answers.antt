@@ -1,3 +1,5 @@
+use Rattle.std.proofs.Common.{arith}
+use Rattle.std.proofs.lemmas.Grind.{common_steps}
 use Rattle.std.proofs.Common.{◌≡◌, ap, ◌∙◌}
 use Rattle.csdf_tool.specs.CommandLine.{Moves, Ask, Explain, Run, asked_view}
 use Rattle.csdf_tool.specs.CommandLine.{Input as NoWords}
@@ -66,3 +68,27 @@ returns-in-Ok-clause-faulty g c = λ none one.
     let input : c.in-Ok.request ≡ Input = cc in
     refused c.carry_out.result _ c.status_after.ensures.ends one
     (input_refused c.carry_out.result _ (refused_as (g.I.Intake.left c.args.reader.now) c.carry_out.result NoWords (ap asked_view input) c.carry_out.ensures.refused))
+
+pub returns-in-Err-clause-taken : goal.returns-in-Err-clause-taken
+returns-in-Err-clause-taken g c = grind (arith, common_steps)
+
+pub returns-in-Err-clause-unread : goal.returns-in-Err-clause-unread
+returns-in-Err-clause-unread g c = grind (arith, common_steps)
+
+pub returns-in-Ok-clause-refused : goal.returns-in-Ok-clause-refused
+returns-in-Ok-clause-refused g c = grind (arith, common_steps)
+
+pub returns-in-Ok-clause-device : goal.returns-in-Ok-clause-device
+returns-in-Ok-clause-device g c = grind (arith, common_steps)
+
+pub returns-in-Ok-clause-answered : goal.returns-in-Ok-clause-answered
+returns-in-Ok-clause-answered g c = grind (arith, common_steps)
+
+pub returns-in-Ok-clause-taken : goal.returns-in-Ok-clause-taken
+returns-in-Ok-clause-taken g c = grind (arith, common_steps)
+
+pub returns-in-Ok-clause-unread : goal.returns-in-Ok-clause-unread
+returns-in-Ok-clause-unread g c = grind (arith, common_steps)
+
+pub returns-in-Err-clause-lined : goal.returns-in-Err-clause-lined
+returns-in-Err-clause-lined g c = grind (arith, common_steps)

@@ -1,3 +1,5 @@
+use Rattle.std.proofs.Common.{arith}
+use Rattle.std.proofs.lemmas.Grind.{common_steps}
 use Rattle.std.proofs.Common.{rules, subst, sym, ◌∙◌}
 use Rattle.std.proofs.lemmas.Bool.{false≢true}
 use Rattle.csdf_analysis.specs.Period.{HoldInitial, CompletesPeriod}
@@ -37,3 +39,24 @@ returns-clause-least c = lowered_all _ _ _ c.in_ok-least.ensures
 
 pub returns-then-not-branch-clause-refusal : goal.returns-then-not-branch-clause-refusal
 returns-then-not-branch-clause-refusal c = search rules
+
+pub completes-requires-clause-each_channel : goal.completes-requires-clause-each_channel
+completes-requires-clause-each_channel c = grind (arith, common_steps)
+
+pub completes-requires-2-clause-each_channel : goal.completes-requires-2-clause-each_channel
+completes-requires-2-clause-each_channel c = grind (arith, common_steps)
+
+pub returns-clause-small : goal.returns-clause-small
+returns-clause-small c = grind (arith, common_steps)
+
+pub returns-in_err-full-clause-refusal : goal.returns-in_err-full-clause-refusal
+returns-in_err-full-clause-refusal c = grind (arith, common_steps)
+
+pub returns-in_err-completes-clause-refusal : goal.returns-in_err-completes-clause-refusal
+returns-in_err-completes-clause-refusal c = grind (arith, common_steps)
+
+pub returns-in_err-bounds-clause-refusal : goal.returns-in_err-bounds-clause-refusal
+returns-in_err-bounds-clause-refusal c = grind (arith, common_steps)
+
+pub returns-in_err-least-clause-refusal : goal.returns-in_err-least-clause-refusal
+returns-in_err-least-clause-refusal c = grind (arith, common_steps)

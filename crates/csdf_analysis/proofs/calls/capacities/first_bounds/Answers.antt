@@ -1,3 +1,5 @@
+use Rattle.std.proofs.Common.{arith}
+use Rattle.std.proofs.lemmas.Grind.{common_steps}
 use Rattle.std.proofs.Common.{◌≤◌, length}
 use Rattle.csdf_analysis.specs.Repetition.{IsWithin, full_capacity}
 use Rattle.csdf_analysis.proofs.LeastLemmas.{channel_has}
@@ -10,3 +12,12 @@ first_bound-requires-clause-channel c = channel_has (IsWithin (length c.args.q.n
 pub first_bound-requires-clause-room : goal.first_bound-requires-clause-room
 first_bound-requires-clause-room c = channel_has (λ d. full_capacity c.args.q.now d ≤ 65535) c.args.channels.now c.loop-channel.channel-index
     c.channel-item.result c.loop-channel-test.true c.channel-item.is c.requires.room
+
+pub loop-channel-preserved : goal.loop-channel-preserved
+loop-channel-preserved c = grind (arith, common_steps)
+
+pub returns : goal.returns
+returns c = grind (arith, common_steps)
+
+pub loop-channel-init : goal.loop-channel-init
+loop-channel-init c = grind (arith, common_steps)

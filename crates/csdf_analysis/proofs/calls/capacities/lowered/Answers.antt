@@ -1,3 +1,4 @@
+use Rattle.std.proofs.lemmas.Grind.{common_steps}
 use Rattle.std.proofs.Common.{◌≡◌, ◌+◌, suc, length, ap, subst, sym, arith}
 use Rattle.std.proofs.lemmas.List.{length-map}
 use Rattle.csdf_model.specs.Graph.{channel_view}
@@ -34,3 +35,15 @@ returns c =
     let count = ap length c.channels-channel-items.ensures.value in
     subst (λ k. IsLowered c.args.graph.now.channels c.args.vector.now.q.items k c.loop-place.bounds.items)
     (omega (arith, len, count, c.loop-place-test.false, c.loop-place.auto.place-end)) c.loop-place.invariant
+
+pub loop-place-init : goal.loop-place-init
+loop-place-init c = grind (arith, common_steps)
+
+pub raise-requires-clause-small : goal.raise-requires-clause-small
+raise-requires-clause-small c = grind (arith, common_steps)
+
+pub raise-requires-clause-completes : goal.raise-requires-clause-completes
+raise-requires-clause-completes c = grind (arith, common_steps)
+
+pub returns-in_err-least : goal.returns-in_err-least
+returns-in_err-least c = grind (arith, common_steps)

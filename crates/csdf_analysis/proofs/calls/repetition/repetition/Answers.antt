@@ -1,3 +1,5 @@
+use Rattle.std.proofs.Common.{arith}
+use Rattle.std.proofs.lemmas.Grind.{common_steps}
 use Rattle.std.proofs.Common.{rules, List, map, subst, sym}
 use Rattle.std.specs.Prelude.{All}
 use Rattle.csdf_model.specs.Graph.{Actor, Channel, channel_view}
@@ -14,3 +16,15 @@ cycles-requires-clause-channels c =
 
 pub returns-clause-vector : goal.returns-clause-vector
 returns-clause-vector c = search rules
+
+pub returns-clause-refusal : goal.returns-clause-refusal
+returns-clause-refusal c = grind (arith, common_steps)
+
+pub returns-in_err-r-clause-refusal : goal.returns-in_err-r-clause-refusal
+returns-in_err-r-clause-refusal c = grind (arith, common_steps)
+
+pub returns-in_err-map_err-clause-refusal : goal.returns-in_err-map_err-clause-refusal
+returns-in_err-map_err-clause-refusal c = grind (arith, common_steps)
+
+pub firings-requires-clause-each_actor : goal.firings-requires-clause-each_actor
+firings-requires-clause-each_actor c = grind (arith, common_steps)

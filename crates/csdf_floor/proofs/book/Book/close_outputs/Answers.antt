@@ -1,3 +1,4 @@
+use Rattle.std.proofs.lemmas.Grind.{common_steps}
 use Rattle.std.proofs.Common.{◌≡◌, ◌<◌, ◌==◌, ℕ, List, length, get_or, ap, sym, subst, ◌∙◌, arith}
 use Rattle.csdf_core.specs.Plan.{Channel, Plan}
 use Rattle.csdf_core.specs.Ports.{outputs_at}
@@ -23,3 +24,9 @@ loop-place-preserved c =
 
 pub returns-clause-before : goal.returns-clause-before
 returns-clause-before c = (subst (λ (b : BookView). IsBook b.shown b.reads) c.self.view_is c.self.invariant).kept.shows.same
+
+pub returns-clause-closed : goal.returns-clause-closed
+returns-clause-closed c = grind (arith, common_steps)
+
+pub loop-place-init : goal.loop-place-init
+loop-place-init c = grind (arith, common_steps)

@@ -1,3 +1,4 @@
+use Rattle.std.proofs.lemmas.Grind.{common_steps}
 use Rattle.std.proofs.Common.{◌≡◌, ◌<◌, length, sym, arith}
 use Rattle.std.proofs.lemmas.List.{length-map}
 use Rattle.csdf_floor.proofs.Books.{book_resized}
@@ -14,3 +15,12 @@ returns-clause-buffer c =
     omega (arith, there, c.self.invariant.each_actor, length-map c.self.inside.reads.items (λ v. v.items))) in
     rw (← c.self.view_is) (rw c.need-need.ensures.value at (buffer_fits c.resize.result c.self.inside.reads.items c.args.actor c.need-need.result _
     c.resize.new.self lt c.resize.ensures.len (sym c.resize.new.self.ok.0)))
+
+pub returns-clause-shown : goal.returns-clause-shown
+returns-clause-shown c = grind (arith, common_steps)
+
+pub returns-clause-rooms : goal.returns-clause-rooms
+returns-clause-rooms c = grind (arith, common_steps)
+
+pub returns-clause-room : goal.returns-clause-room
+returns-clause-room c = grind (arith, common_steps)

@@ -1,3 +1,4 @@
+use Rattle.std.proofs.lemmas.Grind.{common_steps}
 use Rattle.std.proofs.Common.{◌≡◌, ◌<◌, ◌++◌, [], length, get_or, set, cond, ap, ◌∙◌, arith, Bool}
 use Rattle.std.proofs.lemmas.List.{length-map}
 use Rattle.csdf_core.specs.declared.moves.Move.TheVariants as code
@@ -44,3 +45,6 @@ returns c =
           (rw (← c.self.view_is) at c.requires.accepted) c.self.invariant c.read.ensures.step c.push_reserved.ensures.items
           (took (goal.at.returns c).After-append_where);
     }
+
+pub push_reserved-requires : goal.push_reserved-requires
+push_reserved-requires c = grind (arith, common_steps)
