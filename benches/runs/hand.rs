@@ -1,11 +1,12 @@
-//! Runs of three graphs by a plain program, written by hand: queues, and a lock where it has more than
-//! one worker. It keeps no journal, has no proofs and tests no limit.
+//! Runs of the graphs of this folder by a plain program, written by hand: queues, and a lock where it has
+//! more than one worker. It keeps no journal, has no proofs and tests no limit.
 //!
-//!     hand graph NAME                 writes the graph file
+//!     hand graph NAME                 prints the graph file
+//!     hand periods NAME               prints the number of periods
 //!     hand feeds NAME DIR             writes the token file of each source into DIR
-//!     hand run NAME DIR WORKERS       runs 1,000 periods: reads DIR/NAME.in, writes DIR/NAME.out
+//!     hand run NAME DIR WORKERS       runs these periods: reads DIR/NAME.in, writes DIR/NAME.out
 //!
-//! NAME is `rates`, `filter` or `filters`.
+//! `run` beside this file says what each graph is.
 
 use std::collections::VecDeque;
 use std::fmt::Write;
@@ -13,11 +14,10 @@ use std::path::Path;
 use std::sync::{Condvar, Mutex};
 use std::{fs, thread};
 
-const PERIODS: u32 = 1000;
-
 enum Kernel {
     Source,
     Sink,
+    Copy,
     Fir { weights: Vec<i32>, shift: u32 },
 }
 
@@ -42,11 +42,16 @@ struct Channel {
 
 #[derive(Default)]
 struct Graph {
+    periods: u32,
     actors: Vec<Actor>,
     channels: Vec<Channel>,
 }
 
 impl Graph {
+    fn of(periods: u32) -> Graph {
+        Graph { periods, ..Graph::default() }
+    }
+
     fn actor(&mut self, name: String, kernel: Kernel, firings: u32) -> usize {
         self.actors.push(Actor { name, kernel, firings, inputs: Vec::new(), outputs: Vec::new() });
         self.actors.len() - 1
@@ -68,7 +73,7 @@ fn fir(taps: usize, shift: u32) -> Kernel {
 
 /// From 44.1 kHz to 48 kHz: 612 light firings in a period.
 fn rates() -> Graph {
-    let mut graph = Graph::default();
+    let mut graph = Graph::of(1000);
     let cd = graph.actor("cd".into(), Kernel::Source, 147);
     let stages = [(147, 3), (98, 4), (28, 7), (32, 5)];
     let mut last = cd;
@@ -85,7 +90,7 @@ fn rates() -> Graph {
 
 /// Filters of 16 taps over 64 tokens that they hand to themselves, side by side.
 fn filters(count: usize) -> Graph {
-    let mut graph = Graph::default();
+    let mut graph = Graph::of(1000);
     let filters: Vec<usize> = (0..count)
         .map(|at| {
             let source = graph.actor(format!("source{at}"), Kernel::Source, 128);
@@ -102,11 +107,55 @@ fn filters(count: usize) -> Graph {
     graph
 }
 
+/// A source of 512 tokens a firing, eight rows of seven filters of 16 taps over 64 tokens, and a sink.
+fn cascade() -> Graph {
+    let mut graph = Graph::of(1000);
+    let source = graph.actor("source".into(), Kernel::Source, 1);
+    let filters: Vec<usize> = (0..56)
+        .map(|at| {
+            let weights = (0..16).map(|tap| (tap * 37 + at) % 200 - 100).collect();
+            graph.actor(format!("filter{at}"), Kernel::Fir { weights, shift: 7 }, 1)
+        })
+        .collect();
+    let sink = graph.actor("sink".into(), Kernel::Sink, 1);
+    for row in filters.chunks(7) {
+        let mut last = source;
+        for &next in row.iter().chain([&sink]) {
+            graph.channel(last, next, 64, 64, 0, 64);
+            last = next;
+        }
+    }
+    graph
+}
+
+/// 64 actors in a row: a source of 1,000 tokens a period, 62 copies of which the last takes 50 tokens and
+/// gives one, and a sink of 20.
+fn chain(periods: u32) -> Graph {
+    let mut graph = Graph::of(periods);
+    for at in 0..64 {
+        let (kernel, firings) = match at {
+            0 => (Kernel::Source, 1000),
+            62 => (Kernel::Copy, 20),
+            63 => (Kernel::Sink, 1),
+            _ => (Kernel::Copy, 1000),
+        };
+        graph.actor(format!("a{at}"), kernel, firings);
+    }
+    for at in 0..63 {
+        let consume = [1, 50, 20][usize::from(at > 60) + usize::from(at > 61)];
+        graph.channel(at, at + 1, 1, consume, 0, consume);
+    }
+    graph
+}
+
 fn graph_of(name: &str) -> Graph {
     match name {
         "rates" => rates(),
         "filter" => filters(1),
         "filters" => filters(8),
+        "cascade" => cascade(),
+        "chain" => chain(100),
+        "chain_long" => chain(1000),
         _ => panic!("no graph {name}"),
     }
 }
@@ -120,6 +169,7 @@ fn graph_file(graph: &Graph) -> String {
             // (two phases, so that a period has two firings of the sink)
             Kernel::Sink if actor.firings == 2 => writeln!(text, "kernel = \"sink\"\nphases = 2").unwrap(),
             Kernel::Sink => writeln!(text, "kernel = \"sink\"").unwrap(),
+            Kernel::Copy => writeln!(text, "kernel = \"copy\"").unwrap(),
             Kernel::Fir { weights, shift } => {
                 writeln!(text, "kernel = \"fir\"\nweights = {weights:?}\nshift = {shift}").unwrap();
             }
@@ -142,7 +192,7 @@ fn graph_file(graph: &Graph) -> String {
 fn write_feeds(graph: &Graph, dir: &Path) {
     for actor in graph.actors.iter().filter(|actor| matches!(actor.kernel, Kernel::Source)) {
         let mut text = String::new();
-        for number in 0..PERIODS * actor.firings {
+        for number in 0..graph.periods * actor.firings {
             writeln!(text, "{}", (number.wrapping_mul(2654435761) >> 20) as i32 - 2048).unwrap();
         }
         fs::write(dir.join(format!("{}.in", actor.name)), text).unwrap();
@@ -173,7 +223,7 @@ impl State {
         State {
             queues: graph.channels.iter().map(|channel| (0..channel.initial as i32).collect()).collect(),
             feeds: graph.actors.iter().map(feed).collect(),
-            left: graph.actors.iter().map(|actor| PERIODS * actor.firings).collect(),
+            left: graph.actors.iter().map(|actor| graph.periods * actor.firings).collect(),
             is_busy: vec![false; graph.actors.len()],
             taken: vec![Vec::new(); graph.actors.len()],
             sleeping: 0,
@@ -227,6 +277,11 @@ fn compute(graph: &Graph, actor: usize, inputs: &[i32], outputs: &mut Vec<i32>) 
     match &graph.actors[actor].kernel {
         Kernel::Source => outputs.extend_from_slice(inputs),
         Kernel::Sink => {}
+        Kernel::Copy => {
+            for &at in &graph.actors[actor].outputs {
+                outputs.extend(inputs.iter().cycle().take(graph.channels[at].produce));
+            }
+        }
         Kernel::Fir { weights, shift } => {
             for &at in &graph.actors[actor].outputs {
                 for place in 0..graph.channels[at].produce {
@@ -309,8 +364,9 @@ fn main() {
     let words: Vec<&str> = words.iter().map(String::as_str).collect();
     match words[..] {
         ["graph", name] => print!("{}", graph_file(&graph_of(name))),
+        ["periods", name] => println!("{}", graph_of(name).periods),
         ["feeds", name, dir] => write_feeds(&graph_of(name), Path::new(dir)),
         ["run", name, dir, workers] => run(&graph_of(name), Path::new(dir), workers.parse().unwrap()),
-        _ => panic!("hand graph NAME | feeds NAME DIR | run NAME DIR WORKERS"),
+        _ => panic!("hand graph NAME | periods NAME | feeds NAME DIR | run NAME DIR WORKERS"),
     }
 }

@@ -1,5 +1,5 @@
 -- A firing makes none able but its actor and those at the other ends of its channels.
-use Rattle.std.proofs.Common.{◌≡◌, ℕ, zero, suc, ◌+◌, ◌-◌, ◌*◌, ◌%◌, ◌^◌, ◌<◌, ◌≤◌, ◌==◌, ◌⊎◌, inl, inr, cond, List, [], ◌∷◌, ◌++◌, length, get_or, sym, ap}
+use Rattle.std.proofs.Common.{◌≡◌, ℕ, ◌+◌, ◌-◌, ◌*◌, ◌%◌, ◌^◌, ◌<◌, ◌≤◌, ◌==◌, ◌⊎◌, inl, inr, cond, List, [], ◌∷◌, ◌++◌, length, get_or, sym, ap}
 use Rattle.std.proofs.Common.{subst, ◌∙◌, arith}
 use Rattle.std.specs.Prelude.{slice_get, Some}
 use Rattle.std.specs.Int.{bit_at, bit_not, trailing_zeros, w64}
@@ -7,7 +7,7 @@ use Rattle.std.specs.Int.Bits.{bit_and, bit_or}
 use Rattle.std.proofs.Math.Seq.{get_or-append_seam}
 use Rattle.std.proofs.lemmas.List.{get_or_append_left, length_push}
 use Rattle.std.proofs.lemmas.Nat.{and_le_l}
-use Rattle.std.proofs.lemmas.Nat.Bits.{bit_at-zero, bit_at-lt, bit_at_and, bit_at_or, bit_at_above, bit_at_set_same, bit_at_set_other, bit_at_clear_same}
+use Rattle.std.proofs.lemmas.Nat.Bits.{bit_at-zero, bit_at-lt, bit_at_and, bit_at_or, bit_at_above, bit_at_not, bit_at_set_same, bit_at_set_other, bit_at_clear_same}
 use Rattle.std.proofs.lemmas.Nat.Bits.{bit_at_clear_other, bit_at-trailing_zeros}
 use Rattle.std.proofs.lemmas.Bool.{eq-eqb}
 use Rattle.csdf_model.specs.Graph.{Channel, inputs_of, outputs_of}
@@ -55,6 +55,25 @@ clear_others mask a b lt small set = elim (same_or_not b a) [
     | inr high ↦ absurd (let none = bit_at_above mask 64 b small high in omega (arith, none, set))
   ]
 ]
+
+pub and_kept : (x y b : ℕ) → IsIn (bit_and x y) b → IsIn x b
+and_kept x y b set = let both = bit_at_and x y b in let one = bit_at-lt x b in omega (arith, both, one, set)
+
+pub apart_either : (x y b : ℕ) → x < 2 ^ 64 → y < 2 ^ 64 → IsIn x b → IsIn y b ⊎ IsIn (bit_and x (bit_not w64 y)) b
+apart_either x y b small low set = elim (in_or_not y b) [
+  | inl has ↦ inl has
+  | inr off ↦
+      let both = bit_at_and x (bit_not w64 y) b in
+      let other = bit_at_not w64 y b low (in_below x b small set) in
+      let one = bit_at-lt y b in
+      inr (omega (arith, both, other, one, set, off))
+]
+
+pub apart_off : (x y b : ℕ) → x < 2 ^ 64 → y < 2 ^ 64 → IsIn (bit_and x (bit_not w64 y)) b → IsIn y b → ⊥
+apart_off x y b small low set here =
+    let both = bit_at_and x (bit_not w64 y) b in
+    let other = bit_at_not w64 y b low (in_below x b small (and_kept x (bit_not w64 y) b set)) in
+    absurd (omega (arith, both, other, set, here))
 
 pub clear_kept : (mask a b : ℕ) → IsIn (bit_and mask (bit_not w64 (1 * 2 ^ a % 2 ^ 64))) b → IsIn mask b
 clear_kept mask a b set =

@@ -24,6 +24,13 @@ ProducersIn channels a mask = (i : ℕ) (c : Channel) → slice_get channels i �
 abbrev pub ConsumersIn : List Channel → ℕ → ℕ → Type 0
 ConsumersIn channels a mask = (i : ℕ) (c : Channel) → slice_get channels i ≡ Some c → c.from ≡ a → IsIn mask c.to
 
+-- b puts tokens into an input of a, or takes them out of an output of a
+abbrev pub IsProducerTo : List Channel → ℕ → ℕ → Type 0
+IsProducerTo channels a b = (i : ℕ) × (c : Channel) × (slice_get channels i ≡ Some c) × (c.to ≡ a) × (c.from ≡ b)
+
+abbrev pub IsConsumerFrom : List Channel → ℕ → ℕ → Type 0
+IsConsumerFrom channels a b = (i : ℕ) × (c : Channel) × (slice_get channels i ≡ Some c) × (c.from ≡ a) × (c.to ≡ b)
+
 -- the actor's bit is set, and those of all at the other ends of its channels
 pub record AreWoken (channels : List Channel) (a mask : ℕ) : Type 0 where
   pub own : IsIn mask a

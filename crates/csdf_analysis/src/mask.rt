@@ -1,11 +1,11 @@
 //! Sets of up to 64 actors as the bits of one number.
 
-ghost use Rattle.std.specs.Prelude.{◌≡◌, ◌⊎◌, ◌<◌, ◌≤◌, ℕ, MatchOption};
+ghost use Rattle.std.specs.Prelude.{◌≡◌, ◌⊎◌, ◌<◌, ◌≤◌, ℕ, IfSome, MatchOption};
 ghost use Rattle.csdf_analysis.specs.Waking.{AreActors, IsIn, IsLowest};
 
 /// The set with the actor.
 #[inline(always)]
-pub(crate) fn with_actor(mask: u64, actor: u32) -> u64
+pub fn with_actor(mask: u64, actor: u32) -> u64
     requires { actor < 64 }
     ensures added { IsIn result actor }
     ensures kept { (a : ℕ) → IsIn mask a → IsIn result a }
@@ -16,7 +16,7 @@ pub(crate) fn with_actor(mask: u64, actor: u32) -> u64
 
 /// The set without the actor, which is in it.
 #[inline(always)]
-pub(crate) fn without_actor(mask: u64, actor: u32) -> u64
+pub fn without_actor(mask: u64, actor: u32) -> u64
     requires { IsIn mask actor }
     ensures less { result < mask }
     ensures others { (a : ℕ) → IsIn mask a → (a ≡ actor) ⊎ IsIn result a }
@@ -27,7 +27,7 @@ pub(crate) fn without_actor(mask: u64, actor: u32) -> u64
 
 /// The actors of both sets.
 #[inline(always)]
-pub(crate) fn joined(mask: u64, other: u64) -> u64
+pub fn joined(mask: u64, other: u64) -> u64
     ensures first { (a : ℕ) → IsIn mask a → IsIn result a }
     ensures second { (a : ℕ) → IsIn other a → IsIn result a }
     ensures either { (a : ℕ) → IsIn result a → IsIn mask a ⊎ IsIn other a }
@@ -35,10 +35,21 @@ pub(crate) fn joined(mask: u64, other: u64) -> u64
     mask | other
 }
 
+/// The actors of the first set that are not in the second.
+#[inline(always)]
+pub fn apart(mask: u64, other: u64) -> u64
+    ensures either { (a : ℕ) → IsIn mask a → IsIn other a ⊎ IsIn result a }
+    ensures kept { (a : ℕ) → IsIn result a → IsIn mask a }
+    ensures off { (a : ℕ) → IsIn result a → IsIn other a → ⊥ }
+{
+    mask & !other
+}
+
 /// The lowest-numbered actor of the set.
 #[inline(always)]
-pub(crate) fn lowest(mask: u64) -> Option<u32>
-    ensures { MatchOption result ((a : ℕ) → IsIn mask a → ⊥) (IsLowest mask) }
+pub fn lowest(mask: u64) -> Option<u32>
+    ensures answer { MatchOption result ((a : ℕ) → IsIn mask a → ⊥) (IsLowest mask) }
+    ensures few { IfSome result (λ actor. actor < 64) }
 {
     if mask == 0 {
         None

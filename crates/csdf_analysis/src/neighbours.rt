@@ -1,23 +1,22 @@
-//! The actors that one firing may make able: its own and those at the other ends of its channels.
+//! The actors at the other ends of an actor's channels, which alone a firing of it may make able.
 
 ghost use Rattle.std.specs.Prelude.{◌≡◌, ◌<◌, ◌≤◌, ℕ, IfOk, length};
-ghost use Rattle.csdf_analysis.specs.Waking.{AreActors, AreNeighbours, AreWoken, ConsumersIn, IsIn, ProducersIn};
+ghost use Rattle.csdf_analysis.specs.Waking.{AreActors, AreNeighbours, AreWoken, ConsumersIn, IsConsumerFrom, IsIn, IsProducerTo, ProducersIn};
 
-use crate::mask::with_actor;
+use crate::mask::{joined, with_actor};
 use csdf_model::Graph;
 use std::alloc::{AllocError, Global};
 
-/// The set with those that put tokens into the actor's inputs.
-fn with_producers(graph: &Graph, actor: u32, mask: u64) -> u64
-    requires exists { actor < length graph.now.actors }
-    requires few { length graph.now.actors ≤ 64 }
-    requires actors { AreActors (length graph.now.actors) mask }
-    ensures kept { (a : ℕ) → IsIn mask a → IsIn result a }
-    ensures producers { ProducersIn graph.now.channels actor result }
+/// The actors that put tokens into the actor's inputs, itself among them where a channel begins and
+/// ends at it: a bit for each.
+pub fn producers_of(graph: &Graph, actor: u32) -> u64
+    requires { actor < length graph.now.actors }
+    ensures all { ProducersIn graph.now.channels actor result }
+    ensures only { (b : ℕ) → IsIn result b → IsProducerTo graph.now.channels actor b }
     ensures actors { AreActors (length graph.now.actors) result }
 {
     let channels = graph.channels();
-    let mut mask = mask;
+    let mut mask = 0;
     for number in graph.inputs(actor) {
         let channel = &channels[*number as usize];
         mask = with_actor(mask, channel.from);
@@ -25,17 +24,16 @@ fn with_producers(graph: &Graph, actor: u32, mask: u64) -> u64
     mask
 }
 
-/// The set with those that take tokens out of the actor's outputs.
-fn with_consumers(graph: &Graph, actor: u32, mask: u64) -> u64
-    requires exists { actor < length graph.now.actors }
-    requires few { length graph.now.actors ≤ 64 }
-    requires actors { AreActors (length graph.now.actors) mask }
-    ensures kept { (a : ℕ) → IsIn mask a → IsIn result a }
-    ensures consumers { ConsumersIn graph.now.channels actor result }
+/// The actors that take tokens out of the actor's outputs, itself among them where a channel begins
+/// and ends at it: a bit for each.
+pub fn consumers_of(graph: &Graph, actor: u32) -> u64
+    requires { actor < length graph.now.actors }
+    ensures all { ConsumersIn graph.now.channels actor result }
+    ensures only { (b : ℕ) → IsIn result b → IsConsumerFrom graph.now.channels actor b }
     ensures actors { AreActors (length graph.now.actors) result }
 {
     let channels = graph.channels();
-    let mut mask = mask;
+    let mut mask = 0;
     for number in graph.outputs(actor) {
         let channel = &channels[*number as usize];
         mask = with_actor(mask, channel.to);
@@ -50,9 +48,8 @@ fn neighbours_of(graph: &Graph, actor: u32) -> u64
     ensures woken { AreWoken graph.now.channels actor result }
     ensures actors { AreActors (length graph.now.actors) result }
 {
-    let own = with_actor(0, actor);
-    let fed = with_producers(graph, actor, own);
-    with_consumers(graph, actor, fed)
+    let others = joined(producers_of(graph, actor), consumers_of(graph, actor));
+    with_actor(others, actor)
 }
 
 /// The neighbours of each actor.

@@ -18,6 +18,8 @@ pub mod PortLemmas
 pub mod LayoutLemmas
 pub mod CoreLemmas
 pub mod SoundLemmas
+pub mod AmountLemmas
+pub mod PhaseLemmas
 pub mod Peaceful
 pub mod Moving
 pub mod Setups

@@ -1,5 +1,7 @@
 -- What the fields of a core show, and what they keep.
 use Rattle.csdf_core.specs.declared.firing_core.Core.TheInside.{Inside}
+use Rattle.csdf_core.specs.Amounts.{AreAmounts}
+use Rattle.csdf_core.specs.Phases.{AreInPhase}
 use Rattle.csdf_core.specs.Ports.{tokens_in}
 use Rattle.csdf_core.specs.State.{Present}
 use Rattle.csdf_core.specs.Shows.{View}
@@ -14,5 +16,7 @@ abbrev pub view_in : Inside → View
 view_in c = record { plan = c.layout; now = now_in c; peaks = c.peaks.items; pool = c.pool }
 
 -- what every core keeps
-abbrev pub IsKept : Inside → Type 0
-IsKept c = IsSound c.layout (now_in c) c.peaks.items c.sums.items c.started c.reserved c.pool
+pub record IsKept (c : Inside) : Type 0 where
+  pub sound : IsSound c.layout (now_in c) c.peaks.items c.sums.items c.started c.reserved c.pool
+  pub amounts : AreAmounts c.layout c.counts.items c.needs.items c.gifts.items
+  pub phases : AreInPhase c.layout c.counts.items c.phases.items

@@ -14,5 +14,7 @@ pub mod Ports
 pub mod Transfers
 pub mod Playable
 pub mod Layout
+pub mod Amounts
+pub mod Phases
 pub mod Sound
 pub mod Inside

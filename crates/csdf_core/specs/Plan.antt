@@ -1,5 +1,5 @@
 -- What a core plays: a graph whose channels have their capacities, the limits on firings, and the number of cells.
-use Rattle.std.specs.Prelude.{ℕ, ◌≤◌, Bool, ◌==◌, if◌then◌else◌, ℤ, List, Option, sum_by}
+use Rattle.std.specs.Prelude.{ℕ, ◌≤◌, Bool, ◌==◌, if◌then◌else◌, ℤ, List, [], Option, map, slice_index, slice_index_or, sum_by}
 use Rattle.csdf_model.specs.Rates.{rate}
 
 -- a channel with its capacity
@@ -20,6 +20,19 @@ pub record Plan : Type 0 where
   pub supplies : List ℕ
   pub firings : Option ℕ
   pub cells : ℕ
+
+-- the ends and the rates of a channel, by its number
+abbrev pub from_at : List Channel → ℕ → ℕ
+from_at channels c = slice_index (map (λ (channel : Channel). channel.from) channels) c
+
+abbrev pub to_at : List Channel → ℕ → ℕ
+to_at channels c = slice_index (map (λ (channel : Channel). channel.to) channels) c
+
+abbrev pub produce_at : List Channel → ℕ → List ℕ
+produce_at channels c = slice_index_or (map (λ (channel : Channel). channel.produce) channels) c []
+
+abbrev pub consume_at : List Channel → ℕ → List ℕ
+consume_at channels c = slice_index_or (map (λ (channel : Channel). channel.consume) channels) c []
 
 -- how many tokens firing number k of actor a takes out of the channel, and how many it puts in
 abbrev pub takes_of : ℕ → ℕ → Channel → ℕ

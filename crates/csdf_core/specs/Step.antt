@@ -10,7 +10,7 @@ use Rattle.csdf_core.specs.Moves.{Begin, Read, Write, Finish, Close}
 use Rattle.csdf_core.specs.declared.refusal.Refusal.{Refusal}
 use Rattle.csdf_core.specs.declared.refusal.Refusal.TheVariants.{Unknown, Busy, Spent, Closed, Dry, Short, Full, Stopped, NoCells, NotBegun, NotRead}
 use Rattle.csdf_core.specs.declared.refusal.Refusal.TheVariants.{WrongCount, NotWritten}
-use Rattle.csdf_core.specs.Plan.{Channel, Plan, takes_of}
+use Rattle.csdf_core.specs.Plan.{Channel, Plan, from_at, takes_of}
 use Rattle.csdf_core.specs.Rows.{is_closed, is_short, is_full, first, taken, shares, need, gift}
 use Rattle.csdf_core.specs.State.{Stream, State, Present, present}
 
@@ -91,7 +91,7 @@ lacks_cells plan p a = exceeds plan.cells (held p + reserved plan p) (need a (co
 
 -- the producer of a channel, and whether the channel is open
 abbrev pub producer : Plan → ℕ → ℕ
-producer plan c = slice_index (map (λ (channel : Channel). channel.from) plan.channels) c
+producer plan c = from_at plan.channels c
 
 abbrev pub is_open : Present → ℕ → Bool
 is_open p c = slice_index_or p.opens c false

@@ -1,13 +1,16 @@
 //! The firing core, and what it shows.
+//!
+//! The readers that are marked so are inlined: each firing calls several of them, and a call costs more
+//! than the load that it makes.
 
 ghost use Rattle.std.specs.Prelude.{◌≡◌, ◌-◌, ◌*◌, ◌<◌, ◌≤◌, suc, length, map, sum, IfOk, All, slice_index};
 ghost use Rattle.csdf_pool.specs.Pool.{chain_of, held_cells};
 
-use crate::filling::{blank_lists, filled_pool, lengths_of};
+use crate::filling::{blank_lists, filled_pool, first_gifts, first_needs, lengths_of};
 use crate::layout::Layout;
 use crate::setup::Setup;
 use crate::stage::Stage;
-use crate::transfer::{gift_of, need_of};
+use crate::turn::Turn;
 use csdf_pool::{Cells, Pool};
 use std::alloc::{AllocError, Global};
 use std::marker::Model;
@@ -19,6 +22,11 @@ use std::marker::Model;
 pub struct Core {
     pub(crate) layout: Layout,
     pub(crate) counts: Vec<u32>,
+    /// The phase of each actor's next firing, and how many tokens that firing takes and gives: kept,
+    /// so that no move divides or adds up.
+    pub(crate) phases: Vec<u32>,
+    pub(crate) needs: Vec<u32>,
+    pub(crate) gifts: Vec<u32>,
     pub(crate) stages: Vec<Stage>,
     pub(crate) opens: Vec<bool>,
     pub(crate) sums: Vec<u64>,
@@ -44,6 +52,7 @@ impl Core {
     ghost use Rattle.csdf_core.specs.State.{opening};
     ghost use Rattle.csdf_core.specs.Shows.{Shows};
     ghost use Rattle.csdf_core.specs.Step.{is_open, given, reserved, count, stage};
+    ghost use Rattle.csdf_core.specs.Phases.{IsInPhase};
     ghost use Rattle.csdf_core.specs.Rows.{need, gift};
     ghost use Rattle.csdf_core.specs.Ports.{tokens_at};
     ghost use Rattle.csdf_core.specs.Plan.{Channel as ChannelModel};
@@ -65,13 +74,17 @@ impl Core {
         ensures cells { IfOk result (λ core. core.pool ≡ opening_pool core.plan) }
     {
         let layout = Layout::new(alloc, setup)?;
-        let (actors, channels) = (layout.actors(), layout.channels());
         let pool = filled_pool(alloc, &layout)?;
-        let peaks = lengths_of(alloc, &pool, channels as u32)?;
-        let blank = blank_lists(alloc, actors, channels)?;
+        let peaks = lengths_of(alloc, &pool, layout.channels() as u32)?;
+        let needs = first_needs(alloc, &layout)?;
+        let gifts = first_gifts(alloc, &layout)?;
+        let blank = blank_lists(alloc, &layout)?;
         Ok(Core {
             layout,
             counts: blank.counts,
+            phases: blank.phases,
+            needs,
+            gifts,
             stages: blank.stages,
             opens: blank.opens,
             sums: blank.sums,
@@ -99,6 +112,7 @@ impl Core {
     }
 
     /// How many firings of the actor are finished.
+    #[inline]
     pub fn fired(&self, actor: u32) -> u32
         requires { actor < length self.now.plan.sources }
         ensures value { result ≡ count self.now.now actor }
@@ -107,7 +121,23 @@ impl Core {
         self.counts[actor as usize]
     }
 
+    /// The actor's next firing.
+    #[inline(always)]
+    pub(crate) fn turn(&self, actor: u32) -> Turn
+        requires { actor < length self.now.plan.sources }
+        ensures firing { result.firing ≡ count self.now.now actor }
+        ensures in_phase { IsInPhase self.now.plan.channels actor result.firing result.phase }
+        ensures low { result.phase < 16 }
+        ensures few { result.firing ≤ 16_384_000 }
+    {
+        Turn {
+            firing: self.fired(actor),
+            phase: self.phases[actor as usize],
+        }
+    }
+
     /// Where the actor stands in its firing.
+    #[inline]
     pub fn stage(&self, actor: u32) -> Stage
         requires { actor < length self.now.plan.sources }
         ensures { result ≡ stage self.now.now actor }
@@ -117,6 +147,7 @@ impl Core {
     }
 
     /// How many tokens wait in the channel.
+    #[inline]
     pub fn len(&self, channel: u32) -> u32
         requires { channel < length self.now.plan.channels }
         ensures { result ≡ length (tokens_at self.now.now.tokens channel) }
@@ -133,6 +164,7 @@ impl Core {
     }
 
     /// Whether the channel takes tokens.
+    #[inline]
     pub fn is_open(&self, channel: u32) -> bool
         requires { channel < length self.now.plan.channels }
         ensures { result ≡ is_open self.now.now channel }
@@ -158,34 +190,35 @@ impl Core {
     }
 
     /// How many tokens firing number `fired(actor)` reads; 0 where there is no such actor.
+    #[inline]
     pub fn need(&self, actor: u32) -> usize
         ensures value { result ≡ need actor (count self.now.now actor) self.now.plan.channels }
         ensures unknown { length self.now.plan.sources ≤ actor → result ≡ 0 }
         ensures small { result ≤ 8192 }
     {
-        if actor as usize >= self.counts.len() {
+        if actor as usize >= self.needs.len() {
             return 0;
         }
-        let firing = self.fired(actor);
-        need_of(&self.layout, actor, firing)
+        self.needs[actor as usize] as usize
     }
 
     /// How many tokens firing number `fired(actor)` writes; 0 where there is no such actor.
+    #[inline]
     pub fn gives(&self, actor: u32) -> usize
         ensures value { result ≡ given self.now.plan actor (suc (count self.now.now actor)) - given self.now.plan actor (count self.now.now actor) }
         ensures sum { result ≡ gift actor (count self.now.now actor) self.now.plan.channels }
         ensures unknown { length self.now.plan.sources ≤ actor → result ≡ 0 }
         ensures small { result ≤ 8192 }
     {
-        if actor as usize >= self.counts.len() {
+        if actor as usize >= self.gifts.len() {
             return 0;
         }
-        let firing = self.fired(actor);
-        gift_of(&self.layout, actor, firing)
+        self.gifts[actor as usize] as usize
     }
 
     /// How many tokens the actor's finished firings wrote, over all its outputs: for a source, how
     /// many of its file are used.
+    #[inline]
     pub fn written(&self, actor: u32) -> u64
         requires { actor < length self.now.plan.sources }
         ensures value { result ≡ given self.now.plan actor (count self.now.now actor) }

@@ -1,4 +1,7 @@
 //! Which refusal a move of the core meets first.
+//!
+//! The tests that are marked so are inlined: each begin goes through them, and most compare two
+//! numbers.
 
 ghost use Rattle.std.specs.Prelude.{◌≡◌, ◌≢◌, ◌↔◌, ◌||◌, IsTrue, Some, Err, IfSome, ◌+◌, ◌-◌, ◌<◌, ◌≤◌, length};
 ghost use Rattle.csdf_core.specs.Step.{is_stage, exceeds};
@@ -7,8 +10,10 @@ use crate::firing_core::Core;
 use crate::readiness::{first_closed, first_full, first_short};
 use crate::refusal::Refusal;
 use crate::stage::Stage;
+use crate::turn::Turn;
 
 /// Whether the stage is the wanted one.
+#[inline(always)]
 fn is_at(stage: Stage, wanted: Stage) -> bool
     ensures { result ≡ is_stage stage wanted }
 {
@@ -23,6 +28,7 @@ fn is_at_work(stage: Stage) -> bool
 }
 
 /// Whether a firing asks for more cells than there are beside those in use.
+#[inline(always)]
 fn exceeds(cells: u64, used: u64, need: u64, gift: u64) -> bool
     requires used { used ≤ 8_388_480 }
     requires gift { gift ≤ 8192 }
@@ -37,6 +43,7 @@ impl Core {
     ghost use Rattle.csdf_core.specs.Moves.{Begin, Read, Finish, Close};
     ghost use Rattle.csdf_core.specs.Step.{refusal, refused, first_of, firing_table, space_table, write_table, held, reserved, count, stage};
     ghost use Rattle.csdf_core.specs.Step.{is_dry, is_spent, is_over, is_stopped, lacks_cells, is_stage, IsQuiet, Rests};
+    ghost use Rattle.csdf_core.specs.Phases.{IsInPhase};
     ghost use Rattle.csdf_core.specs.Rows.{need, gift};
     ghost use Rattle.csdf_core.specs.Plan.{HasAmpleCells};
     ghost use Rattle.csdf_core.specs.declared.refusal.Refusal.TheVariants.{NoCells};
@@ -65,6 +72,7 @@ impl Core {
     }
 
     /// Whether the actor is a source that has not the tokens for its next firing.
+    #[inline(always)]
     fn is_dry(&self, actor: u32) -> bool
         requires { actor < length self.now.plan.sources }
         ensures { result ≡ is_dry self.now.plan self.now.now actor }
@@ -92,6 +100,7 @@ impl Core {
     }
 
     /// Whether as many firings have begun as may.
+    #[inline(always)]
     fn is_stopped(&self) -> bool
         ensures { result ≡ is_stopped self.now.plan self.now.now }
     {
@@ -102,6 +111,7 @@ impl Core {
     }
 
     /// How many cells are held or reserved.
+    #[inline(always)]
     fn used(&self) -> u64
         ensures value { result ≡ held self.now.now + reserved self.now.plan self.now.now }
         ensures small { result ≤ 8_388_480 }
@@ -112,6 +122,7 @@ impl Core {
     }
 
     /// Whether the cells for the actor's next firing are held or reserved.
+    #[inline(always)]
     fn lacks_cells(&self, actor: u32) -> bool
         requires { actor < length self.now.plan.sources }
         ensures { result ≡ lacks_cells self.now.plan self.now.now actor }
@@ -142,8 +153,8 @@ impl Core {
         if !is_at(self.stages[a], Stage::Idle) {
             return Some(Refusal::Busy);
         }
-        let firing = self.counts[a];
-        if firing >= self.layout.limit(actor) {
+        let turn = self.turn(actor);
+        if turn.firing >= self.layout.limit(actor) {
             return Some(Refusal::Spent);
         }
         if let Some(channel) = first_closed(&self.layout, &self.opens, actor) {
@@ -152,19 +163,21 @@ impl Core {
         if self.is_dry(actor) {
             return Some(Refusal::Dry);
         }
-        self.space_refusal(actor, firing)
+        self.space_refusal(actor, turn)
     }
 
     /// The first refusal for want of tokens, space, firings or cells.
-    fn space_refusal(&self, actor: u32, firing: u32) -> Option<Refusal>
+    #[inline(always)]
+    fn space_refusal(&self, actor: u32, turn: Turn) -> Option<Refusal>
         requires actor { actor < length self.now.plan.sources }
-        requires firing { firing ≡ count self.now.now actor }
+        requires firing { turn.firing ≡ count self.now.now actor }
+        requires in_phase { IsInPhase self.now.plan.channels actor turn.firing turn.phase }
         ensures { result ≡ first_of (space_table self.now.plan self.now.now actor) }
     {
-        if let Some(channel) = first_short(&self.layout, &self.pool, actor, firing) {
+        if let Some(channel) = first_short(&self.layout, &self.pool, actor, turn) {
             return Some(Refusal::Short(channel));
         }
-        if let Some(channel) = first_full(&self.layout, &self.pool, actor, firing) {
+        if let Some(channel) = first_full(&self.layout, &self.pool, actor, turn) {
             return Some(Refusal::Full(channel));
         }
         if self.is_stopped() {

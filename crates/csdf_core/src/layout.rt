@@ -1,14 +1,19 @@
 //! What a core plays: a graph with its capacities and limits.
+//!
+//! The readers that are marked so are inlined: each firing calls several of them for each of its
+//! channels, and a call costs more than the loads that it makes.
 
-ghost use Rattle.std.specs.Prelude.{◌≡◌, ◌<◌, ◌≤◌, length, map, slice_get, slice_index, slice_index_or, false, All, IfOk, Some};
-ghost use Rattle.csdf_core.specs.Plan.{Channel as ChannelModel};
+ghost use Rattle.std.specs.Prelude.{ℕ, ◌≡◌, ◌<◌, ◌≤◌, length, map, slice_get, slice_index, slice_index_or, false, All, IfOk, Some};
+ghost use Rattle.csdf_core.specs.Plan.{Channel as ChannelModel, consume_at, from_at, produce_at, to_at};
 ghost use Rattle.csdf_core.specs.Layout.{is_source_kernel, plan_for, with_capacity};
 ghost use Rattle.csdf_model.specs.Graph.{channel_view};
 ghost use Rattle.csdf_core.specs.Playable.{IsPlayable};
 ghost use Rattle.csdf_core.specs.Streams.{part};
 ghost use Rattle.csdf_core.specs.Ports.{inputs_at, outputs_at, take_at, give_at};
+ghost use Rattle.csdf_core.specs.Phases.{HasPhases, IsInPhase, IsPhase};
 
 use crate::setup::Setup;
+use crate::turn::Turn;
 use csdf_model::{Channel, Graph, Kernel};
 use std::alloc::{AllocError, Global};
 use std::marker::Model;
@@ -36,6 +41,7 @@ impl Model for Layout {
     ghost invariant = { λ l. IsLaidOut l.graph l.capacities.items l.limits.items l.supply.items l.firings l.cells };
 }
 
+#[inline(always)]
 fn is_source(kernel: Kernel) -> bool
     ensures { result ≡ is_source_kernel kernel }
 {
@@ -91,9 +97,11 @@ impl Layout {
     }
 
     /// The channels that end at the actor, in file order.
+    #[inline(always)]
     pub(crate) fn inputs(&self, actor: u32) -> &[u32]
         requires { actor < length self.now.sources }
         ensures value { result.now ≡ inputs_at self.now.channels actor }
+        ensures own { All (λ c. to_at self.now.channels c ≡ actor) result.now }
         ensures within { All (λ c. c < length self.now.channels) result.now }
         ensures few { length result.now ≤ 128 }
     {
@@ -101,9 +109,11 @@ impl Layout {
     }
 
     /// The channels that begin at the actor, in file order.
+    #[inline(always)]
     pub(crate) fn outputs(&self, actor: u32) -> &[u32]
         requires { actor < length self.now.sources }
         ensures value { result.now ≡ outputs_at self.now.channels actor }
+        ensures own { All (λ c. from_at self.now.channels c ≡ actor) result.now }
         ensures within { All (λ c. c < length self.now.channels) result.now }
         ensures few { length result.now ≤ 128 }
     {
@@ -111,6 +121,7 @@ impl Layout {
     }
 
     /// The channel as the graph has it.
+    #[inline(always)]
     fn channel(&self, channel: u32) -> &Channel
         requires { channel < length self.now.channels }
         ensures value { slice_get self.now.channels channel ≡ Some (with_capacity (
@@ -123,41 +134,74 @@ impl Layout {
         &self.graph.channels()[channel as usize]
     }
 
+    /// How many phases the actor has.
+    #[inline(always)]
+    pub(crate) fn phases(&self, actor: u32) -> u32
+        requires { actor < length self.now.sources }
+        ensures phases { HasPhases self.now.channels actor result }
+        ensures some { 1 ≤ result }
+        ensures few { result ≤ 16 }
+    {
+        self.graph.actors()[actor as usize].phases
+    }
+
+    /// The first firing of every actor.
+    pub(crate) fn first_turn(&self) -> Turn
+        ensures firing { result.firing ≡ 0 }
+        ensures phase { result.phase ≡ 0 }
+        ensures in_phase { (a : ℕ) → IsInPhase self.now.channels a 0 0 }
+    {
+        // The proof takes what the layout keeps from this look into it.
+        let _graph = &self.graph;
+        Turn {
+            firing: 0,
+            phase: 0,
+        }
+    }
+
     /// How many tokens a firing of the channel's consumer takes out.
-    pub(crate) fn takes(&self, channel: u32, firing: u32) -> u32
-        requires { channel < length self.now.channels }
-        ensures value { result ≡ take_at self.now.channels firing channel }
+    #[inline(always)]
+    pub(crate) fn takes(&self, channel: u32, turn: Turn) -> u32
+        requires channel { channel < length self.now.channels }
+        requires phase { IsPhase (consume_at self.now.channels channel) turn.firing turn.phase }
+        ensures value { result ≡ take_at self.now.channels turn.firing channel }
         ensures small { result ≤ 64 }
     {
-        self.channel(channel).consumption(firing)
+        let channel = self.channel(channel);
+        channel.consume[turn.phase as usize]
     }
 
     /// How many tokens a firing of the channel's producer puts in.
-    pub(crate) fn gives(&self, channel: u32, firing: u32) -> u32
-        requires { channel < length self.now.channels }
-        ensures value { result ≡ give_at self.now.channels firing channel }
+    #[inline(always)]
+    pub(crate) fn gives(&self, channel: u32, turn: Turn) -> u32
+        requires channel { channel < length self.now.channels }
+        requires phase { IsPhase (produce_at self.now.channels channel) turn.firing turn.phase }
+        ensures value { result ≡ give_at self.now.channels turn.firing channel }
         ensures small { result ≤ 64 }
     {
-        self.channel(channel).production(firing)
+        let channel = self.channel(channel);
+        channel.produce[turn.phase as usize]
     }
 
     /// The channel's producer.
     pub(crate) fn producer(&self, channel: u32) -> u32
         requires { channel < length self.now.channels }
-        ensures { result ≡ slice_index (map (λ (c : ChannelModel). c.from) self.now.channels) channel }
+        ensures { result ≡ from_at self.now.channels channel }
     {
         self.channel(channel).from
     }
 
     /// The channel's consumer.
+    #[inline(always)]
     pub(crate) fn consumer(&self, channel: u32) -> u32
         requires { channel < length self.now.channels }
-        ensures { result ≡ slice_index (map (λ (c : ChannelModel). c.to) self.now.channels) channel }
+        ensures { result ≡ to_at self.now.channels channel }
     {
         self.channel(channel).to
     }
 
     /// The channel's capacity.
+    #[inline(always)]
     pub(crate) fn capacity(&self, channel: u32) -> u32
         requires { channel < length self.now.channels }
         ensures { result ≡ slice_index (map (λ (c : ChannelModel). c.capacity) self.now.channels) channel }
@@ -174,6 +218,7 @@ impl Layout {
     }
 
     /// The greatest number of firings of the actor.
+    #[inline(always)]
     pub(crate) fn limit(&self, actor: u32) -> u32
         requires { actor < length self.now.sources }
         ensures value { result ≡ slice_index self.now.limits actor }
@@ -183,6 +228,7 @@ impl Layout {
     }
 
     /// The number of tokens in the actor's file.
+    #[inline(always)]
     pub(crate) fn supply(&self, actor: u32) -> u32
         requires { actor < length self.now.sources }
         ensures { result ≡ slice_index self.now.supplies actor }
@@ -191,6 +237,7 @@ impl Layout {
     }
 
     /// Whether the actor is a source.
+    #[inline(always)]
     pub(crate) fn is_source(&self, actor: u32) -> bool
         requires { actor < length self.now.sources }
         ensures { result ≡ slice_index_or self.now.sources actor false }

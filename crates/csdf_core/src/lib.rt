@@ -13,6 +13,7 @@ mod refusal;
 mod setup;
 mod stage;
 mod transfer;
+mod turn;
 
 pub use firing_core::Core;
 pub use laws::{

@@ -5,7 +5,8 @@ ghost use Rattle.std.specs.Prelude.{◌≡◌, ◌≢◌, Some, None, Ok, ◌+�
 use crate::firing_core::Core;
 use crate::refusal::Refusal;
 use crate::stage::Stage;
-use crate::transfer::{put_outputs, raise_peaks, take_inputs};
+use crate::transfer::{gift_of, need_of, put_outputs, raise_peaks, take_inputs};
+use crate::turn::turn_after;
 
 /// A move of a firing, or the closing of a channel.
 #[derive(Debug, Drop)]
@@ -78,11 +79,11 @@ impl Core {
         if let Some(refusal) = self.read_refusal(actor) {
             return Err(refusal);
         }
-        let firing = self.fired(actor);
+        let turn = self.turn(actor);
         let need = self.need(actor) as u64;
         let gift = self.gives(actor) as u64;
         let layout = &self.layout;
-        let n = take_inputs(layout, &mut self.pool, actor, firing, into);
+        let n = take_inputs(layout, &mut self.pool, actor, turn, into);
         self.reserved = self.reserved - gift.saturating_sub(need) + gift;
         self.stages[actor as usize] = Stage::Fetched;
         Ok(n)
@@ -99,10 +100,10 @@ impl Core {
         if let Some(refusal) = self.write_refusal(actor, tokens) {
             return Err(refusal);
         }
-        let firing = self.fired(actor);
+        let turn = self.turn(actor);
         prove!(tokens.len() <= self.pool.free_len() as usize);
         let layout = &self.layout;
-        put_outputs(layout, &mut self.pool, actor, firing, tokens);
+        put_outputs(layout, &mut self.pool, actor, turn, tokens);
         raise_peaks(layout, &self.pool, &mut self.peaks, actor);
         self.reserved -= tokens.len() as u64;
         self.stages[actor as usize] = Stage::Written;
@@ -119,11 +120,17 @@ impl Core {
         if let Some(refusal) = self.finish_refusal(actor) {
             return Err(refusal);
         }
-        let firing = self.fired(actor);
-        let gives = self.gives(actor) as u64;
+        let turn = self.turn(actor);
+        let written = self.gives(actor) as u64;
+        let next = turn_after(&self.layout, actor, turn);
+        let need = need_of(&self.layout, actor, next);
+        let gift = gift_of(&self.layout, actor, next);
         let a = actor as usize;
-        self.sums[a] += gives;
-        self.counts[a] = firing + 1;
+        self.sums[a] += written;
+        self.counts[a] = next.firing;
+        self.phases[a] = next.phase;
+        self.needs[a] = need as u32;
+        self.gifts[a] = gift as u32;
         self.stages[a] = Stage::Idle;
         Ok(())
     }

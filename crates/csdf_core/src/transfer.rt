@@ -3,37 +3,41 @@
 ghost use Rattle.std.specs.Prelude.{◌≡◌, ◌+◌, ◌*◌, ◌<◌, ◌≤◌, ◌++◌, length, take, drop, slice_set};
 ghost use Rattle.csdf_pool.specs.Pool.{IsPartition, after_takes, after_puts};
 ghost use Rattle.csdf_core.specs.Transfers.{after_read, after_write};
+ghost use Rattle.csdf_core.specs.Phases.{IsInPhase};
 ghost use Rattle.csdf_core.specs.Rows.{need, gift};
 ghost use Rattle.csdf_core.specs.Ports.{inputs_at, outputs_at, take_at, give_at, tokens_in, tokens_at};
 ghost use Rattle.csdf_core.specs.Ports.{takes_over, taken_over, EnoughOver, puts_over, raise_over};
 
 use crate::layout::Layout;
+use crate::turn::Turn;
 use csdf_pool::Pool;
 
 /// How many tokens the actor's firing takes.
-pub(crate) fn need_of(layout: &Layout, actor: u32, firing: u32) -> usize
-    requires { actor < length layout.now.sources }
-    ensures value { result ≡ need actor firing layout.now.channels }
+pub(crate) fn need_of(layout: &Layout, actor: u32, turn: Turn) -> usize
+    requires actor { actor < length layout.now.sources }
+    requires in_phase { IsInPhase layout.now.channels actor turn.firing turn.phase }
+    ensures value { result ≡ need actor turn.firing layout.now.channels }
     ensures small { result ≤ 8192 }
 {
     let inputs = layout.inputs(actor);
     let mut sum = 0;
     for channel in inputs {
-        sum += layout.takes(*channel, firing) as usize;
+        sum += layout.takes(*channel, turn) as usize;
     }
     sum
 }
 
 /// How many tokens the actor's firing gives.
-pub(crate) fn gift_of(layout: &Layout, actor: u32, firing: u32) -> usize
-    requires { actor < length layout.now.sources }
-    ensures value { result ≡ gift actor firing layout.now.channels }
+pub(crate) fn gift_of(layout: &Layout, actor: u32, turn: Turn) -> usize
+    requires actor { actor < length layout.now.sources }
+    requires in_phase { IsInPhase layout.now.channels actor turn.firing turn.phase }
+    ensures value { result ≡ gift actor turn.firing layout.now.channels }
     ensures small { result ≤ 8192 }
 {
     let outputs = layout.outputs(actor);
     let mut sum = 0;
     for channel in outputs {
-        sum += layout.gives(*channel, firing) as usize;
+        sum += layout.gives(*channel, turn) as usize;
     }
     sum
 }
@@ -71,19 +75,20 @@ pub(crate) fn take_inputs(
     layout: &Layout,
     pool: &mut Pool,
     actor: u32,
-    firing: u32,
+    turn: Turn,
     into: &mut [i32],
 ) -> usize
     requires actor { actor < length layout.now.sources }
+    requires in_phase { IsInPhase layout.now.channels actor turn.firing turn.phase }
     requires same { length pool.old.chains ≡ length layout.now.channels }
-    requires enough { EnoughOver (take_at layout.now.channels firing) (inputs_at layout.now.channels actor) (tokens_in pool.old) }
-    requires room { need actor firing layout.now.channels ≤ length into.old }
+    requires enough { EnoughOver (take_at layout.now.channels turn.firing) (inputs_at layout.now.channels actor) (tokens_in pool.old) }
+    requires room { need actor turn.firing layout.now.channels ≤ length into.old }
     requires partition { IsPartition pool.old }
-    ensures count { result ≡ need actor firing layout.now.channels }
+    ensures count { result ≡ need actor turn.firing layout.now.channels }
     ensures answer { into.new
-        ≡ taken_over (take_at layout.now.channels firing) (inputs_at layout.now.channels actor) (tokens_in pool.old) ++ drop result into.old }
-    ensures left { tokens_in pool.new ≡ takes_over (take_at layout.now.channels firing) (inputs_at layout.now.channels actor) (tokens_in pool.old) }
-    ensures cells { pool.new ≡ after_read layout.now actor firing pool.old }
+        ≡ taken_over (take_at layout.now.channels turn.firing) (inputs_at layout.now.channels actor) (tokens_in pool.old) ++ drop result into.old }
+    ensures left { tokens_in pool.new ≡ takes_over (take_at layout.now.channels turn.firing) (inputs_at layout.now.channels actor) (tokens_in pool.old) }
+    ensures cells { pool.new ≡ after_read layout.now actor turn.firing pool.old }
     ensures partition { IsPartition pool.new }
     ensures size { pool.new.size ≡ pool.old.size }
     ensures same { length pool.new.chains ≡ length pool.old.chains }
@@ -91,7 +96,7 @@ pub(crate) fn take_inputs(
     let inputs = layout.inputs(actor);
     let mut at = 0;
     for channel in inputs {
-        let n = layout.takes(*channel, firing) as usize;
+        let n = layout.takes(*channel, turn) as usize;
         take_tokens(pool, *channel, &mut into[at..at + n]);
         at += n;
     }
@@ -99,14 +104,15 @@ pub(crate) fn take_inputs(
 }
 
 /// Puts the tokens of the firing in, the outputs in file order.
-pub(crate) fn put_outputs(layout: &Layout, pool: &mut Pool, actor: u32, firing: u32, tokens: &[i32])
+pub(crate) fn put_outputs(layout: &Layout, pool: &mut Pool, actor: u32, turn: Turn, tokens: &[i32])
     requires actor { actor < length layout.now.sources }
+    requires in_phase { IsInPhase layout.now.channels actor turn.firing turn.phase }
     requires same { length pool.old.chains ≡ length layout.now.channels }
-    requires all { gift actor firing layout.now.channels ≡ length tokens.now }
+    requires all { gift actor turn.firing layout.now.channels ≡ length tokens.now }
     requires room { length tokens.now ≤ length pool.old.free }
     requires partition { IsPartition pool.old }
-    ensures put { tokens_in pool.new ≡ puts_over (give_at layout.now.channels firing) (outputs_at layout.now.channels actor) (tokens_in pool.old) tokens.now }
-    ensures cells { pool.new ≡ after_write layout.now actor firing pool.old tokens.now }
+    ensures put { tokens_in pool.new ≡ puts_over (give_at layout.now.channels turn.firing) (outputs_at layout.now.channels actor) (tokens_in pool.old) tokens.now }
+    ensures cells { pool.new ≡ after_write layout.now actor turn.firing pool.old tokens.now }
     ensures partition { IsPartition pool.new }
     ensures size { pool.new.size ≡ pool.old.size }
     ensures same { length pool.new.chains ≡ length pool.old.chains }
@@ -114,7 +120,7 @@ pub(crate) fn put_outputs(layout: &Layout, pool: &mut Pool, actor: u32, firing: 
     let outputs = layout.outputs(actor);
     let mut at = 0;
     for channel in outputs {
-        let n = layout.gives(*channel, firing) as usize;
+        let n = layout.gives(*channel, turn) as usize;
         put_tokens(pool, *channel, &tokens[at..at + n]);
         at += n;
     }

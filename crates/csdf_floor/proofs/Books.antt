@@ -1,19 +1,17 @@
 -- A book, from one move to the next.
-use Rattle.std.proofs.Common.{◌≡◌, ◌≢◌, ℕ, zero, suc, ◌+◌, ◌<◌, cond, inl, inr, List, [], ◌∷◌, ◌++◌, length, map, get_or, set, refl, ap, sym, subst, ◌∙◌, arith}
-use Rattle.std.proofs.Common.{append-nil, append_assoc, Bool, true, false, Option, None, eq-eqb, length-set, ◌-◌}
-use Rattle.std.specs.Prelude.{ℤ, Ok, Err, vec_len, vec_capacity, replicate}
+use Rattle.std.proofs.Common.{◌≡◌, ◌≢◌, ℕ, zero, suc, ◌+◌, ◌<◌, ◌≤◌, cond, inl, inr, List, [], ◌∷◌, ◌++◌, length, map, get_or, set, refl}
+use Rattle.std.proofs.Common.{ap, sym, subst, ◌∙◌, arith, append-nil, append_assoc, Bool, true, false, Option, None, eq-eqb, length-set}
+use Rattle.std.specs.Prelude.{ℤ, Ok, Err, replicate}
 use Rattle.std.specs.Global.{Vec}
 use Rattle.std.specs.List.{range_with_len}
-use Rattle.std.proofs.lemmas.List.{get_or-set_other, get_or-set_same, map-append, map-set, set-set}
+use Rattle.std.proofs.lemmas.List.{get_or-set_other, get_or-set_same, map-set, set-set}
 use Rattle.std.proofs.lemmas.List.FromFn.{get_or-map-range_with_len, length-map-range_with_len}
 use Rattle.std.proofs.lemmas.Bool.Decides.{eqb_tells}
 use Rattle.csdf_model.specs.declared.parts.Kernel.TheVariants.{Sink}
 use Rattle.csdf_core.specs.declared.stage.Stage.{Stage}
 use Rattle.csdf_core.specs.declared.stage.Stage.TheVariants.{Idle, Begun, Fetched, Written}
 use Rattle.csdf_core.specs.declared.refusal.Refusal.{Refusal}
-use Rattle.csdf_core.specs.declared.moves.Move.{Move as MoveCode}
-use Rattle.csdf_core.specs.declared.moves.Move.TheVariants as code
-use Rattle.csdf_core.specs.Moves.{Move, move_of}
+use Rattle.csdf_core.specs.Moves.{Move}
 use Rattle.csdf_core.specs.Moves.{Begin, Read, Write, Finish, Close}
 use Rattle.csdf_core.specs.Next.{next}
 use Rattle.csdf_core.specs.Plan.{Plan}
@@ -26,6 +24,7 @@ use Rattle.csdf_core.proofs.Booked.{can_begin}
 use Rattle.csdf_core.proofs.Kept.{reads}
 use Rattle.csdf_core.proofs.Next.{present_accepted}
 use Rattle.csdf_core.proofs.Runs.{raised_over-push}
+use Rattle.csdf_journal.specs.View.{JournalView}
 use Rattle.csdf_floor.specs.Journal.{Program, state_of, reads_of, replies_to, no_reads, IsJust, value, took, sink_tokens, reads_after}
 use Rattle.csdf_floor.specs.Work.{Work, IsWork, program, feeds_in, is_sink_kernel}
 use Rattle.csdf_floor.specs.Floor.{FloorView, IsKept, sink_of, sinks_of}
@@ -35,13 +34,14 @@ use Rattle.csdf_floor.proofs.Bounds.{faithful_end}
 use Rattle.csdf_floor.proofs.Sequential.{length_value}
 use Rattle.csdf_floor.proofs.Works.{item_at}
 
-abbrev pub floor_of : Work → View → List Move → List (List ℤ) → FloorView
-floor_of w core journal sinks = record { work = w; core = core; journal = journal; sinks = sinks }
+abbrev pub floor_of : Bool → Work → View → List Move → List (List ℤ) → FloorView
+floor_of keeps w core journal sinks = record { work = w; core = core; journal = journal; keeps = keeps; sinks = sinks }
 
-abbrev pub book_of : Work → View → Vec MoveCode → ListsView → List (List ℤ) → BookView
-book_of w core moves sinks reads = record {
-  shown = floor_of w core (map move_of moves.items) sinks.lists;
-  room = vec_capacity moves - vec_len moves;
+abbrev pub book_of : Work → View → JournalView → ListsView → List (List ℤ) → BookView
+book_of w core journal sinks reads = record {
+  shown = floor_of journal.keeps w core journal.moves sinks.lists;
+  room = journal.room;
+  width = journal.width;
   rooms = sinks.rooms;
   reads = reads;
 }
@@ -143,9 +143,9 @@ had_read plan p (Write b v) a is e = was_there p.stages b a Written Fetched (λ 
 had_read plan p (Finish b) a is e = was_there p.stages b a Idle Fetched (λ q. absurd (cc)) e
 had_read plan p (Close c) a is e = e
 
-pub book_moved : (w : Work) (core nxt : View) (journal : List Move) (sinks reads : List (List ℤ)) (m : Move) (tokens : List ℤ) → IsNoRead m
-    → IsBook (floor_of w core journal sinks) reads → Follows core nxt m (Ok tokens)
-    → IsJust (program w) (state_of (program w) journal) (reads_of (program w) journal) m → IsBook (floor_of w nxt (journal ++ m ∷ []) sinks) reads
+pub book_moved : {keeps keeps2 : Bool} → (w : Work) (core nxt : View) (journal : List Move) (sinks reads : List (List ℤ)) (m : Move) (tokens : List ℤ)
+    → IsNoRead m → IsBook (floor_of keeps w core journal sinks) reads → Follows core nxt m (Ok tokens)
+    → IsJust (program w) (state_of (program w) journal) (reads_of (program w) journal) m → IsBook (floor_of keeps2 w nxt (journal ++ m ∷ []) sinks) reads
 book_moved w core nxt journal sinks reads m tokens no_read b f just = record {
   work = b.work;
   kept = moved (program w) core nxt journal m tokens b.kept f just;
@@ -240,9 +240,9 @@ sinks_step w journal sinks a tokens false is lt replied e = e ∙ sym (sinks_kee
 abbrev pub sinks_after : Work → List (List ℤ) → ℕ → List ℤ → List (List ℤ)
 sinks_after w sinks a tokens = cond (is_sink_kernel (get_or (program w).kernels a Sink)) (set sinks a (get_or sinks a [] ++ tokens)) sinks
 
-pub book_read : (w : Work) (core nxt : View) (journal : List Move) (sinks reads : List (List ℤ)) (a : ℕ) (tokens : List ℤ) → a < length core.plan.sources
-    → IsBook (floor_of w core journal sinks) reads → Follows core nxt (Read a) (Ok tokens)
-    → IsBook (floor_of w nxt (journal ++ Read a ∷ []) (sinks_after w sinks a tokens)) (set reads a tokens)
+pub book_read : {keeps keeps2 : Bool} → (w : Work) (core nxt : View) (journal : List Move) (sinks reads : List (List ℤ)) (a : ℕ) (tokens : List ℤ)
+    → a < length core.plan.sources → IsBook (floor_of keeps w core journal sinks) reads → Follows core nxt (Read a) (Ok tokens)
+    → IsBook (floor_of keeps2 w nxt (journal ++ Read a ∷ []) (sinks_after w sinks a tokens)) (set reads a tokens)
 book_read w core nxt journal sinks reads a tokens there b f =
     let p : Program = program w in
     let is = accepted_as p core nxt journal (Read a) tokens b.kept f in
@@ -293,33 +293,27 @@ close_just w core journal c k idle over = (
 
 -- ---- the book's own fields
 
-pushed : (moves moves2 : List MoveCode) (mc : MoveCode) → moves2 ≡ moves ++ mc ∷ [] → map move_of moves2 ≡ map move_of moves ++ move_of mc ∷ []
-pushed moves moves2 mc is = ap (map move_of) is ∙ map-append move_of moves (mc ∷ [])
+pub book_next : {keeps keeps2 : Bool} → (w : Work) (core nxt : View) (journal journal2 : List Move) (m : Move) (sinks reads : List (List ℤ)) (tokens : List ℤ)
+    → IsNoRead m → IsBook (floor_of keeps w core journal sinks) reads → Follows core nxt m (Ok tokens)
+    → IsJust (program w) (state_of (program w) journal) (reads_of (program w) journal) m → journal2 ≡ journal ++ m ∷ []
+    → IsBook (floor_of keeps2 w nxt journal2 sinks) reads
+book_next {keeps2 = keeps2} w core nxt journal journal2 m sinks reads tokens no_read b f just is =
+    subst (λ (js : List Move). IsBook (floor_of keeps2 w nxt js sinks) reads) (sym is) (book_moved w core nxt journal sinks reads m tokens no_read b f just)
 
-pub book_next : (w : Work) (core nxt : View) (moves moves2 : List MoveCode) (mc : MoveCode) (sinks reads : List (List ℤ)) (tokens : List ℤ)
-    → IsNoRead (move_of mc) → IsBook (floor_of w core (map move_of moves) sinks) reads
-    → Follows core nxt (move_of mc) (Ok tokens) → IsJust (program w) (state_of (program w) (map move_of moves)) (reads_of (program w) (map move_of moves))
-    (move_of mc) → moves2 ≡ moves ++ mc ∷ []
-    → IsBook (floor_of w nxt (map move_of moves2) sinks) reads
-book_next w core nxt moves moves2 mc sinks reads tokens no_read b f just is =
-    subst (λ (js : List Move). IsBook (floor_of w nxt js sinks) reads) (sym (pushed moves moves2 mc is))
-    (book_moved w core nxt (map move_of moves) sinks reads (move_of mc) tokens no_read b f just)
-
-pub next_is : (w : Work) (core nxt : View) (moves moves2 : Vec MoveCode) (mc : MoveCode) (sinks sinks2 : ListsView) (reads reads2 : List (List ℤ))
-    (tokens : List ℤ) → IsBook (floor_of w core (map move_of moves.items) sinks.lists) reads
-    → Follows core nxt (move_of mc) (Ok tokens) → moves2.items ≡ moves.items ++ mc ∷ [] → vec_len moves2 ≡ vec_len moves + 1
-    → vec_capacity moves2 ≡ vec_capacity moves → 0 < vec_capacity moves - vec_len moves
-    → IsNext (book_of w core moves sinks reads) (book_of w nxt moves2 sinks2 reads2) (move_of mc)
-next_is w core nxt moves moves2 mc sinks sinks2 reads reads2 tokens b f is len capacity room = record {
-  gone = record { work = refl; journal = pushed moves.items moves2.items mc is };
-  room = omega (arith, len, capacity, room);
+pub next_is : (w : Work) (core nxt : View) (journal journal2 : JournalView) (m : Move) (sinks sinks2 : ListsView) (reads reads2 : List (List ℤ))
+    (tokens : List ℤ) → IsBook (floor_of journal.keeps w core journal.moves sinks.lists) reads
+    → Follows core nxt m (Ok tokens) → journal2.moves ≡ journal.moves ++ m ∷ [] → journal.room ≤ journal2.room + 1 → journal2.keeps ≡ journal.keeps
+    → IsNext (book_of w core journal sinks reads) (book_of w nxt journal2 sinks2 reads2) m
+next_is w core nxt journal journal2 m sinks sinks2 reads reads2 tokens b f is room keeps = record {
+  gone = record { work = refl; journal = is; keeps = keeps };
+  room = room;
   plan = f.plan;
-  now = now_next (program w) core nxt (map move_of moves.items) (move_of mc) tokens b.kept f;
+  now = now_next (program w) core nxt journal.moves m tokens b.kept f;
 }
 
 -- a list for each actor
-pub sinks_each : (w : Work) (core : View) (journal : List Move) (sinks reads : List (List ℤ)) → IsBook (floor_of w core journal sinks) reads
-    → length sinks ≡ length core.plan.sources
+pub sinks_each : {keeps : Bool} → (w : Work) (core : View) (journal : List Move) (sinks reads : List (List ℤ))
+    → IsBook (floor_of keeps w core journal sinks) reads → length sinks ≡ length core.plan.sources
 sinks_each w core journal sinks reads b =
     ap length b.sinks
     ∙ length-map-range_with_len (sink_of (program w) journal) 0 (length (program w).plan.sources)
@@ -328,18 +322,18 @@ sinks_each w core journal sinks reads b =
 pub read_there : (plan : Plan) (p : Present) (a : ℕ) → refusal plan p (Read a) ≡ None → a < length plan.sources
 read_there plan p a none = (reads plan p a none).there
 
-pub book_fetch : (w : Work) (core nxt : View) (moves moves2 : List MoveCode) (sinks sinks2 : List (List ℤ)) (buffers : List (Vec ℤ)) (buffer : Vec ℤ) (a : ℕ)
+pub book_fetch : {keeps keeps2 : Bool} → (w : Work) (core nxt : View) (moves moves2 : List Move) (sinks sinks2 : List (List ℤ))
+    (buffers : List (Vec ℤ)) (buffer : Vec ℤ) (a : ℕ)
     → refusal core.plan core.now (Read a) ≡ None
-    → IsBook (floor_of w core (map move_of moves) sinks) (feeds_in buffers) → Follows core nxt (Read a) (Ok buffer.items) → moves2 ≡ moves ++ code.Read a ∷ []
+    → IsBook (floor_of keeps w core moves sinks) (feeds_in buffers) → Follows core nxt (Read a) (Ok buffer.items) → moves2 ≡ moves ++ Read a ∷ []
     → sinks2 ≡ sinks_after w sinks a buffer.items
-    → IsBook (floor_of w nxt (map move_of moves2) sinks2) (feeds_in (set buffers a buffer))
-book_fetch w core nxt moves moves2 sinks sinks2 buffers buffer a none b f is took =
-    let whole = book_read w core nxt (map move_of moves) sinks (feeds_in buffers) a buffer.items (read_there core.plan core.now a none) b f in
-    let journals : map move_of moves2 ≡ map move_of moves ++ Read a ∷ [] = pushed moves moves2 (code.Read a) is in
+    → IsBook (floor_of keeps2 w nxt moves2 sinks2) (feeds_in (set buffers a buffer))
+book_fetch {keeps2 = keeps2} w core nxt moves moves2 sinks sinks2 buffers buffer a none b f is took =
+    let whole = book_read {keeps2 = keeps2} w core nxt moves sinks (feeds_in buffers) a buffer.items (read_there core.plan core.now a none) b f in
     let same : feeds_in (set buffers a buffer) ≡ set (feeds_in buffers) a buffer.items = map-set (λ (v : Vec ℤ). v.items) buffers a buffer in
-    subst (λ (rs : List (List ℤ)). IsBook (floor_of w nxt (map move_of moves2) sinks2) rs) (sym same)
-    (subst (λ (ss : List (List ℤ)). IsBook (floor_of w nxt (map move_of moves2) ss) (set (feeds_in buffers) a buffer.items)) (sym took)
-    (subst (λ (js : List Move). IsBook (floor_of w nxt js (sinks_after w sinks a buffer.items)) (set (feeds_in buffers) a buffer.items)) (sym journals) whole))
+    subst (λ (rs : List (List ℤ)). IsBook (floor_of keeps2 w nxt moves2 sinks2) rs) (sym same)
+    (subst (λ (ss : List (List ℤ)). IsBook (floor_of keeps2 w nxt moves2 ss) (set (feeds_in buffers) a buffer.items)) (sym took)
+    (subst (λ (js : List Move). IsBook (floor_of keeps2 w nxt js (sinks_after w sinks a buffer.items)) (set (feeds_in buffers) a buffer.items)) (sym is) whole))
 
 -- ---- before any move
 
@@ -356,9 +350,9 @@ first_sinks w k (suc n) = let here : sink_of w [] k ≡ [] = none (is_sink_kerne
     none true = refl
     none false = refl
 
-pub book_opened : (w : Work) (core : View) (sinks reads : List (List ℤ)) → IsWork w → core.plan ≡ (program w).plan → Shows core (opening core.plan)
-    → core.peaks ≡ first_peaks core.plan
-    → sinks ≡ replicate (length core.plan.sources) [] → length reads ≡ length core.plan.sources → IsBook (floor_of w core [] sinks) reads
+pub book_opened : {keeps : Bool} → (w : Work) (core : View) (sinks reads : List (List ℤ)) → IsWork w → core.plan ≡ (program w).plan
+    → Shows core (opening core.plan) → core.peaks ≡ first_peaks core.plan
+    → sinks ≡ replicate (length core.plan.sources) [] → length reads ≡ length core.plan.sources → IsBook (floor_of keeps w core [] sinks) reads
 book_opened w core sinks reads work plan shows peaks none each = record {
   work = work;
   kept = record { plan = plan; honest = tt; shows = subst (λ (u : Plan). Shows core (opening u)) plan shows };
@@ -417,6 +411,7 @@ has_taken old mid new a b none one same two buffer tokens =
     record {
       gone = record {
         work = two.gone.work ∙ one.gone.work;
+        keeps = two.gone.keeps ∙ one.gone.keeps;
         journal = two.gone.journal ∙ ap (λ (js : List Move). js ++ Read a ∷ []) one.gone.journal ∙ append_assoc old.shown.journal (Begin a ∷ []) (Read a ∷ []);
       };
       plan = plan;
@@ -453,6 +448,7 @@ has_given old mid new a v len there one two =
     record {
       gone = record {
         work = two.gone.work ∙ one.gone.work;
+        keeps = two.gone.keeps ∙ one.gone.keeps;
         journal = two.gone.journal ∙ ap (λ (js : List Move). js ++ Finish a ∷ []) one.gone.journal
             ∙ append_assoc old.shown.journal (Write a v ∷ []) (Finish a ∷ []);
       };
@@ -465,17 +461,18 @@ has_given old mid new a v len there one two =
     }
 
 -- what is in the buffer after a read
-pub fetch_tokens : (w : Work) (core nxt : View) (moves moves2 : List MoveCode) (sinks sinks2 : List (List ℤ)) (buffers : List (Vec ℤ)) (buffer : Vec ℤ) (a : ℕ)
+pub fetch_tokens : {keeps : Bool} → (w : Work) (core nxt : View) (moves moves2 : List Move) (sinks sinks2 : List (List ℤ)) (buffers : List (Vec ℤ))
+    (buffer : Vec ℤ) (a : ℕ)
     → refusal core.plan core.now (Read a) ≡ None
-    → IsBook (floor_of w core (map move_of moves) sinks) (feeds_in buffers) → Follows core nxt (Read a) (Ok buffer.items) → moves2 ≡ moves ++ code.Read a ∷ []
+    → IsBook (floor_of keeps w core moves sinks) (feeds_in buffers) → Follows core nxt (Read a) (Ok buffer.items) → moves2 ≡ moves ++ Read a ∷ []
     → sinks2 ≡ sinks_after w sinks a buffer.items
-    → get_or (feeds_in (set buffers a buffer)) a [] ≡ get_or (reads_of (program w) (map move_of moves2)) a []
-fetch_tokens w core nxt moves moves2 sinks sinks2 buffers buffer a none b f is took =
-    let whole = book_fetch w core nxt moves moves2 sinks sinks2 buffers buffer a none b f is took in
+    → get_or (feeds_in (set buffers a buffer)) a [] ≡ get_or (reads_of (program w) moves2) a []
+fetch_tokens {keeps = keeps} w core nxt moves moves2 sinks sinks2 buffers buffer a none b f is took =
+    let whole = book_fetch {keeps2 = keeps} w core nxt moves moves2 sinks sinks2 buffers buffer a none b f is took in
     let there = read_there core.plan core.now a none in
-    let len = staged (floor_of w core (map move_of moves) sinks) (feeds_in buffers) b in
+    let len = staged (floor_of keeps w core moves sinks) (feeds_in buffers) b in
     let at : stage nxt.now a ≡ Fetched =
-    ap (λ (p : Present). stage p a) (now_next (program w) core nxt (map move_of moves) (Read a) buffer.items b.kept f)
+    ap (λ (p : Present). stage p a) (now_next (program w) core nxt moves (Read a) buffer.items b.kept f)
     ∙ get_or-set_same core.now.stages a Fetched Idle (omega arith) in
     whole.last_reads a (let e = ap (λ (u : Plan). length u.sources) f.plan in omega arith) at
 

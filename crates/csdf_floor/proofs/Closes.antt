@@ -1,6 +1,6 @@
 -- Closing channels one after another.
 use Rattle.std.proofs.Common.{◌≡◌, ◌≢◌, ℕ, zero, suc, ◌+◌, ◌-◌, ◌<◌, ◌≤◌, ◌==◌, ◌&&◌, ◌||◌, cond, inl, inr, List, [], ◌∷◌, ◌++◌, length, map, filter, get_or}
-use Rattle.std.proofs.Common.{set, take, refl, ap, sym, subst, ◌∙◌, arith, append-nil, append_assoc, Bool, true, false, not, eqb-true, eq-eqb, None, Option}
+use Rattle.std.proofs.Common.{set, take, refl, ap, sym, subst, ◌∙◌, arith, append-nil, append_assoc, Bool, true, false, not, eqb-true, eq-eqb}
 use Rattle.std.specs.List.{range_with_len}
 use Rattle.std.specs.Prelude.{slice_index_or}
 use Rattle.std.proofs.lemmas.List.{take_more, get_or-set_other, map-append}
@@ -154,7 +154,7 @@ in_outputs a i c (d ∷ cs) le lt = elim (eqb_tells i c) [
 
 pub closed_none : (f : FloorView) (cs : List ℕ) → AreClosed f f (take 0 cs)
 closed_none f cs = record {
-  gone = record { work = refl; journal = sym (append-nil f.journal) };
+  gone = record { work = refl; journal = sym (append-nil f.journal); keeps = refl };
   plan = refl;
   counts = refl;
   stages = refl;
@@ -225,6 +225,7 @@ module _ (old mid new : FloorView) (cs : List ℕ) (c : ℕ) (done : AreClosed o
   closed_one due gone plan now = record {
     gone = record {
       work = gone.work ∙ done.gone.work;
+      keeps = gone.keeps ∙ done.gone.keeps;
       journal = gone.journal
           ∙ ap (λ (js : List Move). js ++ Close c ∷ []) done.gone.journal
           ∙ append_assoc old.journal (closes old.core.plan old.core.now cs) (Close c ∷ [])
@@ -259,6 +260,7 @@ module _ (old mid new : FloorView) (cs : List ℕ) (c : ℕ) (done : AreClosed o
   closed_other due same = subst (λ (f : FloorView). AreClosed old f (cs ++ c ∷ [])) (sym same) (record {
     gone = record {
       work = done.gone.work;
+      keeps = done.gone.keeps;
       journal = done.gone.journal
           ∙ ap (λ (js : List Move). old.journal ++ js)
           (sym (append-nil (closes old.core.plan old.core.now cs)) ∙ ap (λ b. closes old.core.plan old.core.now cs ++ map Close (cond b (c ∷ []) [])) (sym due)

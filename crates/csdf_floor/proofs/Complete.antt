@@ -1,17 +1,14 @@
 -- With no limit on all firings and ample cells: the sequential run is an honest journal, and long enough files are used up.
-use Rattle.std.proofs.Common.{◌≡◌, ℕ, ◌*◌, ◌<◌, ◌≤◌, nat_le, List, [], ◌∷◌, length, get_or, set, map, replicate, refl, ap, sym, subst, ◌∙◌, arith, true, false}
-use Rattle.std.proofs.Common.{Option, None, mul-le-mul}
+use Rattle.std.proofs.Common.{◌≡◌, ℕ, ◌*◌, ◌<◌, nat_le, List, [], ◌∷◌, length, get_or, set, replicate, refl, ap, sym, subst, ◌∙◌, true, false}
+use Rattle.std.proofs.Common.{Option, None}
 use Rattle.std.specs.Prelude.{ℤ, slice_index}
 use Rattle.std.proofs.lemmas.List.{length-map}
-use Rattle.std.proofs.lemmas.List.Elements.{All-get_or, All-from_get_or}
 use Rattle.csdf_model.specs.Graph as graph
 use Rattle.csdf_model.specs.Graph.{phases_of}
 use Rattle.csdf_analysis.specs.Acceptance.{Accepted, IsAccepted}
-use Rattle.csdf_analysis.proofs.BoundLemmas.{phases_within, firing_fits}
 use Rattle.csdf_core.specs.Moves.{Move}
 use Rattle.csdf_core.specs.Moves.{Begin, Read, Write, Finish}
 use Rattle.csdf_core.specs.Plan.{Plan, HasAmpleCells}
-use Rattle.csdf_core.specs.Playable.{IsPlayable}
 use Rattle.csdf_core.specs.Layout.{is_source_kernel}
 use Rattle.csdf_core.specs.State.{State, Present, present, opening}
 use Rattle.csdf_core.specs.Step.{IsQuiet, is_stopped, is_reached, begun_count, count, refusal, answer, accepted, state_after}
@@ -29,7 +26,7 @@ use Rattle.csdf_floor.proofs.Ends.{ends_as_sequential, stays_within}
 use Rattle.csdf_floor.proofs.Counted.{ends_counted, stays_counted}
 use Rattle.csdf_floor.proofs.Quiet.{done_end, no_output_closed, quiet_is_exhausted}
 use Rattle.csdf_core.proofs.Accepting.{all_open, begins_free, reads_free, writes_free, finishes_free}
-use Rattle.csdf_floor.proofs.Periods.{get_mul, completes_all}
+use Rattle.csdf_floor.proofs.Periods.{completes_all}
 
 -- ---- the sequential run as a journal
 

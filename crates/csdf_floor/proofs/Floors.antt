@@ -1,11 +1,11 @@
 -- A floor between its calls.
 use Rattle.std.proofs.Common.{◌≡◌, ◌≢◌, ℕ, zero, suc, ◌+◌, ◌<◌, ◌≤◌, ◌-◌, ◌==◌, ◌&&◌, ◌||◌, inl, inr, List, [], ◌∷◌, ◌++◌, length, append_assoc, map, get_or}
-use Rattle.std.proofs.Common.{set, replicate, refl, ap, sym, subst, ◌∙◌, arith, Bool, true, false, not, cond, Some, None, Option, ltb-true, eqb-true}
-use Rattle.std.specs.Prelude.{ℤ, option_map, ◌⊎◌, nat_le, nat_lt, slice_index, slice_index_or}
+use Rattle.std.proofs.Common.{replicate, refl, ap, sym, subst, ◌∙◌, arith, Bool, true, false, not, cond, Some, None, Option, ltb-true, eqb-true}
+use Rattle.std.specs.Prelude.{ℤ, Result, Ok, Err, IsErrAnd, option_map, ◌⊎◌, nat_le, nat_lt, slice_index, slice_index_or}
 use Rattle.std.proofs.lemmas.List.{get_or-set_other}
 use Rattle.std.proofs.lemmas.Bool.Decides.{eqb_tells}
 use Rattle.std.specs.List.{range_with_len}
-use Rattle.csdf_core.specs.declared.stage.Stage.TheVariants.{Idle, Begun, Fetched, Written}
+use Rattle.csdf_core.specs.declared.stage.Stage.TheVariants.{Idle, Fetched}
 use Rattle.csdf_core.specs.declared.stage.Stage.{Stage}
 use Rattle.csdf_core.specs.declared.refusal.Refusal.{Refusal}
 use Rattle.csdf_core.specs.Moves.{Move}
@@ -16,11 +16,12 @@ use Rattle.csdf_core.specs.State.{Present, present, opening}
 use Rattle.csdf_core.specs.Step.{count, stage, is_stage, is_open, is_over, is_source, given, exists, refusal, producer}
 use Rattle.csdf_core.proofs.Booked.{can_begin}
 use Rattle.csdf_core.proofs.Peaks.{peaks_from_opening}
+use Rattle.csdf_floor.specs.declared.fault.StartFault.{StartFault}
 use Rattle.csdf_floor.specs.declared.fault.StartFault.TheVariants.{Unknown, Moved, Refused}
 use Rattle.csdf_kernel.specs.Value.{value_of}
 use Rattle.csdf_floor.specs.Journal.{value, reads_of, state_of}
 use Rattle.csdf_floor.specs.Work.{Work, program}
-use Rattle.csdf_floor.specs.Floor.{FloorView, HasGone, IsBetween, IsFloor, IsUnderWay, Task, closes, closes_after, ending_of, start_refusal}
+use Rattle.csdf_floor.specs.Floor.{FloorView, HasGone, IsBetween, IsFloor, IsStartAnswer, IsUnderWay, Task, closes, closes_after, ending_of, start_refusal}
 use Rattle.csdf_floor.specs.Inside.{BookView, IsBook, AreClosed, HasTaken, HasGiven, is_in}
 use Rattle.csdf_floor.proofs.Closes.{over_same, in_outputs}
 use Rattle.csdf_floor.proofs.Journals.{value_is}
@@ -261,6 +262,13 @@ module _ (old mid new : BookView) (a : ℕ) (v : List ℤ) (between : IsBetween 
         ];
   }
 
+-- a fault that is handed on answers as the start that gave it
+pub handed_on : {Y : Type 0} (X : Type 0) (first : Option StartFault) (result : Result Y StartFault) (fault : StartFault)
+    → IsErrAnd result (λ told. told ≡ fault) → IsStartAnswer {T = X} first (Err fault) → IsStartAnswer first result
+handed_on X first (Ok y) fault same answer = absurd same
+handed_on X (Some why) (Err told) fault same answer = let is = same in let first = answer in cc
+handed_on X None (Err told) fault same answer = same ∙ answer
+
 -- what a done job gives is what its firing has to write
 pub gift_just : (f : FloorView) (t : Task) (v : List ℤ) → IsUnderWay f t → v ≡ value_of t.kernel t.counts t.inputs
     → v ≡ value (program f.work) t.actor (count f.core.now t.actor) (get_or (reads_of (program f.work) f.journal) t.actor [])
@@ -285,6 +293,7 @@ has_delivered f old mid new t v same is gave closed now =
     now ∙ ap (λ (w : Work). present (state_of (program w) mid.shown.journal)) work ∙ ap (λ (js : List Move). present (state_of (program f.work) js)) journal in
     record {
       work = closed.gone.work ∙ work;
+      keeps = closed.gone.keeps ∙ gave.gone.keeps ∙ ap (λ (g : FloorView). g.keeps) same;
       journal = closed.gone.journal
           ∙ ap (λ (js : List Move). js ++ closes mid.shown.core.plan mid.shown.core.now (outputs_at mid.shown.core.plan.channels t.actor)) journal
           ∙ ap (λ (u : Plan). (f.journal ++ ending_of t) ++ closes u mid.shown.core.now (outputs_at u.channels t.actor)) plan

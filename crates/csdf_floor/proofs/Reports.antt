@@ -4,7 +4,6 @@ use Rattle.std.specs.Prelude.{ℤ}
 use Rattle.std.proofs.lemmas.List.{get_or-map}
 use Rattle.csdf_model.specs.Rates.{total}
 use Rattle.csdf_core.specs.declared.stage.Stage.TheVariants.{Idle}
-use Rattle.csdf_core.specs.Moves.{Move}
 use Rattle.csdf_core.specs.Plan.{Channel}
 use Rattle.csdf_core.specs.Playable.{IsPlayable}
 use Rattle.csdf_core.specs.State.{State, Stream, Present, present}

@@ -9,7 +9,7 @@ use Rattle.csdf_core.specs.Moves.{Move}
 use Rattle.csdf_core.specs.Plan.{HasAmpleCells, Plan}
 use Rattle.csdf_core.specs.Playable.{IsPlayable}
 use Rattle.csdf_core.specs.State.{Present, present}
-use Rattle.csdf_core.specs.Step.{stage, is_stage, is_open, is_over, producer, IsQuiet, IsSettled}
+use Rattle.csdf_core.specs.Step.{stage, is_stage, is_over, producer, IsQuiet, IsSettled}
 use Rattle.csdf_core.specs.declared.stage.Stage.{Stage}
 use Rattle.csdf_core.specs.declared.stage.Stage.TheVariants.{Idle}
 use Rattle.csdf_core.specs.Streams.{IsPrefix, initial}
@@ -24,7 +24,7 @@ use Rattle.csdf_floor.specs.Inside.{IsBook}
 use Rattle.csdf_floor.specs.Journal.{Program, IsHonest, program_for, replies_to, sink_tokens, state_of}
 use Rattle.csdf_floor.specs.Laws.{taken_in, written_in, AllSpent, IsFree, IsAsSequential, CountsAsSequential}
 use Rattle.csdf_floor.specs.Outcome.{HasTotals, IsOutcome, IsEndBeside, IsSequentialEnd, IsBeforeSequentialEnd, CompletesWhereAmple, journal_in, report_of}
-use Rattle.csdf_floor.specs.Outcome.{report_on, sequential_list, sequential_lists, report_at}
+use Rattle.csdf_floor.specs.Outcome.{report_on, sequential_list, report_at}
 use Rattle.csdf_floor.specs.Sequential.{IsSequential, sequential_sink, sequential_state}
 use Rattle.csdf_floor.specs.Work.{feeds_in, is_sink_kernel, program}
 use Rattle.csdf_floor.proofs.Complete.{ends_complete}

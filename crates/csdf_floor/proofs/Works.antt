@@ -1,5 +1,5 @@
 -- What is run, as the fields of its lists show it.
-use Rattle.std.proofs.Common.{◌≡◌, ℕ, zero, suc, ◌+◌, ◌*◌, ◌<◌, ◌≤◌, ◌==◌, cond, Bool, true, false, List, [], ◌∷◌, length, map, filter, get_or, take, refl, ap}
+use Rattle.std.proofs.Common.{◌≡◌, ℕ, zero, suc, ◌+◌, ◌*◌, ◌<◌, ◌≤◌, ◌==◌, cond, Bool, true, false, List, [], ◌∷◌, length, map, filter, get_or, refl, ap}
 use Rattle.std.proofs.Common.{sym, subst, ◌∙◌, arith, None, mul-le-mul, inl, inr, ◌-◌, set, length-set, Option}
 use Rattle.std.specs.Prelude.{All, ℤ, vec_len, vec_capacity, Result, Ok, Err, OnOk, is_ok}
 use Rattle.std.specs.List.{zip}
@@ -11,14 +11,14 @@ use Rattle.csdf_model.specs.declared.parts.Kernel.TheVariants as kernel
 use Rattle.csdf_model.specs.declared.parts.Actor.{Actor as ActorCode}
 use Rattle.csdf_model.specs.Graph as graph
 use Rattle.csdf_model.specs.Graph.{Actor, Graph, actor_view, numbers_from, outputs_of}
-use Rattle.csdf_model.specs.Rates.{rate, produced, consumed, production}
+use Rattle.csdf_model.specs.Rates.{produced, consumed, production}
 use Rattle.csdf_model.specs.WellFormed.{IsWellFormed, IsActor, IsChannel, IsKernel}
 use Rattle.csdf_analysis.specs.Acceptance.{Accepted, IsAccepted}
 use Rattle.csdf_analysis.specs.Repetition.{IsRepetition}
 use Rattle.csdf_analysis.proofs.BoundLemmas.{firing_fits, phases_within, total_within}
 use Rattle.csdf_kernel.specs.Value.{HasFilterInRange}
 use Rattle.csdf_core.specs.Layout.{is_source_kernel, with_capacity}
-use Rattle.csdf_core.specs.Plan.{Channel, Plan, gives_of}
+use Rattle.csdf_core.specs.Plan.{Channel, Plan}
 use Rattle.csdf_core.specs.Step.{producer}
 use Rattle.csdf_core.specs.Playable.{IsPlayable}
 use Rattle.csdf_core.proofs.Setups.{playable_setup}

@@ -1,5 +1,5 @@
 -- What a floor keeps: what is run, the core, the journal of its moves and what the sinks took.
-use Rattle.std.specs.Prelude.{ℕ, ◌≡◌, ◌≢◌, ◌==◌, ◌<◌, ◌≤◌, ◌&&◌, ◌⊎◌, not, nat_lt, Bool, false, if◌then◌else◌, List, [], ◌∷◌, ◌++◌, ℤ, Option, Some, None}
+use Rattle.std.specs.Prelude.{ℕ, ◌≡◌, ◌==◌, ◌<◌, ◌≤◌, ◌&&◌, ◌⊎◌, not, Bool, if◌then◌else◌, List, [], ◌∷◌, ◌++◌, ℤ, Option, Some, None}
 use Rattle.std.specs.Prelude.{Result, Ok, Err, All, length, map, filter, slice_index, slice_index_or, option_map}
 use Rattle.std.specs.List.{range_with_len}
 use Rattle.csdf_model.specs.declared.parts.Kernel.{Kernel}
@@ -8,11 +8,11 @@ use Rattle.csdf_kernel.specs.declared.Job.{Job}
 use Rattle.csdf_kernel.specs.Value.{value_of, HasFilterInRange}
 use Rattle.csdf_core.specs.declared.stage.Stage.TheVariants.{Idle, Fetched}
 use Rattle.csdf_core.specs.Moves.{Move}
-use Rattle.csdf_core.specs.Moves.{Begin, Read, Write, Finish, Close}
+use Rattle.csdf_core.specs.Moves.{Begin, Write, Finish, Close}
 use Rattle.csdf_core.specs.Plan.{Plan}
 use Rattle.csdf_core.specs.Ports.{outputs_at}
 use Rattle.csdf_core.specs.State.{Present, present, opening}
-use Rattle.csdf_core.specs.Step.{count, stage, is_stage, is_open, is_over, exists, producer, refusal, first_of}
+use Rattle.csdf_core.specs.Step.{count, stage, is_stage, is_open, is_over, exists, producer, refusal}
 use Rattle.csdf_core.specs.Shows.{View, Shows}
 use Rattle.csdf_core.specs.Streams.{peak_of}
 use Rattle.csdf_floor.specs.declared.fault.DeliverFault.{DeliverFault}
@@ -22,11 +22,12 @@ use Rattle.csdf_floor.specs.declared.fault.StartFault.TheVariants.{Unknown, Move
 use Rattle.csdf_floor.specs.Journal.{Program, IsHonest, state_of, reads_of, replies_to, inputs, output_counts, sink_tokens}
 use Rattle.csdf_floor.specs.Work.{Work, IsWork, program, is_sink_kernel}
 
--- what contracts see of a floor
+-- what contracts see of a floor; its journal is all moves that were made, whether it keeps them as data or not
 pub record FloorView : Type 0 where
   pub work : Work
   pub core : View
   pub journal : List Move
+  pub keeps : Bool
   pub sinks : List (List ℤ)
 
 -- the core plays the program, the journal is honest, and the core shows the state that it leads to
@@ -100,10 +101,11 @@ IsStartAnswer (Some why) result = result ≡ Err why
 IsStartAnswer None (Ok job) = Unit {0}
 IsStartAnswer None (Err why) = why ≡ Memory
 
--- these moves were made, and went to the end of the journal
+-- these moves were made, and went to the end of the journal, which keeps them as before
 pub record HasGone (old new : FloorView) (moves : List Move) : Type 0 where
   pub work : new.work ≡ old.work
   pub journal : new.journal ≡ old.journal ++ moves
+  pub keeps : new.keeps ≡ old.keeps
 
 -- the closes of those of the channels that are open and whose producer makes no firing more, in this order
 abbrev pub closes : Plan → Present → List ℕ → List Move

@@ -13,7 +13,7 @@ use Rattle.csdf_core.specs.State.{Present, opening}
 use Rattle.csdf_core.specs.Step.{count, stage, is_open, is_over, producer}
 use Rattle.csdf_core.specs.Shows.{raised_over}
 use Rattle.csdf_core.specs.Next.{next}
-use Rattle.csdf_floor.specs.Journal.{Program, reads_of}
+use Rattle.csdf_floor.specs.Journal.{reads_of}
 use Rattle.csdf_floor.specs.Work.{IsWork, program, is_sink_kernel}
 use Rattle.csdf_floor.specs.Floor.{FloorView, IsKept, HasGone, closes, sinks_of}
 
@@ -44,10 +44,12 @@ pub record ListsView : Type 0 where
   pub lists : List (List ℤ)
   pub rooms : List ℕ
 
--- what is run, the core, its journal and what the sinks took, with room for so many moves and tokens more; and what each actor read last
+-- what is run, the core, its journal and what the sinks took; for how many moves more the journal has room, for how many tokens of the next one, and for how
+-- many tokens more the sinks have; and what each actor read last
 pub record BookView : Type 0 where
   pub shown : FloorView
   pub room : ℕ
+  pub width : ℕ
   pub rooms : List ℕ
   pub reads : List (List ℤ)
 
@@ -65,10 +67,10 @@ pub record IsBook (f : FloorView) (reads : List (List ℤ)) : Type 0 where
   pub last_reads : (a : ℕ) → a < length f.core.plan.sources → stage f.core.now a ≡ Fetched
       → slice_index_or reads a [] ≡ slice_index_or (reads_of (program f.work) f.journal) a []
 
--- one move more was made, which took one place of the room
+-- one move more was made, which took one place of the room at most
 pub record IsNext (old new : BookView) (m : Move) : Type 0 where
   pub gone : HasGone old.shown new.shown (m ∷ [])
-  pub room : new.room + 1 ≡ old.room
+  pub room : old.room ≤ new.room + 1
   pub plan : new.shown.core.plan ≡ old.shown.core.plan
   pub now : new.shown.core.now ≡ next old.shown.core.plan old.shown.core.now m
 
@@ -94,7 +96,7 @@ pub record HasTaken (old new : BookView) (a : ℕ) : Type 0 where
 -- the actor has written these tokens and ended its firing, and nothing else has changed
 pub record HasGiven (old new : BookView) (a : ℕ) (v : List ℤ) : Type 0 where
   pub gone : HasGone old.shown new.shown (Write a v ∷ Finish a ∷ [])
-  pub room : new.room + 2 ≡ old.room
+  pub room : old.room ≤ new.room + 2
   pub plan : new.shown.core.plan ≡ old.shown.core.plan
   pub counts : new.shown.core.now.counts ≡ slice_set old.shown.core.now.counts a (suc (count old.shown.core.now a))
   pub stages : new.shown.core.now.stages ≡ slice_set old.shown.core.now.stages a Idle

@@ -1,10 +1,10 @@
 -- What a run answers: its ending, what its sinks took, its journal, and what is told of each channel.
-use Rattle.std.specs.Prelude.{ℕ, ◌≡◌, ◌<◌, ◌≤◌, ◌+◌, false, List, [], ℤ, None, Option, Result, Ok, Err, if◌then◌else◌, length, map, slice_index, slice_index_or}
+use Rattle.std.specs.Prelude.{ℕ, ◌≡◌, ◌<◌, ◌≤◌, ◌+◌, false, List, [], ℤ, None, Option, Result, Ok, Err, if◌then◌else◌, length, map, slice_index_or}
 use Rattle.std.specs.List.{range_with_len}
 use Rattle.csdf_model.specs.declared.parts.Kernel.TheVariants.{Sink}
 use Rattle.csdf_analysis.specs.Acceptance.{Accepted}
 use Rattle.csdf_core.specs.Headline.{KeepsOrder, KeepsCapacities, KeepsClosed, capacity_of}
-use Rattle.csdf_core.specs.Moves.{Move, move_of}
+use Rattle.csdf_core.specs.Moves.{Move}
 use Rattle.csdf_core.specs.Plan.{HasAmpleCells}
 use Rattle.csdf_core.specs.State.{present, opening}
 use Rattle.csdf_core.specs.Step.{IsQuiet, IsSettled, is_open, is_spent}
@@ -18,7 +18,7 @@ use Rattle.csdf_floor.specs.declared.fault.RunFault.TheVariants as fault
 use Rattle.csdf_floor.specs.Endings.{IsEnding}
 use Rattle.csdf_floor.specs.Floor.{FloorView, sinks_of}
 use Rattle.csdf_floor.specs.Journal.{Program, IsHonest, program_for, replies_to, state_of}
-use Rattle.csdf_floor.specs.Laws.{AllSpent, AreAmple, taken_in, written_in}
+use Rattle.csdf_floor.specs.Laws.{AreAmple, taken_in, written_in}
 use Rattle.csdf_floor.specs.Sequential.{IsSequential, sequential_sink, sequential_state}
 use Rattle.csdf_floor.specs.Work.{Work, feeds_in, is_sink_kernel, program}
 
@@ -54,7 +54,7 @@ IsSettleAnswer end (Err fault.Worker) = ⊥
 -- ---- what an outcome keeps
 
 abbrev pub journal_in : Outcome → List Move
-journal_in o = map move_of o.journal.items
+journal_in o = o.journal.moves
 
 abbrev pub HasHonestJournal : Program → Outcome → Type 0
 HasHonestJournal w o = IsHonest w (journal_in o)

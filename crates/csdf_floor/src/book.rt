@@ -1,17 +1,18 @@
 //! A core, and the moves that brought it where it is.
 
-ghost use Rattle.std.specs.Prelude.{ℕ, ◌≡◌, ◌≢◌, ◌↔◌, IsTrue, All, ◌+◌, ◌<◌, ◌≤◌, [], ◌∷◌, None, true, false, pos, IfOk, OnOk, length, map};
+ghost use Rattle.std.specs.Prelude.{ℕ, ◌≡◌, ◌≢◌, ◌↔◌, IsTrue, All, ◌+◌, ◌<◌, ◌≤◌, [], ◌∷◌, None, true, false, pos, IfOk, OnOk, IsOk, length, map};
 ghost use Rattle.std.specs.Prelude.{replicate, slice_range, suc, slice_index, slice_index_or};
 ghost use Rattle.std.specs.List.{range_with_len};
 ghost use Rattle.csdf_model.specs.declared.parts.Kernel.TheVariants.{Sink};
 ghost use Rattle.csdf_core.specs.declared.stage.Stage.TheVariants.{Idle, Begun, Fetched, Written};
-ghost use Rattle.csdf_core.specs.Moves.{Begin, Read, Write, Finish, Close, move_of};
+ghost use Rattle.csdf_core.specs.Moves.{Begin, Read, Write, Finish, Close};
 ghost use Rattle.csdf_core.specs.Plan.{Channel as ChannelModel};
 ghost use Rattle.csdf_core.specs.Ports.{outputs_at};
 ghost use Rattle.csdf_core.specs.Rows.{need};
 ghost use Rattle.csdf_core.specs.Shows.{Shows};
 ghost use Rattle.csdf_core.specs.State.{opening, present};
 ghost use Rattle.csdf_core.specs.Step.{count, given, stage, refusal, is_over, producer};
+ghost use Rattle.csdf_journal.specs.View.{is_kept};
 ghost use Rattle.csdf_kernel.specs.Value.{HasFilterInRange};
 ghost use Rattle.csdf_floor.specs.Journal.{IsHonest, inputs, output_counts, value, reads_of, state_of};
 ghost use Rattle.csdf_floor.specs.Work.{IsWork, program, feed_of, feeds_in, is_sink_kernel};
@@ -25,7 +26,8 @@ use crate::lists::Lists;
 use crate::outcome::ChannelReport;
 use crate::same::{are_same_tokens, is_same_kernel};
 use crate::work::Work;
-use csdf_core::{Core, Move, Stage};
+use csdf_core::{Core, Stage};
+use csdf_journal::{Journal, Keeping};
 use csdf_kernel::{Counts, Inputs, Job};
 use csdf_model::Kernel;
 use std::alloc::{AllocError, Global};
@@ -35,7 +37,7 @@ use std::marker::Model;
 pub(crate) struct Book {
     work: Work,
     core: Core,
-    moves: Vec<Move>,
+    journal: Journal,
     sinks: Lists,
     reads: Vec<Vec<i32>>,
 }
@@ -45,7 +47,7 @@ impl Drop for Book {
         let Book {
             work: _,
             core: _,
-            moves: _,
+            journal: _,
             sinks: _,
             reads: _,
         } = self;
@@ -53,21 +55,20 @@ impl Drop for Book {
 }
 
 impl Model for Book {
-    ghost use Rattle.std.specs.Prelude.{map, ◌-◌, vec_capacity, vec_len};
-    ghost use Rattle.csdf_core.specs.Moves.{move_of};
     ghost use Rattle.csdf_floor.specs.Work.{feeds_in};
     ghost use Rattle.csdf_floor.specs.Inside.{BookView, IsBook};
 
     ghost Value = { BookView };
 
     ghost view = { λ b. record {
-      shown = record { work = b.work; core = b.core; journal = map move_of b.moves.items; sinks = b.sinks.lists };
-      room = vec_capacity b.moves - vec_len b.moves;
+      shown = record { work = b.work; core = b.core; journal = b.journal.moves; keeps = b.journal.keeps; sinks = b.sinks.lists };
+      room = b.journal.room;
+      width = b.journal.width;
       rooms = b.sinks.rooms;
       reads = feeds_in b.reads.items;
     } };
 
-    ghost invariant = { λ b. IsBook (record { work = b.work; core = b.core; journal = map move_of b.moves.items; sinks = b.sinks.lists })
+    ghost invariant = { λ b. IsBook (record { work = b.work; core = b.core; journal = b.journal.moves; keeps = b.journal.keeps; sinks = b.sinks.lists })
         (feeds_in b.reads.items) };
 }
 
@@ -105,9 +106,10 @@ fn core_of(alloc: Global, work: &Work) -> Result<Core, AllocError>
 
 impl Book {
     /// The book of a core that has not moved.
-    pub(crate) fn open(alloc: Global, work: Work) -> Result<Book, AllocError>
+    pub(crate) fn open(alloc: Global, work: Work, keeping: Keeping) -> Result<Book, AllocError>
         ensures work { IfOk result (λ book. book.shown.work ≡ work) }
         ensures journal { IfOk result (λ book. book.shown.journal ≡ []) }
+        ensures keeps { IfOk result (λ book. book.shown.keeps ≡ is_kept keeping) }
         ensures opening { IfOk result (λ book. book.shown.core.now ≡ present (opening book.shown.core.plan)) }
     {
         let core = core_of(alloc, &work)?;
@@ -115,7 +117,7 @@ impl Book {
         Ok(Book {
             work,
             core,
-            moves: Vec::new(alloc),
+            journal: Journal::new(alloc, keeping),
             sinks,
             reads,
         })
@@ -136,12 +138,13 @@ impl Book {
         &self.core
     }
 
-    /// The moves, in order.
-    pub(crate) fn journal(&self) -> &[Move]
-        ensures value { map move_of result.now ≡ self.now.shown.journal }
+    /// The journal of all moves.
+    pub(crate) fn journal(&self) -> &Journal
+        ensures value { result.now.moves ≡ self.now.shown.journal }
+        ensures keeps { result.now.keeps ≡ self.now.shown.keeps }
         ensures honest { IsHonest (program self.now.shown.work) self.now.shown.journal }
     {
-        &self.moves
+        &self.journal
     }
 
     /// What each sink took.
@@ -157,8 +160,19 @@ impl Book {
         ensures rooms { self.new.rooms ≡ self.old.rooms }
         ensures reads { self.new.reads ≡ self.old.reads }
         ensures room { OnOk result (more ≤ self.new.room) }
+        ensures width { self.new.width ≡ self.old.width }
+        ensures takes_nothing { self.old.shown.keeps ≡ false → IsOk result }
     {
-        self.moves.reserve(more)
+        self.journal.reserve(more)
+    }
+
+    /// Makes room for a copy of so many tokens, those of the next move where it is a write.
+    fn reserve_copy(&mut self, alloc: Global, tokens: usize) -> Result<(), AllocError>
+        ensures shown { self.new.shown ≡ self.old.shown }
+        ensures width { OnOk result (tokens ≤ self.new.width) }
+        ensures takes_nothing { self.old.shown.keeps ≡ false → IsOk result }
+    {
+        self.journal.reserve_copy(alloc, tokens)
     }
 
     /// Makes the buffer of the actor, which is idle, as long as its next firing needs.
@@ -203,6 +217,24 @@ impl Book {
         self.reserve(2)
     }
 
+    /// Makes room for all that the actor's present firing ends with, which writes so many tokens: its
+    /// last two moves, and the closing of its outputs. It takes memory only where the journal is kept.
+    pub(crate) fn make_room_to_give(
+        &mut self,
+        alloc: Global,
+        actor: u32,
+        tokens: usize,
+    ) -> Result<(), AllocError>
+        requires { actor < length self.old.shown.core.plan.sources }
+        ensures shown { self.new.shown ≡ self.old.shown }
+        ensures room { OnOk result (2 + length (outputs_at self.old.shown.core.plan.channels actor) ≤ self.new.room) }
+        ensures width { OnOk result (tokens ≤ self.new.width) }
+        ensures takes_nothing { self.old.shown.keeps ≡ false → IsOk result }
+    {
+        self.reserve_copy(alloc, tokens)?;
+        self.reserve(2 + self.output_count(actor))
+    }
+
     /// Begins the actor's next firing, which may begin, and takes its tokens.
     pub(crate) fn take(&mut self, actor: u32)
         requires room { HasRoom self.old actor }
@@ -223,7 +255,7 @@ impl Book {
         ensures reads { self.new.reads ≡ self.old.reads }
     {
         self.core.begin_tested(actor);
-        self.moves.push_reserved(Move::Begin(actor));
+        self.journal.note_begin(actor);
     }
 
     /// Takes the tokens of the actor's firing, which has begun, into the actor's buffer.
@@ -241,19 +273,20 @@ impl Book {
         certain::read(&mut self.core, actor, buffer);
         let is_sink = self.work.is_sink(actor);
         self.sinks.append_where(is_sink, actor, buffer);
-        self.moves.push_reserved(Move::Read(actor));
+        self.journal.note_read(actor);
     }
 
     /// Writes the value of the actor's firing, which has read.
-    pub(crate) fn write(&mut self, actor: u32, tokens: Vec<i32>)
+    pub(crate) fn write(&mut self, actor: u32, tokens: &[i32])
         requires room { 0 < self.old.room }
-        requires accepted { refusal self.old.shown.core.plan self.old.shown.core.now (Write actor tokens.items) ≡ None }
-        requires just { tokens.items ≡ value (program self.old.shown.work) actor (count self.old.shown.core.now actor)
+        requires width { length tokens.now ≤ self.old.width }
+        requires accepted { refusal self.old.shown.core.plan self.old.shown.core.now (Write actor tokens.now) ≡ None }
+        requires just { tokens.now ≡ value (program self.old.shown.work) actor (count self.old.shown.core.now actor)
             (slice_index_or (reads_of (program self.old.shown.work) self.old.shown.journal) actor []) }
-        ensures next { IsNext self.old self.new (Write actor tokens.items) }
+        ensures next { IsNext self.old self.new (Write actor tokens.now) }
     {
-        certain::write(&mut self.core, actor, &tokens);
-        self.moves.push_reserved(Move::Write(actor, tokens));
+        certain::write(&mut self.core, actor, tokens);
+        self.journal.note_write(actor, tokens);
     }
 
     /// Ends the actor's firing, which has written.
@@ -263,17 +296,18 @@ impl Book {
         ensures next { IsNext self.old self.new (Finish actor) }
     {
         certain::finish(&mut self.core, actor);
-        self.moves.push_reserved(Move::Finish(actor));
+        self.journal.note_finish(actor);
     }
 
     /// Writes the value of the actor's firing, which has read, and ends the firing.
-    pub(crate) fn give(&mut self, actor: u32, tokens: Vec<i32>)
+    pub(crate) fn give(&mut self, actor: u32, tokens: &[i32])
         requires room { 2 ≤ self.old.room }
+        requires width { length tokens.now ≤ self.old.width }
         requires exists { actor < length self.old.shown.core.plan.sources }
         requires has_read { stage self.old.shown.core.now actor ≡ Fetched }
-        requires just { tokens.items ≡ value (program self.old.shown.work) actor (count self.old.shown.core.now actor)
+        requires just { tokens.now ≡ value (program self.old.shown.work) actor (count self.old.shown.core.now actor)
             (slice_index_or (reads_of (program self.old.shown.work) self.old.shown.journal) actor []) }
-        ensures { HasGiven self.old self.new actor tokens.items }
+        ensures { HasGiven self.old self.new actor tokens.now }
     {
         let _ = &self.work;
         self.write(actor, tokens);
@@ -289,7 +323,7 @@ impl Book {
         ensures next { IsNext self.old self.new (Close channel) }
     {
         certain::close(&mut self.core, channel);
-        self.moves.push_reserved(Move::Close(channel));
+        self.journal.note_close(channel);
     }
 
     /// Closes the channel, whose producer is idle, where it is open and its producer makes no firing
@@ -400,19 +434,20 @@ impl Book {
         true
     }
 
-    /// The moves, in order, and what each sink took.
-    pub(crate) fn into_parts(self) -> (Vec<Move>, Vec<Vec<i32>>)
-        ensures moves { map move_of result.0.items ≡ self.shown.journal }
+    /// The journal, and what each sink took.
+    pub(crate) fn into_parts(self) -> (Journal, Vec<Vec<i32>>)
+        ensures moves { result.0.moves ≡ self.shown.journal }
+        ensures keeps { result.0.keeps ≡ self.shown.keeps }
         ensures sinks { feeds_in result.1.items ≡ self.shown.sinks }
     {
         let Book {
             work: _,
             core: _,
-            moves,
+            journal,
             sinks,
             reads: _,
         } = self;
-        (moves, sinks.into_lists())
+        (journal, sinks.into_lists())
     }
 
     /// The actor's kernel.
@@ -424,28 +459,31 @@ impl Book {
         self.work.kernel(actor)
     }
 
-    /// How many tokens the actor's next firing writes to each output, in file order.
-    pub(crate) fn counts(&self, alloc: Global, actor: u32) -> Result<Counts, AllocError>
+    /// How many tokens the actor's next firing writes to each output, in file order, in the place of
+    /// what the list holds.
+    pub(crate) fn counts_into(&self, actor: u32, counts: &mut Counts) -> Result<(), AllocError>
         requires { actor < length self.now.shown.core.plan.sources }
-        ensures value { IfOk result (λ counts. counts.items ≡ output_counts (program self.now.shown.work) actor (count self.now.shown.core.now actor)) }
-        ensures few { IfOk result (λ counts. length counts.items ≤ 128) }
-        ensures small { IfOk result (λ counts. All (λ n. n ≤ 64) counts.items) }
+        ensures value { OnOk result (counts.new.items ≡ output_counts (program self.now.shown.work) actor (count self.now.shown.core.now actor)) }
+        ensures few { OnOk result (length counts.new.items ≤ 128) }
+        ensures small { OnOk result (All (λ n. n ≤ 64) counts.new.items) }
     {
-        self.work.counts(alloc, actor, self.core.fired(actor))
+        self.work.counts_into(actor, self.core.fired(actor), counts)
     }
 
-    /// The inputs of the actor's next firing, with zeros in the place of what it will read.
-    pub(crate) fn blank_inputs(&self, alloc: Global, actor: u32) -> Result<Inputs, AllocError>
+    /// The inputs of the actor's next firing, with zeros in the place of what it will read, in the
+    /// place of what the list holds.
+    pub(crate) fn blank_into(&self, actor: u32, into: &mut Inputs) -> Result<(), AllocError>
         requires exists { actor < length self.now.shown.core.plan.sources }
-        ensures value { IfOk result (λ v. v.items
+        ensures value { OnOk result (into.new.items
             ≡ inputs (program self.now.shown.work) actor (count self.now.shown.core.now actor)
             (replicate (need actor (count self.now.shown.core.now actor) self.now.shown.core.plan.channels) (pos 0))) }
-        ensures few { IfOk result (λ v. length v.items ≤ 8192) }
+        ensures few { OnOk result (length into.new.items ≤ 8192) }
     {
         if !self.work.is_source(actor) {
-            return blank(alloc, self.core.need(actor));
+            return blank(into, self.core.need(actor));
         }
-        Inputs::from_slice(alloc, self.feed_part(actor))
+        into.clear();
+        into.extend_from_slice(self.feed_part(actor))
     }
 
     /// The part of its feed that the next firing of a source computes from.

@@ -1,13 +1,15 @@
 //! The floor on which firings are started and their results delivered.
 
-ghost use Rattle.std.specs.Prelude.{◌≡◌, ◌<◌, ◌≤◌, ◌++◌, ◌↔◌, [], ◌∷◌, All, IsTrue, IfOk, OnOk, OnErr, length, map};
+ghost use Rattle.std.specs.Prelude.{◌≡◌, ◌≢◌, ◌<◌, ◌≤◌, ◌++◌, ◌↔◌, [], ◌∷◌, All, Err, IsTrue, IfOk, IfSome, OnOk, OnErr, length, map, true, false};
 ghost use Rattle.std.specs.List.{range_with_len};
 ghost use Rattle.csdf_core.specs.Moves.{Begin, Read, move_of};
 ghost use Rattle.csdf_core.specs.Ports.{outputs_at};
 ghost use Rattle.csdf_core.specs.Shows.{Shows};
 ghost use Rattle.csdf_core.specs.State.{opening, present};
 ghost use Rattle.csdf_core.specs.Step.{is_open, is_over, IsQuiet};
-ghost use Rattle.csdf_kernel.specs.Value.{HasFilterInRange};
+ghost use Rattle.csdf_journal.specs.View.{is_kept, told};
+ghost use Rattle.csdf_kernel.specs.Value.{HasFilterInRange, value_of};
+ghost use Rattle.csdf_floor.specs.declared.fault.DeliverFault.TheVariants.{Memory};
 ghost use Rattle.csdf_floor.specs.Journal.{IsHonest};
 ghost use Rattle.csdf_floor.specs.Work.{AreFeeds, feeds_in, program};
 ghost use Rattle.csdf_floor.specs.Outcome.{HasTotals, IsEndOf, IsOutcome, journal_in};
@@ -21,11 +23,12 @@ use crate::outcome::Outcome;
 use crate::work::Work;
 use csdf_analysis::Accepted;
 use csdf_core::{Core, Move};
+use csdf_journal::Keeping;
 use csdf_kernel::{Done, Job};
 use std::alloc::{AllocError, Global};
 use std::marker::Model;
 
-/// What a run keeps under its lock: a core, the moves that it made, and what the sinks took.
+/// What a run keeps under its lock: a core, the journal of its moves, and what the sinks took.
 ///
 /// Each actor is idle, or has read the tokens of its firing, whose job is under way. A channel is
 /// closed exactly where its producer is idle and makes no firing more.
@@ -56,6 +59,7 @@ fn opened(
     feeds: &[Vec<i32>],
     periods: u32,
     firings: Option<u32>,
+    keeping: Keeping,
 ) -> Result<Book, AllocError>
     requires fed { AreFeeds accepted.now.graph (feeds_in feeds.now) }
     requires some_period { 1 ≤ periods }
@@ -64,15 +68,17 @@ fn opened(
         ≡ record { accepted = accepted.now; feeds = feeds_in feeds.now; periods = periods; firings = firings }) }
     ensures journal { IfOk result (λ book. book.shown.journal ≡ []) }
     ensures opening { IfOk result (λ book. book.shown.core.now ≡ present (opening book.shown.core.plan)) }
+    ensures keeps { IfOk result (λ book. book.shown.keeps ≡ is_kept keeping) }
 {
     let work = Work::new(alloc, accepted, feeds, periods, firings)?;
-    Book::open(alloc, work)
+    Book::open(alloc, work, keeping)
 }
 
 impl Floor {
     /// A floor on which nothing has fired, for so many periods of the graph over copies of these
     /// feeds, one for each actor and empty for one that is no source; with a limit on all firings
-    /// where there is one. Each channel whose producer makes no firing at all is closed.
+    /// where there is one. Each channel whose producer makes no firing at all is closed. The journal
+    /// is kept.
     ///
     /// An error says that memory ran out.
     pub fn new(
@@ -89,8 +95,30 @@ impl Floor {
             ≡ record { accepted = accepted.now; feeds = feeds_in feeds.now; periods = periods; firings = firings }) }
         ensures journal { IfOk result (λ floor. floor.journal
             ≡ closes floor.core.plan (present (opening floor.core.plan)) (range_with_len 0 (length floor.core.plan.channels))) }
+        ensures keeps { IfOk result (λ floor. floor.keeps ≡ true) }
     {
-        let mut book = opened(alloc, accepted, feeds, periods, firings)?;
+        Floor::with_journal(alloc, accepted, feeds, periods, firings, Keeping::Kept)
+    }
+
+    /// As [`Floor::new`], with a journal that is kept or not. One that is not kept takes no memory.
+    pub fn with_journal(
+        alloc: Global,
+        accepted: &Accepted,
+        feeds: &[Vec<i32>],
+        periods: u32,
+        firings: Option<u32>,
+        keeping: Keeping,
+    ) -> Result<Floor, AllocError>
+        requires fed { AreFeeds accepted.now.graph (feeds_in feeds.now) }
+        requires some_period { 1 ≤ periods }
+        requires few_periods { periods ≤ 1000 }
+        ensures work { IfOk result (λ floor. floor.work
+            ≡ record { accepted = accepted.now; feeds = feeds_in feeds.now; periods = periods; firings = firings }) }
+        ensures journal { IfOk result (λ floor. floor.journal
+            ≡ closes floor.core.plan (present (opening floor.core.plan)) (range_with_len 0 (length floor.core.plan.channels))) }
+        ensures keeps { IfOk result (λ floor. floor.keeps ≡ is_kept keeping) }
+    {
+        let mut book = opened(alloc, accepted, feeds, periods, firings, keeping)?;
         book.reserve(book.core().channels() as usize)?;
         book.close_at_first();
         Ok(Floor { book })
@@ -104,12 +132,19 @@ impl Floor {
         self.book.core()
     }
 
-    /// All moves that were made, in order.
+    /// Whether the journal is kept.
+    pub fn keeps_journal(&self) -> bool
+        ensures { result ≡ self.now.keeps }
+    {
+        self.book.journal().keeps()
+    }
+
+    /// All moves that were made, in order, where the journal is kept; an empty list where it is not.
     pub fn journal(&self) -> &[Move]
-        ensures value { map move_of result.now ≡ self.now.journal }
+        ensures value { map move_of result.now ≡ told self.now.keeps self.now.journal }
         ensures honest { IsHonest (program self.now.work) self.now.journal }
     {
-        self.book.journal()
+        self.book.journal().moves()
     }
 
     /// What each sink took, in order; empty for an actor that is no sink.
@@ -149,40 +184,70 @@ impl Floor {
         ensures ready { IfOk result IsReady }
         ensures unchanged { OnErr result (self.new ≡ self.old) }
     {
+        let mut job = Job::blank(alloc);
+        self.start_into(actor, firing, &mut job)?;
+        Ok(job)
+    }
+
+    /// As [`Floor::start`], with the job in the place of another.
+    ///
+    /// A refusal leaves the other job as it was; where memory runs out, nothing is told of what is in
+    /// its place.
+    pub fn start_into(&mut self, actor: u32, firing: u32, job: &mut Job) -> Result<(), StartFault>
+        ensures answer { IsStartAnswer (start_refusal self.old actor firing) result }
+        ensures gone { OnOk result (HasGone self.old self.new (Begin actor ∷ Read actor ∷ [])) }
+        ensures job { OnOk result ((task_of job.new ≡ present_task self.new actor) × IsUnderWay self.new (task_of job.new)) }
+        ensures firing { OnOk result (job.new.firing ≡ firing) }
+        ensures ready { OnOk result (IsReady job.new) }
+        ensures unchanged { OnErr result (self.new ≡ self.old) }
+        ensures job_stays { IfSome (start_refusal self.old actor firing) (λ _. job.new ≡ job.old) }
+    {
         if let Some(fault) = self.start_refusal(actor, firing) {
             return Err(fault);
         }
-        let counts = self.book.counts(alloc, actor)?;
-        let mut inputs = self.book.blank_inputs(alloc, actor)?;
+        self.book.counts_into(actor, &mut job.counts)?;
+        self.book.blank_into(actor, &mut job.inputs)?;
         self.book.make_room(actor)?;
         self.book.take(actor);
-        self.book.fill(actor, &mut inputs);
-        Ok(Job {
-            kernel: self.book.kernel(actor),
-            actor,
-            firing,
-            counts,
-            inputs,
-        })
+        self.book.fill(actor, &mut job.inputs);
+        job.kernel = self.book.kernel(actor);
+        job.actor = actor;
+        job.firing = firing;
+        Ok(())
     }
 
     /// Takes the result of a firing that is under way: its tokens are written, the firing ends, and
     /// each output is closed if the actor makes no firing more.
     ///
     /// The refusals come in the order of [`DeliverFault`]. A refusal changes nothing that a reader
-    /// shows.
+    /// shows. Memory runs out only where the journal is kept.
     pub fn deliver(&mut self, alloc: Global, done: &Done) -> Result<(), DeliverFault>
         ensures answer { IsDeliverAnswer self.old (task_of done.now) result }
         ensures gone { OnOk result (HasGone self.old self.new (ending_of (task_of done.now) ++ closes_after self.old (task_of done.now))) }
         ensures unchanged { OnErr result (self.new ≡ self.old) }
+        ensures takes_nothing { self.old.keeps ≡ false → result ≢ Err Memory }
     {
-        let job = done.job();
+        self.deliver_value(alloc, done.job(), done.outputs())
+    }
+
+    /// As [`Floor::deliver`], of a job and its kernel's value.
+    pub fn deliver_value(
+        &mut self,
+        alloc: Global,
+        job: &Job,
+        tokens: &[i32],
+    ) -> Result<(), DeliverFault>
+        requires { tokens.now ≡ value_of job.now.kernel job.now.counts.items job.now.inputs.items }
+        ensures answer { IsDeliverAnswer self.old (task_of job.now) result }
+        ensures gone { OnOk result (HasGone self.old self.new (ending_of (task_of job.now) ++ closes_after self.old (task_of job.now))) }
+        ensures unchanged { OnErr result (self.new ≡ self.old) }
+        ensures takes_nothing { self.old.keeps ≡ false → result ≢ Err Memory }
+    {
         if !self.book.is_under_way(job) {
             return Err(DeliverFault::Stranger);
         }
         let actor = job.actor;
-        let tokens = Vec::from_slice(alloc, done.outputs())?;
-        self.book.reserve(2 + self.book.output_count(actor))?;
+        self.book.make_room_to_give(alloc, actor, tokens.len())?;
         self.book.give(actor, tokens);
         self.book.close_outputs(actor);
         Ok(())
@@ -210,6 +275,7 @@ impl Floor {
         requires { IsQuiet self.core.plan self.core.now }
         ensures outcome { IfOk result (IsOutcome self.work) }
         ensures journal { IfOk result (λ o. journal_in o ≡ self.journal) }
+        ensures keeps { IfOk result (λ o. o.journal.keeps ≡ self.keeps) }
         ensures totals { IfOk result (λ o. HasTotals (program self.work) o self.core.now.counts) }
     {
         let report = self.book.report(alloc)?;

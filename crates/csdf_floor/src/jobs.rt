@@ -1,15 +1,18 @@
 //! The inputs of jobs.
 
-ghost use Rattle.std.specs.Prelude.{◌≡◌, IfOk, length, replicate, pos};
+ghost use Rattle.std.specs.Prelude.{◌≡◌, OnOk, length, replicate, pos};
 
-use csdf_kernel::Inputs;
-use std::alloc::{AllocError, Global};
+use csdf_kernel::{Inputs, push_same};
+use std::alloc::AllocError;
 
-/// As many zeros.
-pub(crate) fn blank(alloc: Global, count: usize) -> Result<Inputs, AllocError>
-    ensures { IfOk result (λ inputs. inputs.items ≡ replicate count (pos 0)) }
+/// As many zeros, in the place of what the list holds.
+pub(crate) fn blank(inputs: &mut Inputs, count: usize) -> Result<(), AllocError>
+    ensures { OnOk result (inputs.new.items ≡ replicate count (pos 0)) }
 {
-    Inputs::from_elem(alloc, 0, count)
+    inputs.clear();
+    inputs.reserve(count)?;
+    push_same(inputs, count, 0);
+    Ok(())
 }
 
 /// The tokens in the place of as many others.

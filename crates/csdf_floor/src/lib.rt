@@ -16,6 +16,7 @@ mod same;
 mod settling;
 mod work;
 
+pub use csdf_journal::{Journal, Keeping};
 pub use ending::Ending;
 pub use fault::{DeliverFault, RunFault, StartFault};
 pub use floor::Floor;

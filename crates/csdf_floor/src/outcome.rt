@@ -1,7 +1,7 @@
 //! What a run answers.
 
 use crate::ending::Ending;
-use csdf_core::Move;
+use csdf_journal::Journal;
 
 /// What is told of a channel at the end of a run.
 #[derive(Clone, Copy, Debug, PartialEq, Eq)]
@@ -27,8 +27,8 @@ pub struct Outcome {
     pub ending: Ending,
     /// What each sink took, in order; empty for an actor that is no sink.
     pub sinks: Vec<Vec<i32>>,
-    /// All moves, in order.
-    pub journal: Vec<Move>,
+    /// The journal of all moves, which keeps them where the floor did.
+    pub journal: Journal,
     /// What is told of each channel, in file order.
     pub report: Vec<ChannelReport>,
 }

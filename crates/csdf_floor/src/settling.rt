@@ -39,6 +39,7 @@ pub fn settle(
     ensures answer { IsSettleAnswer
         (IsEndOf floor (record { accepted = accepted.now; feeds = feeds_in feeds.now; periods = periods; firings = firings }) totals.now) result }
     ensures journal { IfOk result (λ o. journal_in o ≡ floor.journal) }
+    ensures keeps { IfOk result (λ o. o.journal.keeps ≡ floor.keeps) }
     ensures honest { IfOk result (HasHonestJournal (program_for accepted.now (feeds_in feeds.now) periods firings)) }
     ensures settled { IfOk result (EndsSettled (program_for accepted.now (feeds_in feeds.now) periods firings)) }
     ensures order { IfOk result (TakesInOrder (program_for accepted.now (feeds_in feeds.now) periods firings)) }

@@ -1,6 +1,6 @@
 //! What a run is asked for, and what its firings compute from.
 
-ghost use Rattle.std.specs.Prelude.{◌≡◌, ◌↔◌, ◌==◌, ◌+◌, ◌*◌, ◌^◌, ◌<◌, ◌≤◌, All, IsTrue, IfOk, filter, length, map, slice_index, slice_index_or, slice_range};
+ghost use Rattle.std.specs.Prelude.{◌≡◌, ◌↔◌, ◌==◌, ◌+◌, ◌*◌, ◌^◌, ◌<◌, ◌≤◌, All, IsTrue, IfOk, OnOk, filter, length, map, slice_index, slice_index_or, slice_range};
 ghost use Rattle.csdf_model.specs.declared.parts.Kernel.TheVariants.{Sink};
 ghost use Rattle.csdf_model.specs.Graph.{Actor as ActorModel, Channel as ChannelModel};
 ghost use Rattle.csdf_model.specs.Rates.{production};
@@ -167,18 +167,24 @@ fn production_of(graph: &Graph, channel: u32, firing: u32) -> u32
     graph.channels()[channel as usize].production(firing)
 }
 
-/// How many tokens the firing writes to each output of its actor, in file order.
-fn counts_of(alloc: Global, graph: &Graph, actor: u32, firing: u32) -> Result<Counts, AllocError>
+/// How many tokens the firing writes to each output of its actor, in file order, in the place of what
+/// the list holds.
+fn counts_into(
+    graph: &Graph,
+    actor: u32,
+    firing: u32,
+    counts: &mut Counts,
+) -> Result<(), AllocError>
     requires { actor < length graph.now.actors }
-    ensures value { IfOk result (λ counts. counts.items ≡ map (λ c. production c firing) (filter (λ c. c.from == actor) graph.now.channels)) }
-    ensures few { IfOk result (λ counts. length counts.items ≤ 128) }
-    ensures small { IfOk result (λ counts. All (λ n. n ≤ 64) counts.items) }
+    ensures value { OnOk result (counts.new.items ≡ map (λ c. production c firing) (filter (λ c. c.from == actor) graph.now.channels)) }
+    ensures few { OnOk result (length counts.new.items ≤ 128) }
+    ensures small { OnOk result (All (λ n. n ≤ 64) counts.new.items) }
 {
-    let mut counts = Counts::new(alloc);
+    counts.clear();
     for channel in graph.outputs(actor) {
         counts.push(production_of(graph, *channel, firing))?;
     }
-    Ok(counts)
+    Ok(())
 }
 
 /// Whether these are what the firing writes to each output of its actor, in file order.
@@ -324,19 +330,20 @@ impl Work {
         self.accepted.capacities()[channel as usize]
     }
 
-    /// How many tokens the firing writes to each output, in file order.
-    pub(crate) fn counts(
+    /// How many tokens the firing writes to each output, in file order, in the place of what the list
+    /// holds.
+    pub(crate) fn counts_into(
         &self,
-        alloc: Global,
         actor: u32,
         firing: u32,
-    ) -> Result<Counts, AllocError>
+        counts: &mut Counts,
+    ) -> Result<(), AllocError>
         requires { actor < length self.now.accepted.graph.actors }
-        ensures value { IfOk result (λ counts. counts.items ≡ output_counts (program self.now) actor firing) }
-        ensures few { IfOk result (λ counts. length counts.items ≤ 128) }
-        ensures small { IfOk result (λ counts. All (λ n. n ≤ 64) counts.items) }
+        ensures value { OnOk result (counts.new.items ≡ output_counts (program self.now) actor firing) }
+        ensures few { OnOk result (length counts.new.items ≤ 128) }
+        ensures small { OnOk result (All (λ n. n ≤ 64) counts.new.items) }
     {
-        counts_of(alloc, self.accepted.graph(), actor, firing)
+        counts_into(self.accepted.graph(), actor, firing, counts)
     }
 
     /// Whether these are what the firing writes to each output, in file order.

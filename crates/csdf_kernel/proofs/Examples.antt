@@ -25,3 +25,12 @@ copied = refl
 filtered_below : value_of (Fir (negsuc 0 ∷ pos 2 ∷ []) 2 1) (2 ∷ []) (pos 5 ∷ pos 1 ∷ []) ≡ negsuc 1 ∷ negsuc 0 ∷ []
 unfolding value_of filter_token convolution places clamp floor
 filtered_below = refl
+
+-- sixteen taps: 1 * 1 + 2 * 2 .. + 16 * 16 is 1496, and 1 * 2 + 2 * 3 .. + 16 * 17 is 1632, both divided by 8
+filtered_by_sixteen : value_of
+    (Fir (pos 1 ∷ pos 2 ∷ pos 3 ∷ pos 4 ∷ pos 5 ∷ pos 6 ∷ pos 7 ∷ pos 8 ∷ pos 9 ∷ pos 10 ∷ pos 11 ∷ pos 12 ∷ pos 13 ∷ pos 14 ∷ pos 15 ∷ pos 16 ∷ []) 16 3)
+    (2 ∷ [])
+    (pos 1 ∷ pos 2 ∷ pos 3 ∷ pos 4 ∷ pos 5 ∷ pos 6 ∷ pos 7 ∷ pos 8 ∷ pos 9 ∷ pos 10 ∷ pos 11 ∷ pos 12 ∷ pos 13 ∷ pos 14 ∷ pos 15 ∷ pos 16 ∷ pos 17 ∷ [])
+    ≡ pos 187 ∷ pos 204 ∷ []
+unfolding value_of filter_token convolution places clamp floor
+filtered_by_sixteen = refl

@@ -1,9 +1,11 @@
 //! What each kernel adds to a list of outputs that has room for it.
-ghost use Rattle.std.specs.Prelude.{◌≡◌, ◌≤◌, ◌++◌, sum, flat_map, replicate};
+ghost use Rattle.std.specs.Prelude.{ℕ, ◌≡◌, ◌+◌, ◌%◌, ◌<◌, ◌≤◌, ◌++◌, IsTrue, length, sum, flat_map, replicate};
 ghost use Rattle.smallvec.specs.SmallVec.{HasRoomFor};
+ghost use Rattle.csdf_kernel.specs.Filter.{IsInRange, IsWhole};
 ghost use Rattle.csdf_kernel.specs.Value.{places, token_at, copy_token, filter_token};
 
-use crate::numbers::{clamped, products_at, shifted, token};
+use crate::filter::Filter;
+use crate::numbers::token;
 use crate::outputs::Outputs;
 
 /// The first tokens of the inputs.
@@ -17,10 +19,11 @@ pub(crate) fn push_source(outputs: &mut Outputs, count: usize, inputs: &[i32])
     }
 }
 
-/// One token over and over.
-pub(crate) fn push_same(outputs: &mut Outputs, count: usize, same: i32)
+/// Adds one token over and over to a list that has room for so many.
+pub fn push_same(outputs: &mut Outputs, count: usize, same: i32)
     requires { HasRoomFor outputs.old count }
-    ensures { outputs.new.items ≡ outputs.old.items ++ replicate count same }
+    ensures items { outputs.new.items ≡ outputs.old.items ++ replicate count same }
+    ensures capacity { outputs.new.capacity ≡ outputs.old.capacity }
 {
     for _place in 0..count {
         outputs.push_reserved(same);
@@ -46,21 +49,25 @@ fn push_copy(outputs: &mut Outputs, count: usize, inputs: &[i32])
     ensures items { outputs.new.items ≡ outputs.old.items ++ places (copy_token inputs.now) count }
     ensures capacity { outputs.new.capacity ≡ outputs.old.capacity }
 {
-    for place in 0..count {
-        outputs.push_reserved(copied(inputs, place));
+    let mut at = 0;
+    for _copied in 0..count {
+        outputs.push_reserved(token(inputs, at));
+        at = place_after(at, inputs);
     }
 }
 
-/// The token that stands at this place where the inputs are repeated, or 0 where there are none.
-#[tactic(auto, unfolding(crate::specs::Value::copy_token))]
-fn copied(inputs: &[i32], place: usize) -> i32
-    ensures { result ≡ copy_token inputs.now place }
+/// The place after this one where the inputs are repeated: after the last comes the first. Nothing is
+/// divided by their number.
+fn place_after(place: usize, inputs: &[i32]) -> usize
+    requires { place ≤ length inputs.now }
+    ensures next { place < length inputs.now → result ≡ (place + 1) % length inputs.now }
+    ensures within { result ≤ length inputs.now }
 {
-    if inputs.is_empty() {
-        0
-    } else {
-        inputs[place % inputs.len()]
+    let next = place + 1;
+    if next < inputs.len() {
+        return next;
     }
+    0
 }
 
 /// The filtered inputs, for each channel from their start.
@@ -68,53 +75,81 @@ fn copied(inputs: &[i32], place: usize) -> i32
 pub(crate) fn push_filtered(
     outputs: &mut Outputs,
     counts: &[u32],
-    weights: &[i32],
-    taps: u32,
-    shift: u32,
+    filter: &Filter<'_>,
     inputs: &[i32],
 )
     requires room { HasRoomFor outputs.old (sum counts.now) }
     requires few { sum counts.now ≤ 8192 }
-    requires taps { taps ≤ 16 }
-    requires shift { shift ≤ 31 }
+    requires in_range { IsInRange filter.now.weights.now filter.now.taps filter.now.shift filter.now.small }
     ensures { outputs.new.items ≡ outputs.old.items
-        ++ flat_map (places (filter_token weights.now taps shift inputs.now)) counts.now }
+        ++ flat_map (places (filter_token filter.now.weights.now filter.now.taps filter.now.shift inputs.now)) counts.now }
 {
     for count in counts {
-        push_filter(outputs, *count as usize, weights, taps, shift, inputs);
+        push_filter(outputs, *count as usize, filter, inputs);
     }
 }
 
 /// The filtered inputs, for one channel.
-#[tactic(auto, using(crate::proofs::PlaceLemmas::one_place))]
-fn push_filter(
-    outputs: &mut Outputs,
-    count: usize,
-    weights: &[i32],
-    taps: u32,
-    shift: u32,
-    inputs: &[i32],
-)
+fn push_filter(outputs: &mut Outputs, count: usize, filter: &Filter<'_>, inputs: &[i32])
     requires room { HasRoomFor outputs.old count }
     requires few { count ≤ 8192 }
-    requires taps { taps ≤ 16 }
-    requires shift { shift ≤ 31 }
+    requires in_range { IsInRange filter.now.weights.now filter.now.taps filter.now.shift filter.now.small }
     ensures items { outputs.new.items ≡ outputs.old.items
-        ++ places (filter_token weights.now taps shift inputs.now) count }
+        ++ places (filter_token filter.now.weights.now filter.now.taps filter.now.shift inputs.now) count }
     ensures capacity { outputs.new.capacity ≡ outputs.old.capacity }
 {
-    for place in 0..count {
-        outputs.push_reserved(filtered(weights, taps, shift, inputs, place));
+    if filter.small {
+        push_small(outputs, count, filter, inputs);
+    } else {
+        push_wide(outputs, count, filter, inputs);
     }
 }
 
-/// One token of the filter.
-#[tactic(auto, unfolding(crate::specs::Value::filter_token))]
-fn filtered(weights: &[i32], taps: u32, shift: u32, inputs: &[i32], place: usize) -> i32
-    requires taps { taps ≤ 16 }
-    requires shift { shift ≤ 31 }
-    requires place { place ≤ 8192 }
-    ensures { result ≡ filter_token weights.now taps shift inputs.now place }
+/// The filtered inputs, for one channel, whatever the weights.
+#[tactic(auto, using(crate::proofs::PlaceLemmas::one_place))]
+fn push_wide(outputs: &mut Outputs, count: usize, filter: &Filter<'_>, inputs: &[i32])
+    requires room { HasRoomFor outputs.old count }
+    requires few { count ≤ 8192 }
+    requires in_range { IsInRange filter.now.weights.now filter.now.taps filter.now.shift filter.now.small }
+    ensures items { outputs.new.items ≡ outputs.old.items
+        ++ places (filter_token filter.now.weights.now filter.now.taps filter.now.shift inputs.now) count }
+    ensures capacity { outputs.new.capacity ≡ outputs.old.capacity }
 {
-    clamped(shifted(products_at(weights, taps as usize, inputs, place), shift))
+    for place in 0..count {
+        outputs.push_reserved(filter.wide_token(inputs, place));
+    }
+}
+
+/// The filtered inputs, for one channel, where the weights are small.
+#[tactic(auto, using(crate::proofs::PlaceLemmas::one_place))]
+fn push_small(outputs: &mut Outputs, count: usize, filter: &Filter<'_>, inputs: &[i32])
+    requires room { HasRoomFor outputs.old count }
+    requires few { count ≤ 8192 }
+    requires in_range { IsInRange filter.now.weights.now filter.now.taps filter.now.shift filter.now.small }
+    requires small { IsTrue filter.now.small }
+    ensures items { outputs.new.items ≡ outputs.old.items
+        ++ places (filter_token filter.now.weights.now filter.now.taps filter.now.shift inputs.now) count }
+    ensures capacity { outputs.new.capacity ≡ outputs.old.capacity }
+{
+    let whole = filter.whole_places(inputs).min(count);
+    push_whole(outputs, whole, filter, inputs);
+    for place in whole..count {
+        outputs.push_reserved(filter.small_token(inputs, place));
+    }
+}
+
+/// The filtered inputs, for places that are all whole: none of them asks again how many taps find a
+/// token.
+#[tactic(auto, using(crate::proofs::PlaceLemmas::one_place))]
+fn push_whole(outputs: &mut Outputs, count: usize, filter: &Filter<'_>, inputs: &[i32])
+    requires room { HasRoomFor outputs.old count }
+    requires in_range { IsInRange filter.now.weights.now filter.now.taps filter.now.shift filter.now.small }
+    requires whole { (i : ℕ) → i < count → IsWhole filter.now.weights.now filter.now.taps filter.now.small inputs.now i }
+    ensures items { outputs.new.items ≡ outputs.old.items
+        ++ places (filter_token filter.now.weights.now filter.now.taps filter.now.shift inputs.now) count }
+    ensures capacity { outputs.new.capacity ≡ outputs.old.capacity }
+{
+    for next in 0..count {
+        outputs.push_reserved(filter.whole_token(inputs, next));
+    }
 }

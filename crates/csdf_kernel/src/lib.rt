@@ -1,15 +1,20 @@
 //! Jobs and their values: what the kernel of an actor gives for the tokens that one firing read.
 #![tactic(auto)]
 
-ghost use Rattle.std.specs.Prelude.{◌≡◌, ◌≤◌, [], length, sum, replicate, pos, All, IsOk, IfOk, IfErr};
+ghost use Rattle.std.specs.Prelude.{◌≡◌, ◌≤◌, [], length, sum, replicate, pos, All, IsOk, IfOk, OnOk, OnErr, IfErr};
+ghost use Rattle.csdf_model.specs.declared.parts.Kernel.TheVariants.{Sink};
 ghost use Rattle.csdf_kernel.specs.Value.{value_of, HasFilterInRange};
 
 mod channels;
+mod filter;
 mod numbers;
 mod outputs;
+mod small;
 
+pub use channels::push_same;
 use csdf_model::Kernel;
-use outputs::{Outputs, outputs_of};
+pub use outputs::Outputs;
+use outputs::outputs_into;
 use smallvec::SmallVec;
 use std::alloc::{AllocError, Global};
 use std::marker::Model;
@@ -30,6 +35,25 @@ pub struct Job {
     pub firing: u32,
     pub counts: Counts,
     pub inputs: Inputs,
+}
+
+impl Job {
+    /// A job of no firing, which another takes the place of: that of a sink with no channel.
+    pub fn blank(alloc: Global) -> Job
+        ensures kernel { result.kernel ≡ Sink }
+        ensures actor { result.actor ≡ 0 }
+        ensures firing { result.firing ≡ 0 }
+        ensures counts { result.counts.items ≡ [] }
+        ensures inputs { result.inputs.items ≡ [] }
+    {
+        Job {
+            kernel: Kernel::Sink,
+            actor: 0,
+            firing: 0,
+            counts: Counts::new(alloc),
+            inputs: Inputs::new(alloc),
+        }
+    }
 }
 
 /// A job that is done: it has the kernel's value as its outputs, whoever made it. A contract sees it
@@ -75,6 +99,33 @@ impl Done {
     }
 }
 
+/// Does a job, with the kernel's value in the place of what the outputs hold: the tokens to write,
+/// output channels in file order, to each as many as its count. With no input each of them is 0.
+/// It allocates once at most, and not at all where the outputs have room for so many.
+///
+/// An error says that memory ran out; then the outputs hold what they held.
+#[tactic(auto, using(crate::proofs::ValueLemmas::length_of_value, crate::proofs::ValueLemmas::value_of_none))]
+pub fn eval_into(job: &Job, outputs: &mut Outputs) -> Result<(), AllocError>
+    requires few_counts { length job.now.counts.items ≤ 128 }
+    requires small_counts { All (λ count. count ≤ 64) job.now.counts.items }
+    requires few_inputs { length job.now.inputs.items ≤ 8192 }
+    requires filter_in_range { HasFilterInRange job.now.kernel }
+    ensures value { OnOk result
+        (outputs.new.items ≡ value_of job.now.kernel job.now.counts.items job.now.inputs.items) }
+    ensures count { OnOk result (length outputs.new.items ≡ sum job.now.counts.items) }
+    ensures no_input { OnOk result (job.now.inputs.items ≡ []
+        → outputs.new.items ≡ replicate (sum job.now.counts.items) (pos 0)) }
+    ensures unchanged { OnErr result (outputs.new ≡ outputs.old) }
+    ensures room { sum job.now.counts.items ≤ outputs.old.capacity → IsOk result }
+{
+    outputs_into(
+        &job.kernel,
+        job.counts.as_slice(),
+        job.inputs.as_slice(),
+        outputs,
+    )
+}
+
 /// Does a job. It allocates once at most, and not at all for 16 outputs or fewer. Where there is no
 /// memory for the outputs it hands the job back.
 pub fn eval(alloc: Global, job: Job) -> Result<Done, (Job, AllocError)>
@@ -90,13 +141,9 @@ pub fn eval(alloc: Global, job: Job) -> Result<Done, (Job, AllocError)>
     // Memory is asked for only where the outputs do not fit inline.
     ensures inline { sum job.counts.items ≤ 16 → IsOk result }
 {
-    match outputs_of(
-        alloc,
-        &job.kernel,
-        job.counts.as_slice(),
-        job.inputs.as_slice(),
-    ) {
-        Ok(outputs) => Ok(Done { job, outputs }),
+    let mut outputs = Outputs::new(alloc);
+    match eval_into(&job, &mut outputs) {
+        Ok(()) => Ok(Done { job, outputs }),
         Err(error) => Err((job, error)),
     }
 }

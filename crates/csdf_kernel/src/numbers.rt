@@ -1,4 +1,4 @@
-//! The arithmetic of kernels, in 128 bits.
+//! The arithmetic of kernels, in 128 bits, which hold every sum.
 ghost use Rattle.std.specs.Prelude.{◌≡◌, ◌⊎◌, ◌+◌, ◌*◌, ◌^◌, ◌≤◌, length, pos, ◌+ℤ◌, ◌*ℤ◌, ◌≤ℤ◌, ◌<ℤ◌, unsigned_abs};
 ghost use Rattle.csdf_kernel.specs.Value.{token_at, total, clamp, floor, convolution};
 
@@ -41,7 +41,7 @@ fn product(a: i32, b: i32) -> i128
 }
 
 /// How many of the taps have a weight and a token from `place` on.
-fn full_taps(weights: &[i32], taps: usize, inputs: &[i32], place: usize) -> usize
+pub(crate) fn full_taps(weights: &[i32], taps: usize, inputs: &[i32], place: usize) -> usize
     ensures taps { result ≤ taps }
     ensures weights { result ≤ length weights.now }
     ensures tokens { result + place ≤ length inputs.now ⊎ result ≡ 0 }

@@ -14,6 +14,10 @@ pub fn rate(rates: &[u32], firing: u32) -> u32
     if rates.is_empty() {
         return 0;
     }
+    // Most actors have one phase, and then nothing is divided.
+    if rates.len() == 1 {
+        return rates[0];
+    }
     rates[firing as usize % rates.len()]
 }
 

@@ -1,1 +1,3 @@
 pub mod FeedTexts
+pub mod Held
+pub mod Ends

@@ -1,1 +1,4 @@
+pub mod Hand
+pub mod Looking
 pub mod Texts
+pub mod Workers

@@ -1,18 +1,23 @@
 //! What a worker passes between the start of a firing and its evaluation.
 
-ghost use Rattle.std.specs.Prelude.{◌≡◌};
-ghost use Rattle.csdf_claims.specs.Board.{Holds, KeepsAll};
+ghost use Rattle.std.specs.Prelude.{◌≡◌, ℕ, ⊤};
+ghost use Rattle.csdf_claims.specs.Board.{Holds, KeepsJust};
 
 use csdf_claims::{Board, Place};
 
 /// What a worker passes, without the lock, once it has started a firing and before it evaluates it.
 pub trait Gate: Sync {
-    /// The worker holds the actor at this firing, and goes on holding all that it holds.
+    /// What is so once a worker has passed with a firing of an actor. Only [`Gate::enter`] can show it of a
+    /// gate that is not known, and no job is evaluated without it.
+    ghost passed: { Self → ℕ → ℕ → Type 0 } = { λ gate actor firing. ⊤ };
+
+    /// The worker holds the actor at this firing, and goes on holding what it holds, and no more.
     fn enter(&self, board: &Board, place: &mut Place, actor: u32, firing: u32)
         requires place { place.old.board ≡ board.now.id }
         requires holds { Holds place.old.view actor firing }
         ensures board { place.new.board ≡ place.old.board }
-        ensures keeps { KeepsAll place.old.view place.new.view };
+        ensures keeps { KeepsJust place.old.view place.new.view }
+        ensures passed { passed self.now actor firing };
 
     /// Whether a worker may have to wait in [`Gate::enter`]. Where it never does, workers that sleep are
     /// not woken for firings that take less time than to wake them.

@@ -1,221 +1,235 @@
-//! What the workers share.
+//! The floor behind its lock, and how the workers meet there.
 
-ghost use Rattle.std.specs.Prelude.{◌≡◌, IfOk};
-ghost use Rattle.csdf_floor.specs.Floor.{IsReady};
+ghost use Rattle.std.specs.Prelude.{◌≡◌, IfOk, false};
+ghost use Rattle.csdf_run.specs.Hand.{claim_in};
+ghost use Rattle.csdf_run.specs.Workers.{HasClaim, IsStartOf};
 
+use crate::claims::Claim;
+use crate::hand::Hand;
 use crate::hints::Hints;
+use crate::policy::{Crew, Policy, Teller};
+use crate::run_floor::{Asked, Delivered, RunFloor};
+use crate::watched::{Stand, Watched};
+use csdf_claims::Place;
 use csdf_floor::{DeliverFault, Floor, StartFault};
-use csdf_graph::Kernel;
-use csdf_kernel::{Done, Job};
 use std::alloc::Global;
 use std::sync::atomic::Ordering::SeqCst;
-use std::sync::atomic::{AtomicBool, AtomicU64};
+use std::sync::atomic::{AtomicBool, AtomicU32, AtomicU64};
 use std::sync::{Condvar, Mutex, Wait};
 use std::thread;
 
 /// How often a worker yields before it sleeps.
 const YIELDS: u32 = 100;
 
-/// How many products, or tokens, make a firing worth waking another worker for: they take about as long
-/// as to wake one.
-const HEAVY: usize = 16_384;
-
-/// What is behind the lock: the floor, where to look for the next firing, and how many firings are under
-/// way and workers asleep.
+/// What the workers share: the floor behind its lock; what wakes a worker that sleeps; and, to be read
+/// without the lock, which actors can begin, which of them are spare, how many workers look for one, and
+/// whether the run has ended. When a worker is woken, and for what, is told at [`Policy`].
 #[derive(Drop)]
-struct Watched {
-    floor: Floor,
-    hints: Hints,
-    running: u32,
-    sleeping: u32,
-}
-
-/// The floor behind its lock, and what wakes a worker that sleeps.
-///
-/// No wake-up is lost. A worker reads the count of changes before it looks for a firing, and sleeps only
-/// where the count is the same under the lock. Changes are made under the lock. Whoever makes one is
-/// awake and looks again himself, unless he leaves for a firing that may take long: then he first wakes
-/// another where there is something left to begin. The one who finds that all is over wakes all.
-#[derive(Drop)]
-pub(crate) struct Hall {
-    watched: Mutex<Watched>,
+pub(crate) struct Hall<K: Asked> {
+    watched: Mutex<Watched<K>>,
     changed: Condvar,
-    changes: AtomicU64,
     ready: AtomicU64,
-    gave_up: AtomicBool,
-    may_wait: bool,
+    spare: AtomicU64,
+    looking: AtomicU32,
+    is_ended: AtomicBool,
+    is_alone: bool,
 }
 
-/// Whether the job takes longer than to wake a worker.
-fn is_heavy(job: &Job) -> bool {
-    let each = match job.kernel {
-        Kernel::Fir { taps, .. } => taps as usize,
-        _ => 1,
-    };
-    job.inputs.len().saturating_mul(each) >= HEAVY
+/// What came of a turn: what was delivered, whether a job was started, and whether another worker is to be
+/// woken.
+#[derive(Drop)]
+pub(crate) struct Turn {
+    pub(crate) delivered: Result<Option<Delivered>, DeliverFault>,
+    pub(crate) started: Result<bool, StartFault>,
+    pub(crate) wakes: bool,
 }
 
-impl Watched {
-    /// Starts the actor's firing.
-    fn start(&mut self, alloc: Global, actor: u32, firing: u32) -> Result<Job, StartFault>
-        ensures job { IfOk result (λ job. (job.actor ≡ actor) × (job.firing ≡ firing)) }
-        ensures ready { IfOk result IsReady }
-    {
-        let answer = self.floor.start(alloc, actor, firing);
-        if answer.is_ok() {
-            self.running = self.running.saturating_add(1);
-            self.hints.started(self.floor.core(), actor);
-        } else {
-            self.hints.refused(actor);
-        }
-        answer
-    }
-
-    /// Takes the result of a firing.
-    fn deliver(&mut self, alloc: Global, done: &Done) -> Result<(), DeliverFault> {
-        self.floor.deliver(alloc, done)?;
-        self.running = self.running.saturating_sub(1);
-        self.hints.delivered(self.floor.core(), done.job().actor);
-        Ok(())
-    }
-
-    /// Whether no firing is under way and none can begin.
-    fn is_over(&self) -> bool {
-        self.running == 0 && self.floor.core().is_quiet()
+/// Stores a word where it is another one, so that who reads it is not disturbed for nothing.
+fn put(word: &AtomicU64, value: u64) {
+    if word.load(SeqCst) != value {
+        word.store(value, SeqCst);
     }
 }
 
-impl Hall {
-    pub(crate) fn new(floor: Floor, hints: Hints, may_wait: bool) -> Hall {
+impl<K: Asked> Hall<K> {
+    pub(crate) fn new(floor: RunFloor<K>, hints: Hints, crew: Crew) -> Hall<K> {
         let ready = hints.ready();
         Hall {
             watched: Mutex::new(Watched {
                 floor,
                 hints,
                 running: 0,
-                sleeping: 0,
+                policy: Policy::new(crew),
             }),
             changed: Condvar::new(),
-            changes: AtomicU64::new(0),
             ready: AtomicU64::new(ready),
-            gave_up: AtomicBool::new(false),
-            may_wait,
+            spare: AtomicU64::new(ready),
+            looking: AtomicU32::new(0),
+            is_ended: AtomicBool::new(false),
+            is_alone: crew.is_alone(),
         }
     }
 
     /// The floor, once no worker shares it any more.
-    pub(crate) fn into_floor(self) -> Floor {
+    pub(crate) fn into_floor(self) -> Floor
+        ensures { result.keeps ≡ K.keeps }
+    {
         let Hall {
             watched,
             changed: _,
-            changes: _,
             ready: _,
-            gave_up: _,
-            may_wait: _,
+            spare: _,
+            looking: _,
+            is_ended: _,
+            is_alone: _,
         } = self;
         let Watched {
             floor,
             hints: _,
             running: _,
-            sleeping: _,
+            policy: _,
         } = watched.into_inner();
-        floor
+        floor.into_floor()
     }
 
-    /// How often the floor has changed.
-    pub(crate) fn changes(&self) -> u64 {
-        self.changes.load(SeqCst)
-    }
-
-    /// Whether a worker has given up.
-    pub(crate) fn is_given_up(&self) -> bool {
-        self.gave_up.load(SeqCst)
-    }
-
-    /// The actors that may be able to begin, as bits.
-    pub(crate) fn ready(&self) -> u64 {
-        self.ready.load(SeqCst)
-    }
-
-    /// Tells where to look. The caller holds the lock.
-    fn tell(&self, ready: u64) {
-        if self.ready.load(SeqCst) != ready {
-            self.ready.store(ready, SeqCst);
-            self.changes.fetch_add(1, SeqCst);
+    /// A worker comes in.
+    pub(crate) fn stand(&self) -> Stand {
+        Stand {
+            tends: false,
+            ready: self.ready.load(SeqCst),
+            next: 0,
         }
     }
 
-    /// Starts the actor's firing, and wakes a worker for what is left where this one may be long away.
-    pub(crate) fn start<R: Wait>(
+    /// Whether all is over, or a worker has given up.
+    pub(crate) fn is_ended(&self) -> bool {
+        self.is_ended.load(SeqCst)
+    }
+
+    /// The actors that this worker may take.
+    pub(crate) fn seen(&self, stand: &Stand) -> u64 {
+        if self.is_alone {
+            stand.ready
+        } else if stand.tends {
+            self.ready.load(SeqCst)
+        } else {
+            self.spare.load(SeqCst)
+        }
+    }
+
+    /// Tells where to look, under the lock. True where the teller is to wake a worker.
+    fn tell(&self, watched: &mut Watched<K>, teller: Teller) -> bool {
+        if self.is_alone {
+            return false;
+        }
+        let spare = watched.spare();
+        put(&self.ready, watched.hints.ready());
+        put(&self.spare, spare);
+        watched
+            .policy
+            .wakes_one(spare, self.looking.load(SeqCst), teller)
+    }
+
+    /// Delivers what is in hand and starts what is claimed, in one hold of the lock.
+    pub(crate) fn turn<R: Wait>(
         &self,
         rt: &R,
         alloc: Global,
-        actor: u32,
-        firing: u32,
-    ) -> Result<Job, StartFault>
-        ensures job { IfOk result (λ job. (job.actor ≡ actor) × (job.firing ≡ firing)) }
-        ensures ready { IfOk result IsReady }
+        place: &Place,
+        stand: &mut Stand,
+        hand: &mut Hand,
+        next: Option<Claim>,
+    ) -> Turn
+        requires given { HasClaim place.now.view (claim_in hand.old) }
+        requires next { HasClaim place.now.view next }
+        ensures idle { hand.new.is_made ≡ false }
+        ensures delivered { IfOk result.delivered (λ delivered. delivered ≡ claim_in hand.old) }
+        ensures started { IfOk result.started (λ is_started. IsStartOf next is_started hand.new.job) }
     {
-        let mut watched = self.watched.lock(rt);
-        let answer = watched.start(alloc, actor, firing);
-        let ready = watched.hints.ready();
-        self.tell(ready);
-        if let Ok(job) = &answer {
-            if ready != 0 && watched.sleeping != 0 && (self.may_wait || is_heavy(job)) {
-                self.changed.notify_one();
-            }
+        let _ = place;
+        let mut guard = self.watched.lock(rt);
+        let watched = &mut *guard;
+        let delivered = watched.deliver(alloc, hand);
+        let started = watched.start_next(next, hand);
+        let (job, teller) = if matches!(&started, Ok(true)) {
+            (Some(hand.job()), Teller::Fires)
+        } else {
+            (None, Teller::Looks)
+        };
+        *stand = watched.stand(stand.tends, job);
+        let wakes = self.tell(watched, teller);
+        Turn {
+            delivered,
+            started,
+            wakes,
         }
-        answer
     }
 
-    /// Takes the result of a firing.
-    pub(crate) fn deliver<R: Wait>(
-        &self,
-        rt: &R,
-        alloc: Global,
-        done: &Done,
-    ) -> Result<(), DeliverFault> {
-        let mut watched = self.watched.lock(rt);
-        let answer = watched.deliver(alloc, done);
-        self.tell(watched.hints.ready());
-        answer
+    /// Wakes a worker.
+    pub(crate) fn wake(&self) {
+        self.changed.notify_one();
     }
 
-    /// Ends the other workers.
+    /// Ends the run for all workers.
     pub(crate) fn give_up<R: Wait>(&self, rt: &R) {
         let _watched = self.watched.lock(rt);
-        self.gave_up.store(true, SeqCst);
+        self.end();
+    }
+
+    /// The run has ended: whoever sleeps is to see it. The lock is held.
+    fn end(&self) {
+        self.is_ended.store(true, SeqCst);
         self.changed.notify_all();
     }
 
-    /// Yields until there is a change, or often enough.
-    fn linger(&self, seen: u64) {
+    /// Yields until something is spare or the run has ended, or often enough.
+    fn linger(&self) {
+        self.looking.fetch_add(1, SeqCst);
         for _ in 0..YIELDS {
-            if self.changes() != seen {
+            thread::yield_now();
+            if self.is_ended() || self.spare.load(SeqCst) != 0 {
                 break;
             }
-            thread::yield_now();
         }
+        self.looking.fetch_sub(1, SeqCst);
     }
 
-    /// Waits for a change since `seen`. True where there is nothing more to do.
-    pub(crate) fn wait_past<R: Wait>(&self, rt: &R, seen: u64) -> bool {
-        self.linger(seen);
+    /// The worker tends no longer. True where all is over.
+    fn rest<R: Wait>(&self, rt: &R, stand: &mut Stand) -> bool {
+        let mut guard = self.watched.lock(rt);
+        let watched = &mut *guard;
+        watched.policy.rests(stand.tends);
+        stand.tends = false;
+        let is_over = watched.is_over();
+        stand.ready = watched.hints.ready();
+        if is_over {
+            self.end();
+        } else if self.tell(watched, Teller::Looks) {
+            self.wake();
+        }
+        is_over
+    }
+
+    /// Waits until something is spare. True where there is nothing more to do.
+    pub(crate) fn wait<R: Wait>(&self, rt: &R, stand: &mut Stand) -> bool {
+        if self.is_ended() || self.rest(rt, stand) {
+            return true;
+        }
+        if self.is_alone {
+            return false;
+        }
+        self.linger();
         let mut watched = self.watched.lock(rt);
         for _ in rt.forever() {
-            if self.is_given_up() {
+            if self.is_ended() {
                 return true;
             }
-            if watched.is_over() {
-                self.changed.notify_all();
-                return true;
-            }
-            if self.changes() != seen {
+            if self.spare.load(SeqCst) != 0 {
                 return false;
             }
-            watched.sleeping = watched.sleeping.saturating_add(1);
+            watched.policy.sleeps();
             watched = self.changed.wait(rt, watched);
-            watched.sleeping = watched.sleeping.saturating_sub(1);
+            watched.policy.is_awake();
         }
         unreachable!()
     }

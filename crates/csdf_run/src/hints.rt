@@ -1,59 +1,49 @@
-//! Which actors may be able to begin a firing. What is told here decides only where a worker looks: a
-//! start tests again.
+//! Where a worker looks: which actors may be able to begin a firing. A start tests again, so a hint that
+//! is out of date costs a look. Nobody is left out who could begin where one has looked, while the lock
+//! was held.
 
-use csdf_analysis::Accepted;
+ghost use Rattle.std.specs.Prelude.{◌≡◌, ◌<◌, ◌⊎◌, ◌↔◌, ℕ, IfOk, IsTrue, length, slice_index};
+ghost use Rattle.csdf_analysis.specs.Waking.{IsIn};
+ghost use Rattle.csdf_run.specs.Looking.{AreConsumers, AreProducers, CanBegin, GainsAble, HasAble};
+
+use crate::actors::bit_of;
+use csdf_analysis::mask::{apart, joined, lowest, with_actor, without_actor};
+use csdf_analysis::{Accepted, consumers_of, producers_of};
 use csdf_core::Core;
-use csdf_graph::Channel;
+use csdf_model::Graph;
 use std::alloc::{AllocError, Global};
 
-/// A bit for each actor that may be able to begin, and whom the moves of each may enable.
+/// A bit for each actor that may be able to begin, one for each whose last start was not refused, and whom
+/// the moves of each may enable.
 #[derive(Drop)]
 pub(crate) struct Hints {
     ready: u64,
+    apt: u64,
     producers: Vec<u64>,
     consumers: Vec<u64>,
     are_cells_ample: bool,
 }
 
-/// The bit of an actor.
-fn bit_of(actor: u32) -> u64 {
-    if actor < 64 { 1u64 << actor } else { 0 }
-}
-
-/// The producers of the actor's inputs.
-fn producers_of(channels: &[Channel], actor: u32) -> u64 {
-    let mut mask = 0;
-    for channel in channels {
-        if channel.to == actor {
-            mask |= bit_of(channel.from);
-        }
-    }
-    mask
-}
-
-/// The consumers of the actor's outputs.
-fn consumers_of(channels: &[Channel], actor: u32) -> u64 {
-    let mut mask = 0;
-    for channel in channels {
-        if channel.from == actor {
-            mask |= bit_of(channel.to);
-        }
-    }
-    mask
-}
-
-fn all_producers(alloc: Global, channels: &[Channel], actors: u32) -> Result<Vec<u64>, AllocError> {
+/// The producers of each actor's inputs.
+fn all_producers(alloc: Global, graph: &Graph) -> Result<Vec<u64>, AllocError>
+    ensures count { IfOk result (λ v. length v.items ≡ length graph.now.actors) }
+    ensures masks { IfOk result (λ v. AreProducers graph.now.channels (length graph.now.actors) v.items) }
+{
     let mut masks = Vec::new(alloc);
-    for actor in 0..actors {
-        masks.push(producers_of(channels, actor))?;
+    for actor in 0..graph.actors().len() as u32 {
+        masks.push(producers_of(graph, actor))?;
     }
     Ok(masks)
 }
 
-fn all_consumers(alloc: Global, channels: &[Channel], actors: u32) -> Result<Vec<u64>, AllocError> {
+/// The consumers of each actor's outputs.
+fn all_consumers(alloc: Global, graph: &Graph) -> Result<Vec<u64>, AllocError>
+    ensures count { IfOk result (λ v. length v.items ≡ length graph.now.actors) }
+    ensures masks { IfOk result (λ v. AreConsumers graph.now.channels (length graph.now.actors) v.items) }
+{
     let mut masks = Vec::new(alloc);
-    for actor in 0..actors {
-        masks.push(consumers_of(channels, actor))?;
+    for actor in 0..graph.actors().len() as u32 {
+        masks.push(consumers_of(graph, actor))?;
     }
     Ok(masks)
 }
@@ -70,42 +60,62 @@ fn are_cells_ample(accepted: &Accepted) -> bool {
     true
 }
 
-fn mask_at(masks: &[u64], actor: u32) -> u64 {
+fn mask_at(masks: &[u64], actor: u32) -> u64
+    ensures { actor < length masks.now → result ≡ slice_index masks.now actor }
+{
     match masks.get(actor as usize) {
         Some(mask) => *mask,
         None => 0,
     }
 }
 
+/// Whether the actor can begin.
+fn can_begin(core: &Core, actor: u32) -> bool
+    ensures { IsTrue result ↔ CanBegin core.now actor }
+{
+    core.can_begin(actor).is_ok()
+}
+
+/// The set with the actor where it can begin.
+fn with_able(core: &Core, actor: u32, able: u64) -> u64
+    requires { actor < 64 }
+    ensures able { CanBegin core.now actor → IsIn result actor }
+    ensures kept { (a : ℕ) → IsIn able a → IsIn result a }
+    ensures only { (a : ℕ) → IsIn result a → IsIn able a ⊎ CanBegin core.now a }
+{
+    if can_begin(core, actor) {
+        with_actor(able, actor)
+    } else {
+        able
+    }
+}
+
 /// Those of these actors that can begin.
-fn able_among(core: &Core, mask: u64) -> u64 {
+fn able_among(core: &Core, mask: u64) -> u64
+    ensures able { HasAble core.now mask result }
+    ensures only { (a : ℕ) → IsIn result a → CanBegin core.now a }
+{
     let mut able = 0;
     let mut left = mask;
-    for _ in 0..64 {
-        if left == 0 {
-            break;
-        }
-        let actor = left.trailing_zeros();
-        left &= left - 1;
-        if core.can_begin(actor).is_ok() {
-            able |= bit_of(actor);
-        }
+    while let Some(actor) = lowest(left) {
+        left = without_actor(left, actor);
+        able = with_able(core, actor, able);
     }
     able
 }
 
 impl Hints {
-    /// Of a graph with so many actors; none is told yet.
-    pub(crate) fn new(
-        alloc: Global,
-        accepted: &Accepted,
-        actors: u32,
-    ) -> Result<Hints, AllocError> {
-        let channels = accepted.graph().channels();
-        let producers = all_producers(alloc, channels, actors)?;
-        let consumers = all_consumers(alloc, channels, actors)?;
+    /// Of a graph; none is told yet.
+    pub(crate) fn new(alloc: Global, accepted: &Accepted) -> Result<Hints, AllocError>
+        ensures producers { IfOk result (λ h. AreProducers accepted.now.graph.channels (length accepted.now.graph.actors) h.producers.items) }
+        ensures consumers { IfOk result (λ h. AreConsumers accepted.now.graph.channels (length accepted.now.graph.actors) h.consumers.items) }
+    {
+        let graph = accepted.graph();
+        let producers = all_producers(alloc, graph)?;
+        let consumers = all_consumers(alloc, graph)?;
         Ok(Hints {
             ready: 0,
+            apt: u64::MAX,
             producers,
             consumers,
             are_cells_ample: are_cells_ample(accepted),
@@ -113,39 +123,74 @@ impl Hints {
     }
 
     /// The actors that may be able to begin.
-    pub(crate) fn ready(&self) -> u64 {
+    pub(crate) fn ready(&self) -> u64
+        ensures { result ≡ self.now.ready }
+    {
         self.ready
     }
 
     /// Looks at those of these actors that are not told yet. One that can begin stays so while others
     /// move, but for the limit on all firings and for cells: then its start is refused, and told here.
-    pub(crate) fn look(&mut self, core: &Core, mask: u64) {
-        self.ready |= able_among(core, mask & !self.ready);
+    pub(crate) fn look(&mut self, core: &Core, mask: u64)
+        ensures able { HasAble core.now mask self.new.ready }
+        ensures gains { GainsAble core.now self.old.ready self.new.ready }
+    {
+        let able = able_among(core, apart(mask, self.ready));
+        self.ready = joined(self.ready, able);
+    }
+
+    /// Looks at all actors.
+    pub(crate) fn look_at_all(&mut self, core: &Core)
+        ensures able { (a : ℕ) → a < 64 → CanBegin core.now a → IsIn self.new.ready a }
+        ensures gains { GainsAble core.now self.old.ready self.new.ready }
+    {
+        self.look(core, u64::MAX);
+    }
+
+    /// Whom a move may enable that these actors alone wait for: all, where cells may be lacking.
+    fn enabled(&self, mask: u64) -> u64
+        ensures { (a : ℕ) → IsIn mask a → IsIn result a }
+    {
+        if self.are_cells_ample { mask } else { u64::MAX }
     }
 
     /// The actor's start was refused.
-    pub(crate) fn refused(&mut self, actor: u32) {
-        self.ready &= !bit_of(actor);
+    pub(crate) fn refused(&mut self, actor: u32)
+        ensures off { IsIn self.new.ready actor → actor < 64 → ⊥ }
+        ensures others { (a : ℕ) → IsIn self.old.ready a → (a ≡ actor) ⊎ IsIn self.new.ready a }
+        ensures only { (a : ℕ) → IsIn self.new.ready a → IsIn self.old.ready a }
+    {
+        let bit = bit_of(actor);
+        self.ready = apart(self.ready, bit);
+        self.apt = apart(self.apt, bit);
     }
 
     /// The actor has begun and read: its inputs have room again.
-    pub(crate) fn started(&mut self, core: &Core, actor: u32) {
-        self.ready &= !bit_of(actor);
-        let enabled = if self.are_cells_ample {
-            mask_at(&self.producers, actor)
-        } else {
-            u64::MAX
-        };
+    pub(crate) fn started(&mut self, core: &Core, actor: u32)
+        ensures able { actor < length self.old.producers.items → HasAble core.now (slice_index self.old.producers.items actor) self.new.ready }
+        ensures others { (a : ℕ) → IsIn self.old.ready a → (a ≡ actor) ⊎ IsIn self.new.ready a }
+    {
+        let bit = bit_of(actor);
+        self.ready = apart(self.ready, bit);
+        self.apt = joined(self.apt, bit);
+        let enabled = self.enabled(mask_at(&self.producers, actor));
         self.look(core, enabled);
     }
 
+    /// The actors that may be able to begin once this one has delivered: its consumers, but for those
+    /// whose last start was refused.
+    pub(crate) fn after(&self, actor: u32) -> u64 {
+        mask_at(&self.consumers, actor) & self.apt
+    }
+
     /// The actor has written and is idle: its outputs have tokens again.
-    pub(crate) fn delivered(&mut self, core: &Core, actor: u32) {
-        let enabled = if self.are_cells_ample {
-            mask_at(&self.consumers, actor) | bit_of(actor)
-        } else {
-            u64::MAX
-        };
+    pub(crate) fn delivered(&mut self, core: &Core, actor: u32)
+        ensures able { actor < length self.old.consumers.items → HasAble core.now (slice_index self.old.consumers.items actor) self.new.ready }
+        ensures own { actor < 64 → CanBegin core.now actor → IsIn self.new.ready actor }
+        ensures others { (a : ℕ) → IsIn self.old.ready a → IsIn self.new.ready a }
+    {
+        let fed = joined(mask_at(&self.consumers, actor), bit_of(actor));
+        let enabled = self.enabled(fed);
         self.look(core, enabled);
     }
 }

@@ -1,16 +1,23 @@
 //! Running an accepted graph by one to eight workers, which share a floor.
 #![tactic(auto)]
 
+mod actors;
+mod claims;
 mod gate;
 mod hall;
+mod hand;
 mod hints;
+mod policy;
+mod request;
+mod run_floor;
 mod running;
 mod texts;
+mod watched;
 mod worker;
 
 pub use csdf_floor::{
-    ChannelReport, DeliverFault, Ending, Floor, Outcome, RunFault, StartFault, are_feeds,
-    printed_report, settle,
+    ChannelReport, DeliverFault, Ending, Floor, Journal, Keeping, Outcome, RunFault, StartFault,
+    are_feeds, printed_report, settle,
 };
 pub use gate::{Gate, Open};
 pub use running::run;

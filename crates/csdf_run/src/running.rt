@@ -1,30 +1,44 @@
 //! A run by worker threads.
 
-ghost use Rattle.std.specs.Prelude.{◌≡◌, ◌≤◌, ◌<◌, All, IfOk, IfSome, length};
+ghost use Rattle.std.specs.Prelude.{◌≡◌, ◌≤◌, ◌<◌, All, IfOk, IfSome, length, true};
+ghost use Rattle.csdf_journal.specs.View.{is_kept};
 ghost use Rattle.csdf_floor.specs.Journal.{program_for};
 ghost use Rattle.csdf_floor.specs.Work.{AreFeeds, feeds_in};
 ghost use Rattle.csdf_floor.specs.Outcome.{HasHonestJournal, EndsSettled, TakesInOrder, StaysWithinCapacities, LeavesClosedAlone};
 ghost use Rattle.csdf_floor.specs.Outcome.{TellsSinks, TellsReport, TellsEnding, IsAsSequentialRun, CompletesWhereAmple, IsOutcome};
-ghost use Rattle.csdf_run.specs.Texts.{work_for};
+ghost use Rattle.csdf_run.specs.Workers.{AnswersForAll, HoldsNothing, IsEndAt, both};
 
 use crate::gate::Gate;
 use crate::hall::Hall;
-use crate::hints::Hints;
+use crate::policy::Crew;
+use crate::request::Request;
+use crate::run_floor::{Asked, RunFloor};
 use crate::worker::{Ended, work};
 use csdf_analysis::Accepted;
 use csdf_claims::{Board, Place};
-use csdf_floor::{Floor, Outcome, RunFault, settle};
+use csdf_floor::{Keeping, Outcome, RunFault};
 use std::alloc::{AllocError, Global};
+use std::marker::Brand;
 use std::sync::Wait;
 use std::thread;
 use std::thread::{Promise, PromisedHandle, Threads};
 
-/// The place that a worker hands back is one of this board.
+/// The place that a worker hands back is one of this board, and holds nothing where the worker did not give up.
 #[derive(Clone, Copy)]
 struct OfBoard<'a>(&'a Board);
 
 impl<'a> Promise<Ended> for OfBoard<'a> {
-    ghost kept_by = { λ p r. r.place.board ≡ p.0.now.id };
+    ghost kept_by = { λ p r. IsEndAt p.0.now r };
+}
+
+/// A place beside the first.
+fn place_beside(alloc: Global, board: &Board, place: &mut Place) -> Result<Place, AllocError>
+    requires { place.old.board ≡ board.now.id }
+    ensures same { place.new ≡ place.old }
+    ensures place { IfOk result (λ p. (p.board ≡ board.now.id) × HoldsNothing p.view) }
+{
+    let new = board.split(alloc, place)?;
+    Ok(new)
 }
 
 /// So many places beside the first.
@@ -35,12 +49,12 @@ fn split_places(
     count: u32,
 ) -> Result<Vec<Place>, AllocError>
     requires { place.old.board ≡ board.now.id }
-    ensures board { place.new.board ≡ board.now.id }
-    ensures places { IfOk result (λ v. All (λ p. p.board ≡ board.now.id) v.items) }
+    ensures same { place.new ≡ place.old }
+    ensures places { IfOk result (λ v. All (λ p. (p.board ≡ board.now.id) × HoldsNothing p.view) v.items) }
 {
     let mut places = Vec::with_capacity(alloc, count as usize)?;
     for _ in 0..count {
-        places.push(board.split(alloc, place)?)?;
+        places.push(place_beside(alloc, board, place)?)?;
     }
     Ok(places)
 }
@@ -61,56 +75,106 @@ fn keep<'a>(
     }
 }
 
-/// Joins the threads, and their places into the first.
+/// The first of two answers that is a fault.
+fn both(first: Result<(), RunFault>, second: Result<(), RunFault>) -> Result<(), RunFault>
+    ensures { result ≡ both first second }
+{
+    match first {
+        Ok(()) => second,
+        Err(fault) => Err(fault),
+    }
+}
+
+/// A fault where a thread could not be started.
+fn all_started(are_all: bool) -> Result<(), RunFault> {
+    if are_all {
+        Ok(())
+    } else {
+        Err(RunFault::Worker)
+    }
+}
+
+/// Joins the threads, one after another, and their places into the first. The answer is a fault where the
+/// first worker's own was one, or that of another.
 fn join_all<'a, R: Threads>(
     rt: &R,
     board: &'a Board,
     place: &mut Place,
+    own: Result<(), RunFault>,
     handles: Vec<PromisedHandle<Ended, OfBoard<'a>>>,
 ) -> Result<(), RunFault>
     requires place { place.old.board ≡ board.now.id }
     requires handles { All (λ h. h.promise.0.now.id ≡ board.now.id) handles.items }
-    ensures { place.new.board ≡ board.now.id }
+    ensures board { place.new.board ≡ board.now.id }
+    ensures ends { AnswersForAll board.now (length handles.entry.items) own place.old.view result place.new.view }
 {
-    let mut answer = Ok(());
+    let mut answer = own;
     for handle in handles {
         let ended = handle.join(rt);
         board.join(place, ended.place);
-        answer = answer.and(ended.answer);
+        answer = both(answer, ended.answer);
     }
     answer
 }
 
-/// Runs a worker at each place, and joins them into the first.
-fn in_threads<R: Threads + Wait + Sync, G: Gate>(
+/// The place of a worker that answered, unless the answer is a fault.
+fn place_after(place: Place, answer: Result<(), RunFault>) -> Result<Place, RunFault>
+    requires { IfOk answer (λ _. HoldsNothing place.view) }
+    ensures same { IfOk result (λ p. p ≡ place) }
+    ensures free { IfOk result (λ p. HoldsNothing p.view) }
+{
+    match answer {
+        Ok(()) => Ok(place),
+        Err(fault) => Err(fault),
+    }
+}
+
+/// Runs a worker at the first place, on the calling thread.
+fn alone<K: Asked, R: Wait, G: Gate>(
     rt: &R,
     alloc: Global,
-    hall: &Hall,
+    hall: &Hall<K>,
+    board: &Board,
+    gate: &G,
+    first: Place,
+) -> Result<Place, RunFault>
+    requires { (first.board ≡ board.now.id) × HoldsNothing first.view }
+    ensures { IfOk result (λ p. (p.board ≡ board.now.id) × HoldsNothing p.view) }
+{
+    let Ended { place, answer } = work(rt, alloc, hall, board, gate, first);
+    place_after(place, answer)
+}
+
+/// Runs a worker at the first place on the calling thread, and one at each other place in a thread of its
+/// own, and joins them into the first.
+fn in_threads<K: Asked + Send + Sync, R: Threads + Wait + Sync, G: Gate>(
+    rt: &R,
+    alloc: Global,
+    hall: &Hall<K>,
     board: &Board,
     gate: &G,
     first: Place,
     places: Vec<Place>,
 ) -> Result<Place, RunFault>
-    requires first { first.board ≡ board.now.id }
-    requires places { All (λ p. p.board ≡ board.now.id) places.items }
-    ensures { IfOk result (λ p. p.board ≡ board.now.id) }
+    requires first { (first.board ≡ board.now.id) × HoldsNothing first.view }
+    requires places { All (λ p. (p.board ≡ board.now.id) × HoldsNothing p.view) places.items }
+    ensures { IfOk result (λ p. (p.board ≡ board.now.id) × HoldsNothing p.view) }
 {
     thread::scope(
         thread::scope_env(),
         rt,
         move |scope| -> Result<Place, RunFault>
-            requires { (first.board ≡ board.now.id) × All (λ p. p.board ≡ board.now.id) places.items }
-            ensures { IfOk result (λ p. p.board ≡ board.entry.now.id) }
+            requires { ((first.board ≡ board.now.id) × HoldsNothing first.view) × All (λ p. (p.board ≡ board.now.id) × HoldsNothing p.view) places.items }
+            ensures { IfOk result (λ p. (p.board ≡ board.entry.now.id) × HoldsNothing p.view) }
         {
-            let mut first = first;
             let mut handles = Vec::with_capacity(alloc, places.len())?;
             let mut are_all = true;
             for place in places {
                 let started = scope.spawn_with(
                     OfBoard(board),
                     move || -> Ended
-                        requires { place.board ≡ board.now.id }
-                        ensures { result.place.board ≡ board.entry.now.id }
+                        requires { (place.board ≡ board.now.id) × HoldsNothing place.view }
+                        ensures { IsEndAt board.entry.now result }
                     { work(rt, alloc, hall, board, gate, place) },
                 );
                 are_all &= keep(board, &mut handles, started.ok());
@@ -118,16 +182,14 @@ fn in_threads<R: Threads + Wait + Sync, G: Gate>(
             if !are_all {
                 hall.give_up(rt);
             }
-            join_all(rt, board, &mut first, handles)?;
-            if !are_all {
-                return Err(RunFault::Worker);
-            }
-            Ok(first)
+            let Ended { mut place, answer } = work(rt, alloc, hall, board, gate, first);
+            let answer = join_all(rt, board, &mut place, answer, handles);
+            place_after(place, both(answer, all_started(are_all)))
         },
     )
 }
 
-/// A board, its first place, and one for each worker.
+/// A board, its first place, and one for each other worker.
 #[derive(Drop)]
 struct Seats {
     board: Board,
@@ -135,14 +197,23 @@ struct Seats {
     places: Vec<Place>,
 }
 
-fn make_seats(alloc: Global, actors: u32, workers: u32) -> Result<Seats, AllocError>
+/// A board and its first place.
+fn first_seat(alloc: Global, actors: u32) -> Result<(Board, Place), AllocError>
+    requires { actors ≤ 64 }
+    ensures actors { IfOk result (λ s. s.0.actors ≡ actors) }
+    ensures first { IfOk result (λ s. (s.1.board ≡ s.0.id) × HoldsNothing s.1.view) }
+{
+    Board::new(alloc, actors)
+}
+
+fn make_seats(alloc: Global, actors: u32, others: u32) -> Result<Seats, AllocError>
     requires { actors ≤ 64 }
     ensures actors { IfOk result (λ s. s.board.actors ≡ actors) }
-    ensures first { IfOk result (λ s. s.first.board ≡ s.board.id) }
-    ensures places { IfOk result (λ s. All (λ p. p.board ≡ s.board.id) s.places.items) }
+    ensures first { IfOk result (λ s. (s.first.board ≡ s.board.id) × HoldsNothing s.first.view) }
+    ensures places { IfOk result (λ s. All (λ p. (p.board ≡ s.board.id) × HoldsNothing p.view) s.places.items) }
 {
-    let (board, mut first) = Board::new(alloc, actors)?;
-    let places = split_places(alloc, &board, &mut first, workers)?;
+    let (board, mut first) = first_seat(alloc, actors)?;
+    let places = split_places(alloc, &board, &mut first, others)?;
     Ok(Seats {
         board,
         first,
@@ -163,10 +234,10 @@ fn totals_of(alloc: Global, board: Board, place: Place) -> Result<Vec<u32>, RunF
 }
 
 /// Runs what is in the hall by so many workers, and answers how many firings of each actor they finished.
-fn run_hall<R: Threads + Wait + Sync, G: Gate>(
+fn run_hall<K: Asked + Send + Sync, R: Threads + Wait + Sync, G: Gate>(
     rt: &R,
     alloc: Global,
-    hall: &Hall,
+    hall: &Hall<K>,
     actors: u32,
     workers: u32,
     gate: &G,
@@ -178,86 +249,64 @@ fn run_hall<R: Threads + Wait + Sync, G: Gate>(
         board,
         first,
         places,
-    } = make_seats(alloc, actors, workers)?;
-    let place = in_threads(rt, alloc, hall, &board, gate, first, places)?;
+    } = make_seats(alloc, actors, workers.saturating_sub(1))?;
+    let place = if places.is_empty() {
+        alone(rt, alloc, hall, &board, gate, first)?
+    } else {
+        in_threads(rt, alloc, hall, &board, gate, first, places)?
+    };
     totals_of(alloc, board, place)
 }
 
-/// How many actors the graph has.
-fn actor_count(accepted: &Accepted) -> u32
-    ensures count { result ≡ length accepted.now.graph.actors }
-    ensures few { result ≤ 64 }
-{
-    accepted.graph().actors().len() as u32
-}
-
 /// A hall for the run.
-fn hall_of(
+fn hall_of<K: Asked>(
     alloc: Global,
-    accepted: &Accepted,
-    feeds: &[Vec<i32>],
-    periods: u32,
-    firings: Option<u32>,
-    may_wait: bool,
-) -> Result<Hall, AllocError>
-    requires fed { AreFeeds accepted.now.graph (feeds_in feeds.now) }
-    requires some_period { 1 ≤ periods }
-    requires few_periods { periods ≤ 1000 }
+    request: &Request<'_>,
+    keeping: Keeping,
+    crew: Crew,
+) -> Result<Hall<K>, AllocError>
+    requires { is_kept keeping ≡ K.keeps }
 {
-    let mut hints = Hints::new(alloc, accepted, actor_count(accepted))?;
-    let floor = Floor::new(alloc, accepted, feeds, periods, firings)?;
-    hints.look(floor.core(), u64::MAX);
-    Ok(Hall::new(floor, hints, may_wait))
+    let mut hints = request.hints(alloc)?;
+    let floor = RunFloor::new(request.floor(alloc, keeping)?);
+    hints.look_at_all(floor.core());
+    Ok(Hall::new(floor, hints, crew))
 }
 
-/// What the floor tells at its end, in one word.
-fn outcome_on(
+/// What [`outcome_of`] answers, where the type `K` says what is asked.
+fn outcome_as<K: Asked + Send + Sync, R: Threads + Wait + Sync, G: Gate>(
+    rt: &R,
     alloc: Global,
-    floor: Floor,
-    accepted: &Accepted,
-    feeds: &[Vec<i32>],
-    periods: u32,
-    firings: Option<u32>,
-    totals: &[u32],
+    request: &Request<'_>,
+    gate: &G,
+    keeping: Keeping,
 ) -> Result<Outcome, RunFault>
-    requires fed { AreFeeds accepted.now.graph (feeds_in feeds.now) }
-    requires some_period { 1 ≤ periods }
-    requires few_periods { periods ≤ 1000 }
-    requires totals { length totals.now ≡ length accepted.now.graph.actors }
-    ensures { IfOk result (IsOutcome (work_for accepted.now (feeds_in feeds.now) periods firings)) }
+    requires { is_kept keeping ≡ K.keeps }
+    ensures outcome { IfOk result (IsOutcome request.now) }
+    ensures keeps { IfOk result (λ o. o.journal.keeps ≡ is_kept keeping) }
 {
-    let outcome = settle(alloc, floor, accepted, feeds, periods, firings, totals)?;
+    let crew = Crew {
+        workers: request.workers(),
+        may_wait: gate.may_wait(),
+    };
+    let hall: Hall<K> = hall_of(alloc, request, keeping, crew)?;
+    let totals = run_hall(rt, alloc, &hall, request.actors(), crew.workers, gate)?;
+    let outcome = request.settle(alloc, hall.into_floor(), totals.as_slice())?;
     Ok(outcome)
 }
 
-/// What [`run`] answers, in one word.
-fn outcome_of<R: Threads + Wait + Sync, G: Gate>(
+/// What [`run`] answers, in one word, with a journal that is kept or not.
+pub(crate) fn outcome_of<R: Threads + Wait + Sync, G: Gate>(
     rt: &R,
     alloc: Global,
-    accepted: &Accepted,
-    feeds: &[Vec<i32>],
-    workers: u32,
-    periods: u32,
-    firings: Option<u32>,
+    request: &Request<'_>,
     gate: &G,
+    keeping: Keeping,
 ) -> Result<Outcome, RunFault>
-    requires fed { AreFeeds accepted.now.graph (feeds_in feeds.now) }
-    requires some_period { 1 ≤ periods }
-    requires few_periods { periods ≤ 1000 }
-    ensures { IfOk result (IsOutcome (work_for accepted.now (feeds_in feeds.now) periods firings)) }
+    ensures outcome { IfOk result (IsOutcome request.now) }
+    ensures keeps { IfOk result (λ o. o.journal.keeps ≡ is_kept keeping) }
 {
-    let hall = hall_of(alloc, accepted, feeds, periods, firings, gate.may_wait())?;
-    let actors = actor_count(accepted);
-    let totals = run_hall(rt, alloc, &hall, actors, workers, gate)?;
-    outcome_on(
-        alloc,
-        hall.into_floor(),
-        accepted,
-        feeds,
-        periods,
-        firings,
-        totals.as_slice(),
-    )
+    outcome_as::<Brand, R, G>(rt, alloc, request, gate, keeping)
 }
 
 /// Runs so many periods of an accepted graph over these feeds by worker threads: each firing is computed
@@ -270,8 +319,8 @@ fn outcome_of<R: Threads + Wait + Sync, G: Gate>(
 /// [`RunFault::Memory`] says that memory ran out, here or in a worker; [`RunFault::Worker`] that a worker
 /// could not be started or taken in; [`RunFault::Mixed`] does not come.
 ///
-/// The outcome does not depend on the number of workers, but for the order of the journal and the peaks:
-/// see [`settle`]. Which worker makes which firing is open.
+/// The outcome does not depend on the number of workers, but for the order of the journal, which is kept,
+/// and the peaks: see [`settle`]. Which worker makes which firing is open.
 pub fn run<R: Threads + Wait + Sync, G: Gate>(
     rt: &R,
     alloc: Global,
@@ -297,7 +346,9 @@ pub fn run<R: Threads + Wait + Sync, G: Gate>(
     ensures ending { IfOk result (TellsEnding (program_for accepted.now (feeds_in feeds.now) periods firings)) }
     ensures sequential { IfOk result (IsAsSequentialRun (program_for accepted.now (feeds_in feeds.now) periods firings)) }
     ensures complete { IfOk result (CompletesWhereAmple accepted.now (feeds_in feeds.now) periods firings) }
+    ensures keeps { IfOk result (λ o. o.journal.keeps ≡ true) }
 {
-    let outcome = outcome_of(rt, alloc, accepted, feeds, workers, periods, firings, gate)?;
+    let request = Request::new(accepted, feeds, workers, periods, firings);
+    let outcome = outcome_of(rt, alloc, &request, gate, Keeping::Kept)?;
     Ok(outcome)
 }

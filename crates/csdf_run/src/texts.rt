@@ -11,9 +11,10 @@ ghost use Rattle.csdf_floor.specs.Report.{names_of, report_text};
 ghost use Rattle.csdf_floor.specs.Work.{AreFeeds, feeds_in, is_sink_kernel};
 
 use crate::gate::Open;
-use crate::running::run;
+use crate::request::Request;
+use crate::running::outcome_of;
 use csdf_analysis::{AcceptFault, Accepted, accept};
-use csdf_floor::{Ending, Outcome, RunFault, printed_report};
+use csdf_floor::{Ending, Keeping, Outcome, RunFault, printed_report};
 use csdf_graph::{Actor, Graph, GraphFault, Kernel, Slice, TokenFault, read_graph, read_tokens};
 use std::alloc::{AllocError, Global};
 use std::sync::Wait;
@@ -234,34 +235,16 @@ fn texts_of(alloc: Global, graph: &Graph, outcome: &Outcome) -> Result<Texts, Al
     })
 }
 
-/// Runs what was read.
-fn run_fed<R: Threads + Wait + Sync>(
+/// Runs what was read, with no journal kept.
+fn run_request<R: Threads + Wait + Sync>(
     rt: &R,
     alloc: Global,
-    fed: &Fed,
-    workers: u32,
-    periods: u32,
-    firings: Option<u32>,
+    request: &Request<'_>,
 ) -> Result<Texts, RunFault>
-    requires fed { AreFeeds fed.now.accepted.graph (feeds_in fed.now.feeds.items) }
-    requires some_worker { 1 ≤ workers }
-    requires few_workers { workers ≤ 8 }
-    requires some_period { 1 ≤ periods }
-    requires few_periods { periods ≤ 1000 }
-    ensures { IfOk result (λ texts. (outcome : OutcomeCode)
-        × TellOutcome (work_for fed.now.accepted (feeds_in fed.now.feeds.items) periods firings) outcome texts) }
+    ensures { IfOk result (λ texts. (outcome : OutcomeCode) × TellOutcome request.now outcome texts) }
 {
-    let outcome = run(
-        rt,
-        alloc,
-        &fed.accepted,
-        &fed.feeds,
-        workers,
-        periods,
-        firings,
-        &Open,
-    )?;
-    let texts = texts_of(alloc, fed.accepted.graph(), &outcome)?;
+    let outcome = outcome_of(rt, alloc, request, &Open, Keeping::NotKept)?;
+    let texts = texts_of(alloc, request.graph(), &outcome)?;
     Ok(texts)
 }
 
@@ -292,7 +275,8 @@ pub fn run_texts<R: Threads + Wait + Sync>(
     ensures refused { IfErr result (IsRefusal graph.now (texts_in feeds.now)) }
 {
     let fed = fed_of(alloc, graph, feeds)?;
-    match run_fed(rt, alloc, &fed, workers, periods, firings) {
+    let request = Request::new(&fed.accepted, &fed.feeds, workers, periods, firings);
+    match run_request(rt, alloc, &request) {
         Ok(texts) => Ok(texts),
         Err(fault) => Err(TextsFault::Run(fault)),
     }

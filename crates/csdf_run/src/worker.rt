@@ -1,19 +1,21 @@
 //! What one worker does.
 
-ghost use Rattle.std.specs.Prelude.{◌≡◌, ◌<◌, ◌≤◌, IfOk, IfSome};
-ghost use Rattle.csdf_claims.specs.Board.{Holds};
+ghost use Rattle.std.specs.Prelude.{◌≡◌, ℕ, None, Some, IfOk, IsTrue, OnOk, false, true};
+ghost use Rattle.csdf_claims.specs.Board.{HasFinished};
 ghost use Rattle.csdf_floor.specs.Floor.{IsReady};
+ghost use Rattle.csdf_run.specs.Hand.{claim_for, claim_if, claim_in};
+ghost use Rattle.csdf_run.specs.Workers.{HasMade, HoldsJust, HoldsNothing, IsActor, IsStartOf};
 
+use crate::claims::{Claim, claim_among, finish, give_back};
 use crate::gate::Gate;
-use crate::hall::Hall;
+use crate::hall::{Hall, Turn};
+use crate::hand::Hand;
+use crate::run_floor::Asked;
+use crate::watched::Stand;
 use csdf_claims::{Board, Place};
 use csdf_floor::{DeliverFault, RunFault, StartFault};
-use csdf_kernel::{Job, eval};
 use std::alloc::Global;
 use std::sync::Wait;
-
-/// The greatest firing number that may be claimed.
-const LAST_FIRING: u32 = 16_384_000;
 
 /// A worker's place at its end, and why it gave up if it did.
 #[derive(Drop)]
@@ -22,125 +24,194 @@ pub(crate) struct Ended {
     pub(crate) answer: Result<(), RunFault>,
 }
 
-/// Claims a firing and starts it. `None` where it cannot be had.
-fn claim<R: Wait>(
-    rt: &R,
-    alloc: Global,
-    hall: &Hall,
+/// Claims the firing to start next, beside what is held: of those who can begin, or else of those who may
+/// once what is held is delivered. None once all is over.
+fn claim_next<K: Asked>(
+    hall: &Hall<K>,
     board: &Board,
     place: &mut Place,
-    actor: u32,
-    firing: u32,
-) -> Result<Option<Job>, RunFault>
+    stand: &Stand,
+    beside: Option<Claim>,
+) -> Option<Claim>
     requires place { place.old.board ≡ board.now.id }
-    requires actor { actor < board.now.actors }
-    requires firing { firing ≤ 16_384_000 }
+    requires holds { HoldsJust place.old.view beside None }
     ensures board { place.new.board ≡ board.now.id }
-    ensures job { IfOk result (λ found. IfSome found (λ job. IsReady job × (job.actor ≡ actor) × Holds place.new.view job.actor job.firing)) }
+    ensures holds { HoldsJust place.new.view beside result }
+    ensures actor { IsActor board.now.actors result }
 {
-    if board.try_claim(place, actor, firing).is_err() {
-        return Ok(None);
+    if hall.is_ended() {
+        return None;
     }
-    match hall.start(rt, alloc, actor, firing) {
-        Ok(job) => Ok(Some(job)),
-        Err(fault) => {
-            board.hand_back(place, actor);
-            match fault {
-                StartFault::Refused(_) => Ok(None),
-                StartFault::Memory => Err(RunFault::Memory),
-                StartFault::Unknown | StartFault::Moved(_) => Err(RunFault::Mixed),
-            }
-        }
+    if let Some(claim) = claim_among(board, place, beside, hall.seen(stand)) {
+        return Some(claim);
     }
+    claim_among(board, place, beside, stand.next)
 }
 
-/// Passes the gate, evaluates the job and delivers its result.
-fn fire<R: Wait, G: Gate>(
-    rt: &R,
-    alloc: Global,
-    hall: &Hall,
+/// What becomes of a claim once a start was tried: that of a job which was started is held, and one that was
+/// refused is given up.
+fn settle_start(
     board: &Board,
-    gate: &G,
     place: &mut Place,
-    job: Job,
-) -> Result<(), RunFault>
-    requires place { place.old.board ≡ board.now.id }
-    requires actor { job.actor < board.now.actors }
-    requires holds { Holds place.old.view job.actor job.firing }
-    requires ready { IsReady job }
-    ensures board { place.new.board ≡ board.now.id }
-{
-    let actor = job.actor;
-    gate.enter(board, place, actor, job.firing);
-    let Ok(done) = eval(alloc, job) else {
-        return Err(RunFault::Memory);
-    };
-    match hall.deliver(rt, alloc, &done) {
-        Ok(()) => {
-            board.done(place, actor);
-            Ok(())
-        }
-        Err(DeliverFault::Memory) => Err(RunFault::Memory),
-        Err(DeliverFault::Stranger) => Err(RunFault::Mixed),
-    }
-}
-
-/// Makes the first firing that can be had, and says whether there was one.
-fn fire_next<R: Wait, G: Gate>(
-    rt: &R,
-    alloc: Global,
-    hall: &Hall,
-    board: &Board,
-    gate: &G,
-    place: &mut Place,
+    next: Option<Claim>,
+    started: Result<bool, StartFault>,
+    hand: &Hand,
 ) -> Result<bool, RunFault>
     requires place { place.old.board ≡ board.now.id }
+    requires actor { IsActor board.now.actors next }
+    requires holds { HoldsJust place.old.view None next }
+    requires started { IfOk started (λ is_started. IsStartOf next is_started hand.now.job) }
     ensures board { place.new.board ≡ board.now.id }
+    ensures holds { IfOk result (λ is_started. HoldsJust place.new.view None (claim_if is_started hand.now.job)) }
+    ensures ready { IfOk result (λ is_started. IsTrue is_started → IsReady hand.now.job) }
+    ensures actor { IfOk result (λ is_started. IsActor board.now.actors (claim_if is_started hand.now.job)) }
+    ensures finished { (a k : ℕ) → HasFinished place.old.view a k → HasFinished place.new.view a k }
 {
-    let mut left = hall.ready();
-    for _ in 0..64 {
-        if left == 0 {
-            break;
-        }
-        let actor = left.trailing_zeros();
-        left &= left - 1;
-        if actor >= board.actors() {
-            break;
-        }
-        let (firing, is_held) = board.peek(place, actor);
-        if is_held || firing > LAST_FIRING {
-            continue;
-        }
-        if let Some(job) = claim(rt, alloc, hall, board, place, actor, firing)? {
-            fire(rt, alloc, hall, board, gate, place, job)?;
-            return Ok(true);
-        }
+    let _ = hand;
+    if matches!(&started, Ok(true)) {
+        return Ok(true);
     }
-    Ok(false)
+    give_back(board, place, next);
+    match started {
+        Ok(_) | Err(StartFault::Refused(_)) => Ok(false),
+        Err(StartFault::Memory) => Err(RunFault::Memory),
+        Err(StartFault::Unknown | StartFault::Moved(_)) => Err(RunFault::Mixed),
+    }
+}
+
+/// Delivers what is in hand and starts what is claimed, in one hold of the lock. Behind it the claims end:
+/// what was given is finished, and what was refused is given up. Only then another worker is woken. True
+/// where a job was started, which is then in hand.
+fn turn<K: Asked, R: Wait>(
+    rt: &R,
+    alloc: Global,
+    hall: &Hall<K>,
+    board: &Board,
+    place: &mut Place,
+    stand: &mut Stand,
+    hand: &mut Hand,
+    next: Option<Claim>,
+) -> Result<bool, RunFault>
+    requires place { place.old.board ≡ board.now.id }
+    requires given { IsActor board.now.actors (claim_in hand.old) }
+    requires next { IsActor board.now.actors next }
+    requires holds { HoldsJust place.old.view (claim_in hand.old) next }
+    ensures board { place.new.board ≡ board.now.id }
+    ensures idle { hand.new.is_made ≡ false }
+    ensures holds { IfOk result (λ is_started. HoldsJust place.new.view None (claim_if is_started hand.new.job)) }
+    ensures ready { IfOk result (λ is_started. IsTrue is_started → IsReady hand.new.job) }
+    ensures actor { IfOk result (λ is_started. IsActor board.now.actors (claim_if is_started hand.new.job)) }
+    ensures made { IfOk result (λ _. HasMade place.new.view (claim_in hand.old)) }
+{
+    let Turn {
+        delivered,
+        started,
+        wakes,
+    } = hall.turn(rt, alloc, place, stand, hand, next);
+    let delivered = match delivered {
+        Ok(delivered) => delivered,
+        Err(DeliverFault::Memory) => return Err(RunFault::Memory),
+        Err(DeliverFault::Stranger) => return Err(RunFault::Mixed),
+    };
+    finish(board, place, delivered, next);
+    let answer = settle_start(board, place, next, started, hand);
+    if wakes {
+        hall.wake();
+    }
+    answer
+}
+
+/// Passes the gate with the firing whose job is in hand, which the worker goes on holding.
+fn pass<G: Gate>(board: &Board, gate: &G, place: &mut Place, hand: &Hand)
+    requires place { place.old.board ≡ board.now.id }
+    requires holds { HoldsJust place.old.view None (Some (claim_for hand.now.job)) }
+    ensures board { place.new.board ≡ board.now.id }
+    ensures passed { G.passed gate.now hand.now.job.actor hand.now.job.firing }
+    ensures holds { HoldsJust place.new.view (Some (claim_for hand.now.job)) None }
+    ensures finished { (a k : ℕ) → HasFinished place.old.view a k → HasFinished place.new.view a k }
+{
+    let job = hand.job();
+    gate.enter(board, place, job.actor, job.firing);
+}
+
+/// Passes the gate and evaluates the job in hand.
+fn fire<G: Gate>(
+    board: &Board,
+    gate: &G,
+    place: &mut Place,
+    hand: &mut Hand,
+) -> Result<(), RunFault>
+    requires place { place.old.board ≡ board.now.id }
+    requires holds { HoldsJust place.old.view None (Some (claim_for hand.old.job)) }
+    requires ready { IsReady hand.old.job }
+    ensures board { place.new.board ≡ board.now.id }
+    ensures job { hand.new.job ≡ hand.old.job }
+    ensures made { OnOk result (hand.new.is_made ≡ true) }
+    ensures holds { HoldsJust place.new.view (Some (claim_for hand.old.job)) None }
+    ensures finished { (a k : ℕ) → HasFinished place.old.view a k → HasFinished place.new.view a k }
+{
+    pass(board, gate, place, hand);
+    match hand.evaluate(gate) {
+        Ok(()) => Ok(()),
+        Err(_error) => Err(RunFault::Memory),
+    }
+}
+
+/// Delivers what is in hand, and makes the next firing, up to its delivery, where one can be had.
+fn advance<K: Asked, R: Wait, G: Gate>(
+    rt: &R,
+    alloc: Global,
+    hall: &Hall<K>,
+    board: &Board,
+    gate: &G,
+    place: &mut Place,
+    stand: &mut Stand,
+    hand: &mut Hand,
+) -> Result<(), RunFault>
+    requires place { place.old.board ≡ board.now.id }
+    requires actor { IsActor board.now.actors (claim_in hand.old) }
+    requires holds { HoldsJust place.old.view (claim_in hand.old) None }
+    ensures board { place.new.board ≡ board.now.id }
+    ensures actor { OnOk result (IsActor board.now.actors (claim_in hand.new)) }
+    ensures holds { OnOk result (HoldsJust place.new.view (claim_in hand.new) None) }
+    ensures made { OnOk result (HasMade place.new.view (claim_in hand.old)) }
+{
+    let given = hand.claim();
+    let next = claim_next(hall, board, place, stand, given);
+    if next.is_none() && given.is_none() {
+        return Ok(());
+    }
+    match turn(rt, alloc, hall, board, place, stand, hand, next) {
+        Ok(true) => fire(board, gate, place, hand),
+        Ok(false) => Ok(()),
+        Err(fault) => Err(fault),
+    }
 }
 
 /// Makes firings until the floor is quiet or a worker has given up.
-pub(crate) fn work<R: Wait, G: Gate>(
+pub(crate) fn work<K: Asked, R: Wait, G: Gate>(
     rt: &R,
     alloc: Global,
-    hall: &Hall,
+    hall: &Hall<K>,
     board: &Board,
     gate: &G,
     place: Place,
 ) -> Ended
-    requires { place.board ≡ board.now.id }
-    ensures { result.place.board ≡ board.now.id }
+    requires board { place.board ≡ board.now.id }
+    requires free { HoldsNothing place.view }
+    ensures board { result.place.board ≡ board.now.id }
+    ensures free { IfOk result.answer (λ _. HoldsNothing result.place.view) }
 {
     let mut place = place;
+    let mut stand = hall.stand();
+    let mut hand = Hand::new(alloc);
     for _ in rt.forever() {
-        if hall.is_given_up() {
-            break;
-        }
-        let seen = hall.changes();
-        match fire_next(rt, alloc, hall, board, gate, &mut place) {
-            Ok(true) => {}
-            Ok(false) => {
-                if hall.wait_past(rt, seen) {
+        let is_idle = hand.claim().is_none();
+        match advance(
+            rt, alloc, hall, board, gate, &mut place, &mut stand, &mut hand,
+        ) {
+            Ok(()) => {
+                if is_idle && hand.claim().is_none() && hall.wait(rt, &mut stand) {
                     break;
                 }
             }

@@ -1,9 +1,9 @@
-//! A job that takes memory, for `tests/memory/run`: it refuses one allocation after another.
+//! Jobs that take memory, for `tests/memory/run`: it refuses one allocation after another.
 
 ghost use Rattle.csdf_floor.specs.Floor.{IsReady};
 
 use crate::shared::{done_of, job_of};
-use csdf_kernel::{Done, Job, eval};
+use csdf_kernel::{Done, Job, Outputs, eval, eval_into, push_same};
 use csdf_model::Kernel;
 use std::alloc::Global;
 use std::process::Abort;
@@ -44,4 +44,48 @@ fn hands_the_job_back(rt: HostRuntime) -> Result<(), Fail> {
         }
         Err((job, _)) => check_done_now(&rt, rt.alloc(), job),
     }
+}
+
+/// Puts a value in the place of two sums; where memory is wanting, the sums stay.
+fn check_next(rt: &impl Abort, job: &Job, outputs: &mut Outputs) -> Result<(), Fail>
+    requires { IsReady job.now }
+{
+    match eval_into(job, outputs) {
+        Ok(()) => {
+            assert_eq!(rt; outputs.as_slice(), OUTPUTS.as_slice());
+            Ok(())
+        }
+        Err(fault) => {
+            assert_eq!(rt; outputs.as_slice(), [11, 11].as_slice());
+            Err(fault.into())
+        }
+    }
+}
+
+/// One list has the value of one job after another.
+#[test]
+fn fills_the_outputs_again(rt: HostRuntime) -> Result<(), Fail> {
+    let alloc = rt.alloc();
+    let sum = job_of(&rt, alloc, Kernel::Sum, &[2], &[5, 6])?;
+    let copy = job_of(&rt, alloc, Kernel::Copy, &[20], &[1, 2, 3])?;
+    let mut outputs = Outputs::new(alloc);
+    eval_into(&sum, &mut outputs)?;
+    check_next(&rt, &copy, &mut outputs)?;
+    eval_into(&sum, &mut outputs)?;
+    assert_eq!(&rt; outputs.as_slice(), [11, 11].as_slice());
+    Ok(())
+}
+
+/// A blank job gives nothing, and one token fills a list over and over.
+#[test]
+fn begins_with_a_blank_job(rt: HostRuntime) -> Result<(), Fail> {
+    let job = Job::blank(rt.alloc());
+    assert!(&rt; matches!(job.kernel, Kernel::Sink));
+    assert_eq!(&rt; (job.actor, job.firing), (0, 0));
+    let mut outputs = Outputs::new(rt.alloc());
+    push_same(&mut outputs, 3, 7);
+    assert_eq!(&rt; outputs.as_slice(), [7, 7, 7].as_slice());
+    eval_into(&job, &mut outputs)?;
+    assert!(&rt; outputs.is_empty());
+    Ok(())
 }

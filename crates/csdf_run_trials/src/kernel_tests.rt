@@ -50,10 +50,76 @@ fn filters(rt: HostRuntime) -> Result<(), Fail> {
     gives(&rt, rt.alloc(), kernel, &[3], &[4, 8, 12, -7], &[8, 6, -1])
 }
 
+/// A filter of sixteen taps of one weight.
+fn level(weight: i32, shift: u32) -> Kernel {
+    Kernel::Fir {
+        weights: [weight; 16],
+        taps: 16,
+        shift,
+    }
+}
+
+#[test]
+fn filters_with_sixteen_taps(rt: HostRuntime) -> Result<(), Fail> {
+    let kernel = Kernel::Fir {
+        weights: [1, 2, 3, 4, 5, 6, 7, 8, 9, 10, 11, 12, 13, 14, 15, 16],
+        taps: 16,
+        shift: 3,
+    };
+    let inputs = [
+        1, 2, 3, 4, 5, 6, 7, 8, 9, 10, 11, 12, 13, 14, 15, 16, 17, 18, 19, 20,
+    ];
+    gives(
+        &rt,
+        rt.alloc(),
+        kernel,
+        &[6],
+        &inputs,
+        &[187, 204, 221, 238, 255, 230],
+    )
+}
+
+/// Gives these three outputs of sixteen taps of one weight over seventeen of the least tokens: the
+/// third output has fifteen products.
+fn levels(
+    rt: &impl Abort,
+    alloc: Global,
+    weight: i32,
+    shift: u32,
+    wanted: &[i32],
+) -> Result<(), Fail> {
+    let inputs = [i32::MIN; 17];
+    gives(rt, alloc, level(weight, shift), &[3], &inputs, wanted)
+}
+
+/// Sixteen products of 2^27 and -2^31 add up to -2^62.
+#[test]
+fn filters_with_the_greatest_small_weights(rt: HostRuntime) -> Result<(), Fail> {
+    let alloc = rt.alloc();
+    let (low, high) = (-2147483648, 2147483647);
+    let (up, down) = (134217728, -134217728);
+    levels(&rt, alloc, up, 0, &[low, low, low])?;
+    levels(&rt, alloc, up, 31, &[low, low, -2013265920])?;
+    levels(&rt, alloc, down, 0, &[high, high, high])?;
+    levels(&rt, alloc, down, 31, &[high, high, 2013265920])
+}
+
+/// One more than the greatest small weight, in size.
+#[test]
+fn filters_with_the_least_great_weights(rt: HostRuntime) -> Result<(), Fail> {
+    let alloc = rt.alloc();
+    let (low, high) = (-2147483648, 2147483647);
+    let (up, down) = (134217729, -134217729);
+    levels(&rt, alloc, up, 31, &[low, low, -2013265935])?;
+    levels(&rt, alloc, down, 31, &[high, high, 2013265935])?;
+    gives(&rt, alloc, level(up, 20), &[2], &[-3; 16], &[-6145, -5761])
+}
+
 #[test]
 fn copies(rt: HostRuntime) -> Result<(), Fail> {
     let (alloc, kernel) = (rt.alloc(), Kernel::Copy);
     gives(&rt, alloc, kernel, &[2, 4], &[1, 2, 3], &[1, 2, 1, 2, 3, 1])?;
+    gives(&rt, alloc, kernel, &[7], &[4, 5], &[4, 5, 4, 5, 4, 5, 4])?;
     gives(&rt, alloc, kernel, &[2, 4], &[], &[0, 0, 0, 0, 0, 0])
 }
 

@@ -16,6 +16,8 @@ mod memory_tests;
 #[cfg(test)]
 mod oracle_tests;
 #[cfg(test)]
+mod outcome_tests;
+#[cfg(test)]
 mod run_tests;
 #[cfg(test)]
 mod shared;

@@ -1,14 +1,16 @@
 //! Floors and runs that take memory, for `tests/memory/run`: it refuses them one allocation after
 //! another. A test then ends for want of memory, or as it does where nothing is refused.
 
-ghost use Rattle.std.specs.Prelude.{◌≡◌, ◌<◌, IfOk, length};
+ghost use Rattle.std.specs.Prelude.{◌≡◌, ◌<◌, IfOk, OnOk, length};
 ghost use Rattle.csdf_floor.specs.Floor.{IsReady};
 
 use crate::shared::{accepted_in, deliver, done_of, expect_eq, feeds_of, ran, settled, told_of};
 use csdf_analysis::Accepted;
 use csdf_core::Core;
-use csdf_kernel::{Done, Job, eval};
-use csdf_run::{DeliverFault, Floor, Open, Outcome, RunFault, StartFault, are_feeds, run_texts};
+use csdf_kernel::{Done, Job, Outputs, eval, eval_into};
+use csdf_run::{
+    DeliverFault, Floor, Keeping, Open, Outcome, RunFault, StartFault, are_feeds, run_texts,
+};
 use std::alloc::Global;
 use std::process::Abort;
 use std::sync::Wait;
@@ -203,7 +205,7 @@ fn check_told<R: Abort>(
             let told = told_of(alloc, accepted, &outcome)?;
             expect_eq(&rt, told.as_str(), TOLD);
             // four moves of each firing, and a close of each channel
-            expect_eq(&rt, outcome.journal.len(), 18);
+            expect_eq(&rt, outcome.journal.moves().len(), 18);
             Ok(())
         }
         Err(fault) => Err(fault.into()),
@@ -221,6 +223,79 @@ fn a_floor_is_driven_to_its_end(rt: HostRuntime) -> Result<(), Fail> {
     }
     let answer = settled(&rt, alloc, floor, &accepted, &feeds, 1, None, &[1, 1, 1]);
     check_told(&rt, alloc, &accepted, answer)
+}
+
+// ---- a floor that keeps no journal, with one job and one list of outputs for all firings
+
+fn floor_without_journal<R: Abort>(
+    rt: &R,
+    alloc: Global,
+    accepted: &Accepted,
+    feeds: &[Vec<i32>],
+) -> Result<Floor, Fail> {
+    assert!(rt; are_feeds(accepted.graph(), feeds));
+    Ok(Floor::with_journal(alloc, accepted, feeds, 1, None, Keeping::NotKept)?)
+}
+
+/// Starts the actor's first firing. A start that lacked memory has changed nothing that is shown.
+fn start_again<R: Abort>(
+    rt: &R,
+    alloc: Global,
+    floor: &mut Floor,
+    actor: u32,
+    job: &mut Job,
+) -> Result<(), Fail>
+    ensures { OnOk result (IsReady job.new) }
+{
+    let before = shown(alloc, floor)?;
+    match floor.start_into(actor, 0, job) {
+        Ok(()) => Ok(()),
+        Err(fault) => {
+            expect_eq(&rt, fault, StartFault::Memory);
+            expect_eq(&rt, shown(alloc, floor)?.as_str(), before.as_str());
+            Ok(floor.start_into(actor, 0, job)?)
+        }
+    }
+}
+
+/// Makes the actor's first firing. A delivery without a journal lacks no memory.
+fn fire_again<R: Abort>(
+    rt: &R,
+    alloc: Global,
+    floor: &mut Floor,
+    actor: u32,
+    job: &mut Job,
+    outputs: &mut Outputs,
+) -> Result<(), Fail> {
+    start_again(rt, alloc, floor, actor, job)?;
+    eval_into(job, outputs)?;
+    expect_eq(
+        &rt,
+        floor.deliver_value(alloc, job, outputs.as_slice()),
+        Ok(()),
+    );
+    Ok(())
+}
+
+fn check_sink<R: Abort>(rt: &R, sinks: &[Vec<i32>]) {
+    assert!(rt; sinks.len() == 3);
+    expect_eq(rt, sinks[2].as_slice(), &FEED[..18]);
+}
+
+#[test]
+fn one_job_serves_all_firings(rt: HostRuntime) -> Result<(), Fail> {
+    let alloc = rt.alloc();
+    let accepted = accepted_in(alloc, WIDE)?;
+    let feeds = feeds_of(alloc, &FEED)?;
+    let mut floor = floor_without_journal(&rt, alloc, &accepted, &feeds)?;
+    let mut job = Job::blank(alloc);
+    let mut outputs = Outputs::new(alloc);
+    for actor in 0..3 {
+        fire_again(&rt, alloc, &mut floor, actor, &mut job, &mut outputs)?;
+    }
+    check_sink(&rt, floor.sinks());
+    expect_eq(&rt, floor.journal().len(), 0);
+    Ok(())
 }
 
 fn check_run<R: Threads + Wait + Abort + Sync>(

@@ -16,6 +16,10 @@ Reads DIR/NAME.in for each source NAME of the graph, one token a line. Once the 
 writes DIR/NAME.out for each sink NAME, over a file that is there, and then prints a report.
 What the actors write is computed by their kernels.
 
+Memory holds the tokens that are read and those that the sinks take; a firing leaves nothing else
+behind. More workers pay where single firings are long, of 16,384 products or more: lighter ones
+are made by one worker, however many there are.
+
 Exit status: 0 the run has ended (complete, dry, stopped or starved), 1 an input was refused,
 2 these words were, 3 a file, memory or the run itself failed.
 

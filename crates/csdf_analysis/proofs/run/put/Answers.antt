@@ -1,4 +1,4 @@
-use Rattle.std.proofs.Common.{◌≡◌, ◌==◌, ◌+◌, ◌-◌, ◌<◌, length, get_or, refl, ap, sym, subst, ◌∙◌, arith}
+use Rattle.std.proofs.Common.{◌==◌, ◌+◌, ◌<◌, length, get_or, refl, ap, sym, subst, arith}
 use Rattle.csdf_model.specs.Graph.{Channel, phases_of}
 use Rattle.csdf_analysis.proofs.FitLemmas.{output_end}
 use Rattle.csdf_analysis.proofs.FiringLemmas.{still, one_changed, all_changed, there}

@@ -8,25 +8,25 @@ use Rattle.csdf_core.proofs.playing.play.Goals as goal
 
 pub returns-clause-peaks : goal.returns-clause-peaks
 returns-clause-peaks c =
-    let playable : IsPlayable c.play_on.new.core.plan = subst (λ (v : View). IsPlayable v.plan) c.core.view_is c.core.invariant.playable in
+    let playable : IsPlayable c.play_on.new.core.plan = subst (λ (v : View). IsPlayable v.plan) c.core.view_is c.core.invariant.sound.playable in
     peaks_hold c.in_ok-core.core c.play_on.new.core (map move_of c.args.moves.now) (replies_in c.in_ok-replies.replies.items)
     c.in_ok-core.ensures.opening c.in_ok-replies.ensures.played playable c.in_ok-core.ensures.peaks
 
 pub returns-clause-prefix : goal.returns-clause-prefix
 returns-clause-prefix c =
-    let playable : IsPlayable c.play_on.new.core.plan = subst (λ (v : View). IsPlayable v.plan) c.core.view_is c.core.invariant.playable in
+    let playable : IsPlayable c.play_on.new.core.plan = subst (λ (v : View). IsPlayable v.plan) c.core.view_is c.core.invariant.sound.playable in
     order_kept c.in_ok-core.core c.play_on.new.core (map move_of c.args.moves.now) (replies_in c.in_ok-replies.replies.items)
     c.in_ok-core.ensures.opening c.in_ok-replies.ensures.played playable
 
 pub returns-clause-capacity : goal.returns-clause-capacity
 returns-clause-capacity c =
-    let playable : IsPlayable c.play_on.new.core.plan = subst (λ (v : View). IsPlayable v.plan) c.core.view_is c.core.invariant.playable in
+    let playable : IsPlayable c.play_on.new.core.plan = subst (λ (v : View). IsPlayable v.plan) c.core.view_is c.core.invariant.sound.playable in
     capacities_kept c.in_ok-core.core c.play_on.new.core (map move_of c.args.moves.now) (replies_in c.in_ok-replies.replies.items)
     c.in_ok-core.ensures.opening c.in_ok-replies.ensures.played playable
 
 pub returns-clause-closed : goal.returns-clause-closed
 returns-clause-closed c =
-    let playable : IsPlayable c.play_on.new.core.plan = subst (λ (v : View). IsPlayable v.plan) c.core.view_is c.core.invariant.playable in
+    let playable : IsPlayable c.play_on.new.core.plan = subst (λ (v : View). IsPlayable v.plan) c.core.view_is c.core.invariant.sound.playable in
     closed_kept c.in_ok-core.core c.play_on.new.core (map move_of c.args.moves.now) (replies_in c.in_ok-replies.replies.items)
     c.in_ok-core.ensures.opening c.in_ok-replies.ensures.played playable
 

@@ -1,4 +1,4 @@
-use Rattle.std.proofs.Common.{◌≡◌, ◌<◌, ◌∙◌, List, length, refl, sym, arith}
+use Rattle.std.proofs.Common.{◌≡◌, ◌<◌, ◌∙◌, length, refl, sym, arith}
 use Rattle.std.specs.Prelude.{ℤ}
 use Rattle.std.specs.Global.{Vec}
 use Rattle.csdf_floor.proofs.Sames.{same_more, same_item}

@@ -1,6 +1,4 @@
-use Rattle.std.proofs.Common.{◌≡◌, ℕ, List, ◌∙◌, ap, sym, subst, refl}
-use Rattle.csdf_core.specs.State.{Present}
-use Rattle.csdf_floor.specs.Floor.{FloorView}
+use Rattle.std.proofs.Common.{ℕ, List, subst, refl}
 use Rattle.csdf_floor.specs.Outcome.{HasTotals, IsEndOf, IsOutcome}
 use Rattle.csdf_floor.specs.Work.{Work, feeds_in, program}
 use Rattle.csdf_floor.proofs.settling.settle.Goals as goal

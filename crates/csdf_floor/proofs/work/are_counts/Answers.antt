@@ -1,4 +1,4 @@
-use Rattle.std.proofs.Common.{◌≡◌, ℕ, List, length, map, get_or, ap, sym, ◌∙◌, refl, arith}
+use Rattle.std.proofs.Common.{ℕ, List, length, map, get_or, ap, sym, ◌∙◌, refl, arith}
 use Rattle.std.proofs.lemmas.List.{length-map, get_or-map}
 use Rattle.csdf_floor.specs.Inside.{production_at}
 use Rattle.csdf_floor.proofs.Loops.{same_more, same_whole}

@@ -1,5 +1,4 @@
 use Rattle.std.proofs.Common.{◌≡◌, get_or, ap, subst, sym, ◌∙◌, map}
-use Rattle.csdf_model.specs.declared.parts.Kernel.{Kernel}
 use Rattle.csdf_model.specs.declared.parts.Kernel.TheVariants.{Sink}
 use Rattle.csdf_model.specs.declared.parts.Actor.{Actor as ActorCode}
 use Rattle.csdf_model.specs.Graph.{Actor}

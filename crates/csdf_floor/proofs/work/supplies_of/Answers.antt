@@ -1,5 +1,5 @@
 use Rattle.std.proofs.lemmas.Grind.{common_steps}
-use Rattle.std.proofs.Common.{◌≡◌, arith}
+use Rattle.std.proofs.Common.{arith}
 use Rattle.csdf_floor.proofs.Works.{feed_short}
 use Rattle.csdf_floor.proofs.work.supplies_of.Goals as goal
 

@@ -1,18 +1,29 @@
-use Rattle.csdf_run.specs.Texts.{texts_in}
-use Rattle.csdf_floor.specs.Work.{feeds_in}
+use Rattle.std.proofs.Common.{List, ap, sym, subst, ◌∙◌}
+use Rattle.std.specs.Prelude.{ℤ}
+use Rattle.std.specs.Global.{Vec}
+use Rattle.csdf_floor.specs.Work.{AreFeeds, Work, feeds_in}
+use Rattle.csdf_run.specs.Texts.{TellOutcome, texts_in, work_for}
 use Rattle.csdf_run.proofs.FeedTexts.{as_sequential, can_be_run}
 use Rattle.csdf_run.proofs.texts.run_texts.Goals as goal
 
-pub run_fed-requires-clause-fed : goal.run_fed-requires-clause-fed
-run_fed-requires-clause-fed g c κs within =
-    can_be_run c.in_ok-fed.fed.accepted.graph (texts_in c.args.feeds.now) (feeds_in c.in_ok-fed.fed.feeds.items) c.in_ok-fed.ensures.read.tokens
+pub new-request-requires-clause-fed : goal.new-request-requires-clause-fed
+new-request-requires-clause-fed g c =
+    let a = c.in_ok-fed.fed.accepted in
+    subst (λ (feeds : List (Vec ℤ)). AreFeeds a.graph (feeds_in feeds)) (sym c.deref.ensures.value)
+    (can_be_run a.graph (texts_in c.args.feeds.now) (feeds_in c.in_ok-fed.fed.feeds.items) c.in_ok-fed.ensures.read.tokens)
 
-pub returns-in-Ok-clause-sequential : goal.returns-in-Ok-clause-sequential
-returns-in-Ok-clause-sequential g c =
-    as_sequential c.args.graph.now (texts_in c.args.feeds.now) c.args.periods c.args.firings c.in-Ok.texts (record {
-      accepted = c.in_ok-fed.fed.accepted;
+pub returns-in-Ok-clause-run : goal.returns-in-Ok-clause-run
+returns-in-Ok-clause-run g c =
+    let a = c.in_ok-fed.fed.accepted in
+    let w = c.new-request.ensures ∙ ap (λ (feeds : List (Vec ℤ)). work_for a (feeds_in feeds) c.args.periods c.args.firings) c.deref.ensures.value in
+    record {
+      accepted = a;
       feeds = feeds_in c.in_ok-fed.fed.feeds.items;
       outcome = c.in-Ok.ensures.0;
       read = c.in_ok-fed.ensures.read;
-      told = c.in-Ok.ensures.1;
-    })
+      told = subst (λ (x : Work). TellOutcome x c.in-Ok.ensures.0 c.in-Ok.texts) w c.in-Ok.ensures.1;
+    }
+
+pub returns-in-Ok-clause-sequential : goal.returns-in-Ok-clause-sequential
+returns-in-Ok-clause-sequential g c =
+    as_sequential c.args.graph.now (texts_in c.args.feeds.now) c.args.periods c.args.firings c.in-Ok.texts (returns-in-Ok-clause-run g c)

@@ -1,4 +1,4 @@
-use Rattle.std.proofs.Common.{◌≡◌, ◌-◌, length, sum}
+use Rattle.std.proofs.Common.{◌-◌, sum}
 use Rattle.csdf_analysis.specs.Running.{IsRun, IsStalled}
 use Rattle.csdf_analysis.specs.Waking.{AreWaiting}
 use Rattle.csdf_analysis.proofs.SearchLemmas.{IsSearch}

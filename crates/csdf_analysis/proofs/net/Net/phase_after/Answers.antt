@@ -1,4 +1,4 @@
-use Rattle.std.proofs.Common.{◌≡◌, ◌+◌, ◌∙◌, sym}
+use Rattle.std.proofs.Common.{◌∙◌, sym}
 use Rattle.csdf_model.specs.Graph.{phases_of}
 use Rattle.csdf_analysis.proofs.FiringLemmas.{phase_last, phase_next}
 use Rattle.csdf_analysis.proofs.net.Net.phase_after.Goals as goal

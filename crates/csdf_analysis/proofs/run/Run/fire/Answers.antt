@@ -1,10 +1,10 @@
-use Rattle.std.proofs.Common.{◌≡◌, ◌+◌, ◌%◌, ◌<◌, List, ℕ, length, get_or, set, refl, ap, subst, sym, ◌∙◌, arith}
+use Rattle.std.proofs.Common.{◌≡◌, ◌+◌, ◌%◌, List, ℕ, length, get_or, set, refl, ap, subst, sym, ◌∙◌, arith}
 use Rattle.std.specs.Vec.{with_items}
 use Rattle.std.proofs.lemmas.List.{get_or_default, with_items_is}
 use Rattle.csdf_model.specs.Graph.{phases_of}
 use Rattle.csdf_analysis.specs.Period.{fired}
 use Rattle.csdf_analysis.specs.Running.{AreHeld}
-use Rattle.csdf_analysis.proofs.RunLemmas.{count_small, firings_left, next_at}
+use Rattle.csdf_analysis.proofs.RunLemmas.{firings_left, next_at}
 use Rattle.csdf_analysis.proofs.FiringLemmas.{enough_now, small_now, held_next, in_phase_fired}
 use Rattle.csdf_analysis.proofs.run.Run.fire.Goals as goal
 

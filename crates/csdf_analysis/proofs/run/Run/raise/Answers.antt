@@ -1,4 +1,4 @@
-use Rattle.std.proofs.Common.{◌<◌, ◌≤◌, length, get_or, ap, subst, sym, ◌∙◌, arith, List, ℕ, set, inl}
+use Rattle.std.proofs.Common.{◌<◌, ◌≤◌, length, get_or, ap, subst, sym, ◌∙◌, arith, inl}
 use Rattle.std.proofs.lemmas.List.{get_or-set_same}
 use Rattle.csdf_analysis.specs.Running.{IsLow}
 use Rattle.csdf_analysis.proofs.SearchLemmas.{only_producer, raised}

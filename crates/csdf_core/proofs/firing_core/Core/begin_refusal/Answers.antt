@@ -14,8 +14,8 @@ returns-then-actor-len-clause-follows c =
     let v : View = c.args.self.now in
     let is : refusal v.plan v.now (Begin c.args.actor) ≡ Some Unknown = search rules in
     let peaks : raised v.peaks v.now.tokens ≡ v.peaks =
-    subst (λ (u : View). raised u.peaks u.now.tokens ≡ u.peaks) c.self.view_is (peaks_stay _ _ _ _ _ _ _ c.self.invariant) in
-    let cells : AreSharedOut v.plan v.pool = subst (λ (u : View). AreSharedOut u.plan u.pool) c.self.view_is c.self.invariant.cells in
+    subst (λ (u : View). raised u.peaks u.now.tokens ≡ u.peaks) c.self.view_is (peaks_stay _ _ _ _ _ _ _ c.self.invariant.sound) in
+    let cells : AreSharedOut v.plan v.pool = subst (λ (u : View). AreSharedOut u.plan u.pool) c.self.view_is c.self.invariant.sound.cells in
     follows_refused v (Begin c.args.actor) Unknown is peaks cells
 
 pub returns-clause-follows : goal.returns-clause-follows
@@ -23,14 +23,14 @@ returns-clause-follows c =
     let v : View = c.args.self.now in
     let is : c.firing_refusal.result ≡ refusal v.plan v.now (Begin c.args.actor) = search rules in
     let peaks : raised v.peaks v.now.tokens ≡ v.peaks =
-    subst (λ (u : View). raised u.peaks u.now.tokens ≡ u.peaks) c.self.view_is (peaks_stay _ _ _ _ _ _ _ c.self.invariant) in
-    let cells : AreSharedOut v.plan v.pool = subst (λ (u : View). AreSharedOut u.plan u.pool) c.self.view_is c.self.invariant.cells in
+    subst (λ (u : View). raised u.peaks u.now.tokens ≡ u.peaks) c.self.view_is (peaks_stay _ _ _ _ _ _ _ c.self.invariant.sound) in
+    let cells : AreSharedOut v.plan v.pool = subst (λ (u : View). AreSharedOut u.plan u.pool) c.self.view_is c.self.invariant.sound.cells in
     follows_told v (Begin c.args.actor) c.firing_refusal.result is peaks cells
 
 pub returns-clause-ample : goal.returns-clause-ample
 returns-clause-ample c =
     let inside : c.args.actor < length c.self.inside.layout.sources =
-    omega (arith, c.if-actor-len.false, c.len.ensures, c.self.inside.counts.ok.0, c.self.invariant.fit.counted) in
+    omega (arith, c.if-actor-len.false, c.len.ensures, c.self.inside.counts.ok.0, c.self.invariant.sound.fit.counted) in
     let there : c.args.actor < length c.args.self.now.plan.sources = subst (λ (v : View). c.args.actor < length v.plan.sources) c.self.view_is inside in
-    let fit : IsFit c.args.self.now.plan c.args.self.now.now = subst (λ (v : View). IsFit v.plan v.now) c.self.view_is c.self.invariant.fit in
+    let fit : IsFit c.args.self.now.plan c.args.self.now.now = subst (λ (v : View). IsFit v.plan v.now) c.self.view_is c.self.invariant.sound.fit in
     λ ample e. none_lacking c.args.self.now.plan c.args.self.now.now c.args.actor there fit ample (sym c.firing_refusal.ensures ∙ e)

@@ -11,7 +11,7 @@ use Rattle.csdf_core.proofs.Peaceful.{peaks_stay}
 use Rattle.csdf_core.proofs.firing_core.Core.begin_tested.Goals as goal
 
 pub overflow_add-self : goal.overflow_add-self
-overflow_add-self c = omega (arith, few_started _ _ _ _ _ _ _ c.self.invariant)
+overflow_add-self c = omega (arith, few_started _ _ _ _ _ _ _ c.self.invariant.sound)
 
 pub invariant_of-self : goal.invariant_of-self
 invariant_of-self c =
@@ -23,8 +23,12 @@ invariant_of-self c =
     plan.channels =
     (let g = rw (← c.self.view_is) at c.gives-gift.ensures.sum in let n = rw (← c.self.view_is) at c.need-need.ensures.value in
     rw (c.saturating_sub.ensures, g, n) refl) in
-    sound_begun plan p c.self.inside.peaks.items c.self.inside.sums.items c.self.inside.started c.self.inside.reserved c.self.inside.pool a _ _
-    c.self.invariant none refl (ap (λ x. c.self.inside.reserved + x) more)
+    record {
+      amounts = c.self.invariant.amounts;
+      phases = c.self.invariant.phases;
+      sound = sound_begun plan p c.self.inside.peaks.items c.self.inside.sums.items c.self.inside.started c.self.inside.reserved c.self.inside.pool a _ _
+          c.self.invariant.sound none refl (ap (λ x. c.self.inside.reserved + x) more);
+    }
 
 pub returns-clause-step : goal.returns-clause-step
 returns-clause-step c =
@@ -32,8 +36,8 @@ returns-clause-step c =
     let plan : Plan = c.self.inside.layout in
     let a : ℕ = c.args.actor in
     let none : refusal plan p (Begin a) ≡ None = rw (← c.self.view_is) at c.requires in
-    rw (← c.self.view_is) (follows_accepted _ _ (Begin a) _ refl none refl refl c.self.invariant.fit refl c.self.invariant.cells
-    (sym (peaks_stay _ _ _ _ _ _ _ c.self.invariant)))
+    rw (← c.self.view_is) (follows_accepted _ _ (Begin a) _ refl none refl refl c.self.invariant.sound.fit refl c.self.invariant.sound.cells
+    (sym (peaks_stay _ _ _ _ _ _ _ c.self.invariant.sound)))
 
 pub returns-clause-cells : goal.returns-clause-cells
 returns-clause-cells c = search rules

@@ -3,15 +3,18 @@ use Rattle.csdf_core.specs.declared.stage.Stage.TheVariants.{Idle}
 use Rattle.csdf_core.specs.Sound.{IsSound}
 use Rattle.csdf_core.specs.Inside.{now_in}
 use Rattle.csdf_core.specs.Next.{finished}
-use Rattle.std.proofs.Common.{◌≡◌, ◌≤◌, ◌<◌, ◌+◌, length, suc, set, None, sym, ◌∙◌, ap, subst, refl, arith, ℕ}
+use Rattle.std.proofs.Common.{◌≡◌, ◌≤◌, ◌<◌, ◌+◌, length, suc, set, None, sym, ◌∙◌, ap, subst, refl, arith, rules, ℕ}
 use Rattle.csdf_core.specs.Plan.{Plan}
 use Rattle.csdf_core.specs.State.{Present}
 use Rattle.csdf_core.specs.Ports.{tokens_in}
 use Rattle.csdf_core.specs.Moves.{Finish}
-use Rattle.csdf_core.specs.Rows.{gift}
+use Rattle.csdf_core.specs.Rows.{need, gift}
 use Rattle.csdf_core.specs.Step.{refusal, count}
 use Rattle.csdf_core.proofs.Follows.{follows_refused, follows_accepted}
 use Rattle.csdf_core.proofs.SoundLemmas.{sound_finished}
+use Rattle.csdf_core.specs.Phases.{IsInPhase}
+use Rattle.csdf_core.proofs.PhaseLemmas.{phases_finished}
+use Rattle.csdf_core.proofs.AmountLemmas.{amounts_finished}
 use Rattle.csdf_core.proofs.Peaceful.{peaks_stay}
 use Rattle.std.proofs.lemmas.List.{get_or_default}
 use Rattle.csdf_core.proofs.Kept.{finishes}
@@ -20,7 +23,7 @@ use Rattle.csdf_core.proofs.firing_core.Core.finish.Goals as goal
 pub returns-in-Some-clause-step : goal.returns-in-Some-clause-step
 returns-in-Some-clause-step c =
     rw (← c.self.view_is) (follows_refused _ (Finish c.args.actor) c.in-Some.refusal (rw (← c.self.view_is) at (sym c.finish_refusal.ensures ∙ c.in-Some.is))
-    (peaks_stay _ _ _ _ _ _ _ c.self.invariant) c.self.invariant.cells)
+    (peaks_stay _ _ _ _ _ _ _ c.self.invariant.sound) c.self.invariant.sound.cells)
 
 pub invariant_of-self : goal.invariant_of-self
 invariant_of-self c =
@@ -28,24 +31,37 @@ invariant_of-self c =
     let plan : Plan = c.self.inside.layout in
     let a : ℕ = c.args.actor in
     let none : refusal plan p (Finish a) ≡ None = rw (← c.self.view_is) at (sym c.finish_refusal.ensures ∙ c.in_default.is) in
-    let one : suc (count p a) ≡ c.fired-firing.result + 1 = (let k = rw (← c.self.view_is) at c.fired-firing.ensures.value in omega (arith, k)) in
+    let one : suc (count p a) ≡ c.turn_after-next.result.firing =
+    (let k = rw (← c.self.view_is) at c.turn-turn.ensures.firing in omega (arith, k, c.turn_after-next.ensures.firing)) in
     let lt : a < length c.self.inside.sums.items =
-    (let there = (finishes plan p a none).there in let tallied = c.self.invariant.tallied in omega (arith, there, tallied)) in
-    let total : c.index_mut.result.now + c.gives-gives.result ≡ slice_index c.self.inside.sums.items a + gift a (count p a) plan.channels =
-    (let g = rw (← c.self.view_is) at c.gives-gives.ensures.sum in
+    (let there = (finishes plan p a none).there in let tallied = c.self.invariant.sound.tallied in omega (arith, there, tallied)) in
+    let total : c.index_mut.result.now + c.gives-written.result ≡ slice_index c.self.inside.sums.items a + gift a (count p a) plan.channels =
+    (let g = rw (← c.self.view_is) at c.gives-written.ensures.sum in
     let old : c.index_mut.result.now ≡ slice_index c.self.inside.sums.items a = c.index_mut.ensures.value
     ∙ get_or_default c.self.inside.sums.items a c.index_mut.result.now 0 lt in omega (arith, g, old)) in
     let few : gift a (count p a) plan.channels ≤ 8192 =
-    (let g = rw (← c.self.view_is) at c.gives-gives.ensures.sum in let s = c.gives-gives.ensures.small in omega (arith, g, s)) in
-    subst (λ n. IsSound plan (record {
-      counts = set c.self.inside.counts.items a n;
-      stages = set c.self.inside.stages.items a Idle;
-      opens = c.self.inside.opens.items;
-      tokens = tokens_in c.self.inside.pool;
-    }) c.self.inside.peaks.items (set c.self.inside.sums.items a (c.index_mut.result.now + c.gives-gives.result))
-    c.self.inside.started c.self.inside.reserved c.self.inside.pool) one
-    (sound_finished plan p c.self.inside.peaks.items c.self.inside.sums.items c.self.inside.started c.self.inside.reserved c.self.inside.pool a
-    (c.index_mut.result.now + c.gives-gives.result) c.self.invariant none total few)
+    (let g = rw (← c.self.view_is) at c.gives-written.ensures.sum in let s = c.gives-written.ensures.small in omega (arith, g, s)) in
+    let within : a < length plan.sources = (finishes plan p a none).there in
+    let counted : a < length c.self.inside.counts.items = (let e = c.self.invariant.sound.fit.counted in omega (arith, e, within)) in
+    let taken : c.need_of-need.result ≡ need a c.turn_after-next.result.firing plan.channels = search rules in
+    let given : c.gift_of-gift.result ≡ gift a c.turn_after-next.result.firing plan.channels = search rules in
+    record {
+      phases = phases_finished plan c.self.inside.counts.items c.self.inside.phases.items a c.turn_after-next.result.firing c.turn_after-next.result.phase
+          c.self.invariant.phases within counted (subst (λ n. IsInPhase plan.channels a n c.turn_after-next.result.phase) (sym c.turn_after-next.ensures.firing)
+          c.turn_after-next.ensures.in_phase) c.turn_after-next.ensures.low;
+      amounts = amounts_finished plan c.self.inside.counts.items c.self.inside.needs.items c.self.inside.gifts.items a c.turn_after-next.result.firing
+          c.need_of-need.result c.gift_of-gift.result c.self.invariant.amounts within counted taken given
+          c.need_of-need.ensures.small c.gift_of-gift.ensures.small;
+      sound = subst (λ n. IsSound plan (record {
+        counts = set c.self.inside.counts.items a n;
+        stages = set c.self.inside.stages.items a Idle;
+        opens = c.self.inside.opens.items;
+        tokens = tokens_in c.self.inside.pool;
+      }) c.self.inside.peaks.items (set c.self.inside.sums.items a (c.index_mut.result.now + c.gives-written.result))
+          c.self.inside.started c.self.inside.reserved c.self.inside.pool) one
+          (sound_finished plan p c.self.inside.peaks.items c.self.inside.sums.items c.self.inside.started c.self.inside.reserved c.self.inside.pool a
+          (c.index_mut.result.now + c.gives-written.result) c.self.invariant.sound none total few);
+    }
 
 pub returns-clause-step : goal.returns-clause-step
 returns-clause-step c =
@@ -53,9 +69,10 @@ returns-clause-step c =
     let plan : Plan = c.self.inside.layout in
     let a : ℕ = c.args.actor in
     let none : refusal plan p (Finish a) ≡ None = rw (← c.self.view_is) at (sym c.finish_refusal.ensures ∙ c.in_default.is) in
-    let one : suc (count p a) ≡ c.fired-firing.result + 1 = (let k = rw (← c.self.view_is) at c.fired-firing.ensures.value in omega (arith, k)) in
+    let one : suc (count p a) ≡ c.turn_after-next.result.firing =
+    (let k = rw (← c.self.view_is) at c.turn-turn.ensures.firing in omega (arith, k, c.turn_after-next.ensures.firing)) in
     let now : record {
-      counts = set c.self.inside.counts.items a (c.fired-firing.result + 1);
+      counts = set c.self.inside.counts.items a c.turn_after-next.result.firing;
       stages = set c.self.inside.stages.items a Idle;
       opens = c.self.inside.opens.items;
       tokens = tokens_in c.self.inside.pool;
@@ -66,5 +83,5 @@ returns-clause-step c =
       opens = c.self.inside.opens.items;
       tokens = tokens_in c.self.inside.pool;
     }) (sym one) in
-    rw (← c.self.view_is) (follows_accepted _ _ (Finish a) _ refl none refl now c.self.invariant.fit refl c.self.invariant.cells
-    (sym (peaks_stay _ _ _ _ _ _ _ c.self.invariant)))
+    rw (← c.self.view_is) (follows_accepted _ _ (Finish a) _ refl none refl now c.self.invariant.sound.fit refl c.self.invariant.sound.cells
+    (sym (peaks_stay _ _ _ _ _ _ _ c.self.invariant.sound)))

@@ -5,7 +5,7 @@ use Rattle.csdf_core.proofs.Beginnings.{shows_some}
 use Rattle.csdf_core.proofs.firing_core.Core.is_quiet.Goals as goal
 
 pub returns-then-not-is_resting-clause-shown : goal.returns-then-not-is_resting-clause-shown
-returns-then-not-is_resting-clause-shown c = rw (← c.self.view_is) (shows_some _ _ _ _ refl c.self.invariant.cells)
+returns-then-not-is_resting-clause-shown c = rw (← c.self.view_is) (shows_some _ _ _ _ refl c.self.invariant.sound.cells)
 
 pub loop-actor-preserved : goal.loop-actor-preserved
 loop-actor-preserved c = λ a lt. elim (eqb_tells a c.loop-actor.actor) [
@@ -14,4 +14,4 @@ loop-actor-preserved c = λ a lt. elim (eqb_tells a c.loop-actor.actor) [
 ]
 
 pub returns-clause-shown : goal.returns-clause-shown
-returns-clause-shown c = rw (← c.self.view_is) (shows_some _ _ _ _ refl c.self.invariant.cells)
+returns-clause-shown c = rw (← c.self.view_is) (shows_some _ _ _ _ refl c.self.invariant.sound.cells)

@@ -1,14 +1,9 @@
-use Rattle.std.proofs.Common.{◌≡◌, ◌≤◌, get_or, length, sym, arith}
+use Rattle.std.proofs.Common.{◌≤◌, get_or, length, sym, arith}
 use Rattle.csdf_core.proofs.CoreLemmas.{none_needed}
 use Rattle.csdf_core.proofs.firing_core.Core.need.Goals as goal
 
 pub returns-then-actor-len-clause-value : goal.returns-then-actor-len-clause-value
 returns-then-actor-len-clause-value c =
-    let past : length c.self.inside.layout.sources ≤ c.args.actor = omega (arith, c.self.inside.counts.ok.0, c.self.invariant.fit.counted) in
+    let past : length c.self.inside.layout.sources ≤ c.args.actor = omega (arith, c.self.inside.needs.ok.0, c.self.invariant.amounts.takes.count) in
     rw (← c.self.view_is) (sym (none_needed (length c.self.inside.layout.sources) c.args.actor (get_or c.self.inside.counts.items c.args.actor 0)
-    c.self.inside.layout.channels c.self.invariant.playable.ends past))
-
-pub returns-clause-value : goal.returns-clause-value
-returns-clause-value c =
-    let k : c.fired-firing.result ≡ get_or c.self.inside.counts.items c.args.actor 0 = rw (← c.self.view_is) at c.fired-firing.ensures.value in
-    rw (← c.self.view_is, ← k) c.need_of.ensures.value
+    c.self.inside.layout.channels c.self.invariant.sound.playable.ends past))

@@ -20,7 +20,7 @@ use Rattle.csdf_core.proofs.firing_core.Core.read.Goals.{After-saturating_sub}
 pub returns-in-Some-clause-step : goal.returns-in-Some-clause-step
 returns-in-Some-clause-step c =
     rw (← c.self.view_is) (follows_refused _ (Read c.args.actor) c.in-Some.refusal (rw (← c.self.view_is) at (sym c.read_refusal.ensures ∙ c.in-Some.is))
-    (peaks_stay _ _ _ _ _ _ _ c.self.invariant) c.self.invariant.cells)
+    (peaks_stay _ _ _ _ _ _ _ c.self.invariant.sound) c.self.invariant.sound.cells)
 
 pub take_inputs-n-requires-clause-enough : goal.take_inputs-n-requires-clause-enough
 take_inputs-n-requires-clause-enough c =
@@ -28,8 +28,8 @@ take_inputs-n-requires-clause-enough c =
     let plan : Plan = c.self.inside.layout in
     let a : ℕ = c.args.actor in
     let none : refusal plan p (Read a) ≡ None = rw (← c.self.view_is) at (sym c.read_refusal.ensures ∙ c.in_default.is) in
-    let k : c.fired-firing.result ≡ count p a = rw (← c.self.view_is) at c.fired-firing.ensures.value in
-    enough_here plan p a c.fired-firing.result c.self.invariant.fit none k
+    let k : c.turn-turn.result.firing ≡ count p a = rw (← c.self.view_is) at c.turn-turn.ensures.firing in
+    enough_here plan p a c.turn-turn.result.firing c.self.invariant.sound.fit none k
 
 -- what is known once the tokens are taken
 module _ (c : After-saturating_sub) where
@@ -45,14 +45,14 @@ module _ (c : After-saturating_sub) where
   none : refusal plan p (Read a) ≡ None
   none = rw (← c.self.view_is) at (sym c.read_refusal.ensures ∙ c.in_default.is)
 
-  firing : c.fired-firing.result ≡ count p a
-  firing = rw (← c.self.view_is) at c.fired-firing.ensures.value
+  firing : c.turn-turn.result.firing ≡ count p a
+  firing = rw (← c.self.view_is) at c.turn-turn.ensures.firing
 
   gone : tokens_in c.take_inputs-n.new.pool ≡ left a (count p a) plan.channels p.tokens
-  gone = left_here plan p a c.fired-firing.result (tokens_in c.take_inputs-n.new.pool) c.self.invariant.fit firing c.take_inputs-n.ensures.left
+  gone = left_here plan p a c.turn-turn.result.firing (tokens_in c.take_inputs-n.new.pool) c.self.invariant.sound.fit firing c.take_inputs-n.ensures.left
 
   cells : AreSharedOut plan c.take_inputs-n.new.pool
-  cells = record { size = c.take_inputs-n.ensures.size ∙ c.self.invariant.cells.size; partition = c.take_inputs-n.ensures.partition }
+  cells = record { size = c.take_inputs-n.ensures.size ∙ c.self.invariant.sound.cells.size; partition = c.take_inputs-n.ensures.partition }
 
   gives : c.gives-gift.result ≡ gift a (count p a) plan.channels
   gives = rw (← c.self.view_is) at c.gives-gift.ensures.sum
@@ -63,7 +63,7 @@ module _ (c : After-saturating_sub) where
       c.saturating_sub.ensures ∙ ap (λ n. n - c.need-need.result) gives ∙ ap (λ n. gift a (count p a) plan.channels - n) needs
 
   within : c.saturating_sub.result ≤ c.self.inside.reserved
-  within = kept_to_read plan p a c.self.inside.reserved c.saturating_sub.result c.self.invariant.fit none c.self.invariant.keeps more
+  within = kept_to_read plan p a c.self.inside.reserved c.saturating_sub.result c.self.invariant.sound.fit none c.self.invariant.sound.keeps more
 
   abbrev kept : ℕ
   kept = c.self.inside.reserved - c.saturating_sub.result + c.gives-gift.result
@@ -73,7 +73,7 @@ module _ (c : After-saturating_sub) where
       let enough : kept + (gift a (count p a) plan.channels - need a (count p a) plan.channels) ≡ c.self.inside.reserved + gift a (count p a) plan.channels =
       omega (arith, within, more, gives) in
       sound_fetched plan p c.self.inside.peaks.items c.self.inside.sums.items c.self.inside.started c.self.inside.reserved c.self.inside.pool a kept
-      c.take_inputs-n.new.pool c.self.invariant none enough c.take_inputs-n.ensures.same cells
+      c.take_inputs-n.new.pool c.self.invariant.sound none enough c.take_inputs-n.ensures.same cells
 
 pub overflow_sub-self : goal.overflow_sub-self
 overflow_sub-self c = within (goal.at.overflow_sub-self c).After-saturating_sub
@@ -81,10 +81,14 @@ overflow_sub-self c = within (goal.at.overflow_sub-self c).After-saturating_sub
 pub invariant_of-self : goal.invariant_of-self
 invariant_of-self c =
     let at : After-saturating_sub = (goal.at.invariant_of-self c).After-saturating_sub in
-    subst (λ ts. IsSound c.self.inside.layout (record
-    { counts = c.self.inside.counts.items; stages = set c.self.inside.stages.items c.args.actor Fetched; opens = c.self.inside.opens.items; tokens = ts })
-    c.self.inside.peaks.items c.self.inside.sums.items c.self.inside.started (c.self.inside.reserved - c.saturating_sub.result + c.gives-gift.result)
-    c.take_inputs-n.new.pool) (sym (gone at)) (sound at)
+    record {
+      amounts = c.self.invariant.amounts;
+      phases = c.self.invariant.phases;
+      sound = subst (λ ts. IsSound c.self.inside.layout (record
+          { counts = c.self.inside.counts.items; stages = set c.self.inside.stages.items c.args.actor Fetched; opens = c.self.inside.opens.items; tokens = ts })
+          c.self.inside.peaks.items c.self.inside.sums.items c.self.inside.started (c.self.inside.reserved - c.saturating_sub.result + c.gives-gift.result)
+          c.take_inputs-n.new.pool) (sym (gone at)) (sound at);
+    }
 
 pub returns-clause-step : goal.returns-clause-step
 returns-clause-step c =
@@ -101,11 +105,11 @@ returns-clause-step c =
       opens = c.self.inside.opens.items;
       tokens = ts;
     }) (gone at) in
-    let answered = answered_here c.self.inside.layout (now_in c.self.inside) c.args.actor c.fired-firing.result c.take_inputs-n.result
-    c.take_inputs-n.new.into c.args.into.now c.self.invariant.fit (none at) (firing at) c.take_inputs-n.ensures.count c.take_inputs-n.ensures.answer in
+    let answered = answered_here c.self.inside.layout (now_in c.self.inside) c.args.actor c.turn-turn.result.firing c.take_inputs-n.result
+    c.take_inputs-n.new.into c.args.into.now c.self.invariant.sound.fit (none at) (firing at) c.take_inputs-n.ensures.count c.take_inputs-n.ensures.answer in
     let peaks : c.self.inside.peaks.items ≡ raised c.self.inside.peaks.items (tokens_in c.take_inputs-n.new.pool) =
     sym (ap (raised c.self.inside.peaks.items) (gone at) ∙ peaks_stay _ _ _ _ _ _ _ (sound at)) in
-    rw (← c.self.view_is) (follows_accepted _ _ (Read c.args.actor) _ refl (none at) answered now c.self.invariant.fit refl (cells at) peaks)
+    rw (← c.self.view_is) (follows_accepted _ _ (Read c.args.actor) _ refl (none at) answered now c.self.invariant.sound.fit refl (cells at) peaks)
 
 pub returns-in-Some-clause-unread : goal.returns-in-Some-clause-unread
 returns-in-Some-clause-unread c = search rules

@@ -5,9 +5,9 @@ use Rattle.csdf_core.proofs.firing_core.Core.used.Goals as goal
 pub returns-clause-small : goal.returns-clause-small
 returns-clause-small c = omega (
   arith,
-  c.self.invariant.fit.room,
-  c.self.invariant.playable.few_cells,
-  c.self.invariant.keeps,
-  c.self.invariant.cells.size,
+  c.self.invariant.sound.fit.room,
+  c.self.invariant.sound.playable.few_cells,
+  c.self.invariant.sound.keeps,
+  c.self.invariant.sound.cells.size,
   held-chains c.self.inside.pool.chains,
 )

@@ -24,7 +24,7 @@ use Rattle.csdf_core.proofs.firing_core.Core.write.Goals.{After-raise_peaks}
 pub returns-in-Some-clause-step : goal.returns-in-Some-clause-step
 returns-in-Some-clause-step c =
     rw (← c.self.view_is) (follows_refused _ (Write c.args.actor c.args.tokens.now) c.in-Some.refusal
-    (rw (← c.self.view_is) at (sym c.write_refusal.ensures ∙ c.in-Some.is)) (peaks_stay _ _ _ _ _ _ _ c.self.invariant) c.self.invariant.cells)
+    (rw (← c.self.view_is) at (sym c.write_refusal.ensures ∙ c.in-Some.is)) (peaks_stay _ _ _ _ _ _ _ c.self.invariant.sound) c.self.invariant.sound.cells)
 
 pub put_outputs-requires-clause-all : goal.put_outputs-requires-clause-all
 put_outputs-requires-clause-all c =
@@ -32,7 +32,7 @@ put_outputs-requires-clause-all c =
     let plan : Plan = c.self.inside.layout in
     let a : ℕ = c.args.actor in
     let none : first_of (write_table plan p a c.args.tokens.now) ≡ None = rw (← c.self.view_is) at (sym c.write_refusal.ensures ∙ c.in_default.is) in
-    let k : c.fired-firing.result ≡ count p a = rw (← c.self.view_is) at c.fired-firing.ensures.value in
+    let k : c.turn-turn.result.firing ≡ count p a = rw (← c.self.view_is) at c.turn-turn.ensures.firing in
     ap (λ n. gift a n plan.channels) k ∙ sym (writes plan p a c.args.tokens.now none).1
 
 pub prove-unreachable-requires : goal.prove-unreachable-requires
@@ -42,8 +42,8 @@ prove-unreachable-requires c =
     let a : ℕ = c.args.actor in
     let none : first_of (write_table plan p a c.args.tokens.now) ≡ None = rw (← c.self.view_is) at (sym c.write_refusal.ensures ∙ c.in_default.is) in
     let free : c.free_len.result + held p ≡ plan.cells =
-    omega (arith, c.free_len.ensures.accounted, c.self.invariant.cells.size, held-chains c.self.inside.pool.chains) in
-    let le = cells_to_write plan p a c.free_len.result c.args.tokens.now c.self.invariant.fit none free in
+    omega (arith, c.free_len.ensures.accounted, c.self.invariant.sound.cells.size, held-chains c.self.inside.pool.chains) in
+    let le = cells_to_write plan p a c.free_len.result c.args.tokens.now c.self.invariant.sound.fit none free in
     let bad = c.if-prove.true in
     omega (arith, le, bad)
 
@@ -56,7 +56,7 @@ overflow_sub-self c =
     let plan : Plan = c.self.inside.layout in
     let a : ℕ = c.args.actor in
     let none : first_of (write_table plan p a c.args.tokens.now) ≡ None = rw (← c.self.view_is) at (sym c.write_refusal.ensures ∙ c.in_default.is) in
-    kept_to_write plan p a c.self.inside.reserved c.args.tokens.now c.self.invariant.fit none c.self.invariant.keeps
+    kept_to_write plan p a c.self.inside.reserved c.args.tokens.now c.self.invariant.sound.fit none c.self.invariant.sound.keeps
 
 -- what is known once the tokens are put and the peaks raised
 module _ (c : After-raise_peaks) where
@@ -74,48 +74,54 @@ module _ (c : After-raise_peaks) where
 
   put : tokens_in c.put_outputs.new.pool ≡ joined p.tokens (shares a (count p a) plan.channels c.args.tokens.now)
   put =
-      let firing : c.fired-firing.result ≡ count p a = rw (← c.self.view_is) at c.fired-firing.ensures.value in
-      put_here plan p a c.fired-firing.result c.args.tokens.now (tokens_in c.put_outputs.new.pool) c.self.invariant.fit firing c.put_outputs.ensures.put
+      let firing : c.turn-turn.result.firing ≡ count p a = rw (← c.self.view_is) at c.turn-turn.ensures.firing in
+      put_here plan p a c.turn-turn.result.firing c.args.tokens.now (tokens_in c.put_outputs.new.pool) c.self.invariant.sound.fit firing
+      c.put_outputs.ensures.put
 
   peaks : c.raise_peaks.new.peaks ≡ raised c.self.inside.peaks.items (joined p.tokens (shares a (count p a) plan.channels c.args.tokens.now))
-  peaks = peaks_here plan p a c.args.tokens.now (tokens_in c.put_outputs.new.pool) c.self.inside.peaks.items c.raise_peaks.new.peaks c.self.invariant.fit
-      c.self.invariant.peaked c.self.invariant.high put
+  peaks = peaks_here plan p a c.args.tokens.now (tokens_in c.put_outputs.new.pool) c.self.inside.peaks.items c.raise_peaks.new.peaks c.self.invariant.sound.fit
+      c.self.invariant.sound.peaked c.self.invariant.sound.high put
       (c.raise_peaks.ensures ∙ ap (raise_over (outputs_at plan.channels a) (tokens_in c.put_outputs.new.pool)) c.deref_mut.ensures.value)
 
   cells : AreSharedOut plan c.put_outputs.new.pool
-  cells = record { size = c.put_outputs.ensures.size ∙ c.self.invariant.cells.size; partition = c.put_outputs.ensures.partition }
+  cells = record { size = c.put_outputs.ensures.size ∙ c.self.invariant.sound.cells.size; partition = c.put_outputs.ensures.partition }
 
   sound : IsSound plan (written plan p a c.args.tokens.now) c.raise_peaks.new.peaks c.self.inside.sums.items c.self.inside.started
       (c.self.inside.reserved - length c.args.tokens.now) c.put_outputs.new.pool
   sound =
-      let le = kept_to_write plan p a c.self.inside.reserved c.args.tokens.now c.self.invariant.fit none c.self.invariant.keeps in
+      let le = kept_to_write plan p a c.self.inside.reserved c.args.tokens.now c.self.invariant.sound.fit none c.self.invariant.sound.keeps in
       let all = (writes plan p a c.args.tokens.now none).1 in
       let kept : c.self.inside.reserved - length c.args.tokens.now + gift a (count p a) plan.channels ≡ c.self.inside.reserved = omega (arith, le, all) in
       sound_written plan p c.self.inside.peaks.items c.self.inside.sums.items c.self.inside.started c.self.inside.reserved c.self.inside.pool a
-      (c.self.inside.reserved - length c.args.tokens.now) c.args.tokens.now c.raise_peaks.new.peaks c.put_outputs.new.pool c.self.invariant none kept peaks
+      (c.self.inside.reserved - length c.args.tokens.now) c.args.tokens.now c.raise_peaks.new.peaks c.put_outputs.new.pool c.self.invariant.sound none
+      kept peaks
       c.put_outputs.ensures.same cells
 
   items : (with_items c.self.inside.peaks c.raise_peaks.new.peaks).items ≡ c.raise_peaks.new.peaks
   items =
       let same_length = ap length c.deref_mut.ensures.value in
       let size : length c.raise_peaks.new.peaks ≡ c.self.inside.peaks.len =
-      omega (arith, sound.peaked, c.self.invariant.peaked, same_length, c.deref_mut.ensures.len) in
+      omega (arith, sound.peaked, c.self.invariant.sound.peaked, same_length, c.deref_mut.ensures.len) in
       with_items_is c.self.inside.peaks c.raise_peaks.new.peaks size
 
 pub invariant_of-self : goal.invariant_of-self
 invariant_of-self c =
     let at : After-raise_peaks = (goal.at.invariant_of-self c).After-raise_peaks in
-    subst (λ qs. IsSound c.self.inside.layout (record {
-      counts = c.self.inside.counts.items;
-      stages = set c.self.inside.stages.items c.args.actor Written;
-      opens = c.self.inside.opens.items;
-      tokens = tokens_in c.put_outputs.new.pool;
-    }) qs c.self.inside.sums.items c.self.inside.started (c.self.inside.reserved - length c.args.tokens.now)
-    c.put_outputs.new.pool) (sym (items at))
-    (subst (λ ts. IsSound c.self.inside.layout (record
-    { counts = c.self.inside.counts.items; stages = set c.self.inside.stages.items c.args.actor Written; opens = c.self.inside.opens.items; tokens = ts })
-    c.raise_peaks.new.peaks c.self.inside.sums.items c.self.inside.started (c.self.inside.reserved - length c.args.tokens.now) c.put_outputs.new.pool)
-    (sym (put at)) (sound at))
+    record {
+      amounts = c.self.invariant.amounts;
+      phases = c.self.invariant.phases;
+      sound = subst (λ qs. IsSound c.self.inside.layout (record {
+        counts = c.self.inside.counts.items;
+        stages = set c.self.inside.stages.items c.args.actor Written;
+        opens = c.self.inside.opens.items;
+        tokens = tokens_in c.put_outputs.new.pool;
+      }) qs c.self.inside.sums.items c.self.inside.started (c.self.inside.reserved - length c.args.tokens.now)
+          c.put_outputs.new.pool) (sym (items at))
+          (subst (λ ts. IsSound c.self.inside.layout (record
+          { counts = c.self.inside.counts.items; stages = set c.self.inside.stages.items c.args.actor Written; opens = c.self.inside.opens.items; tokens = ts })
+          c.raise_peaks.new.peaks c.self.inside.sums.items c.self.inside.started (c.self.inside.reserved - length c.args.tokens.now) c.put_outputs.new.pool)
+          (sym (put at)) (sound at));
+    }
 
 pub returns-clause-step : goal.returns-clause-step
 returns-clause-step c =
@@ -134,4 +140,5 @@ returns-clause-step c =
     }) (put at) in
     let same : (with_items c.self.inside.peaks c.raise_peaks.new.peaks).items ≡ raised c.self.inside.peaks.items (tokens_in c.put_outputs.new.pool) =
     items at ∙ peaks at ∙ ap (raised c.self.inside.peaks.items) (sym (put at)) in
-    rw (← c.self.view_is) (follows_accepted _ _ (Write c.args.actor c.args.tokens.now) _ refl (none at) refl now c.self.invariant.fit refl (cells at) same)
+    rw (← c.self.view_is) (follows_accepted _ _ (Write c.args.actor c.args.tokens.now) _ refl (none at) refl now c.self.invariant.sound.fit
+    refl (cells at) same)

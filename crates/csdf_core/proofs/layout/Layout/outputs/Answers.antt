@@ -1,8 +1,11 @@
-use Rattle.std.proofs.Common.{◌<◌, ◌==◌, subst, sym, ◌∙◌, refl, arith}
+use Rattle.std.proofs.Common.{◌≡◌, get_or, map, ◌<◌, ◌==◌, subst, sym, ◌∙◌, refl, arith}
 use Rattle.std.specs.Prelude.{All}
+use Rattle.std.specs.List.{zip}
+use Rattle.csdf_core.specs.Plan.{Channel}
+use Rattle.csdf_core.proofs.PhaseLemmas.{numbers_own}
 use Rattle.std.proofs.lemmas.List.{length-map}
 use Rattle.csdf_model.specs.Graph as graph
-use Rattle.csdf_core.specs.Layout.{is_source_kernel}
+use Rattle.csdf_core.specs.Layout.{is_source_kernel, with_capacity}
 use Rattle.csdf_core.proofs.LayoutLemmas.{numbers-capacities, length-capacities}
 use Rattle.csdf_core.proofs.layout.Layout.outputs.Goals as goal
 
@@ -21,3 +24,12 @@ pub returns-clause-within : goal.returns-clause-within
 returns-clause-within c =
     let count = length-capacities c.self.inside.graph.channels c.self.inside.capacities.items c.self.invariant.roomy in
     rw (← c.self.view_is) (subst (λ n. All (λ i. i < n) c.outputs.result.now) (sym count) c.outputs.ensures.within)
+
+pub returns-clause-own : goal.returns-clause-own
+returns-clause-own c =
+    let channels = map with_capacity (zip c.self.inside.graph.channels c.self.inside.capacities.items) in
+    let same = numbers-capacities (λ ch. ch.from == c.args.actor) (λ g. g.from == c.args.actor) (λ g b. refl)
+    0 c.self.inside.graph.channels c.self.inside.capacities.items c.self.invariant.roomy in
+    rw (← c.self.view_is) (subst (λ ns. All (λ i. get_or (map (λ (ch : Channel). ch.from) channels) i 0 ≡ c.args.actor) ns)
+    (sym (c.outputs.ensures.value ∙ sym same))
+    (numbers_own (λ ch. ch.from) c.args.actor channels))

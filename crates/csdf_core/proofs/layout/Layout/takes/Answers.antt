@@ -1,11 +1,17 @@
-use Rattle.std.proofs.Common.{◌≤◌, sym, subst, ◌∙◌}
+use Rattle.std.proofs.Common.{◌≡◌, [], get_or, sym, subst}
 use Rattle.csdf_model.specs.Rates.{rate}
-use Rattle.csdf_core.proofs.LayoutLemmas.{part_at, rate_small}
-use Rattle.csdf_core.proofs.layout.Layout.takes.Goals as goal
+use Rattle.csdf_core.specs.Plan.{consume_at}
+use Rattle.csdf_core.specs.Phases.{IsPhase}
+use Rattle.csdf_core.proofs.LayoutLemmas.{part_at}
+use Rattle.csdf_core.proofs.PhaseLemmas.{rate_in_phase}
+use Rattle.csdf_core.proofs.layout.Layout.takes.Goals.{After-channel-channel}
 
-pub returns-clause-value : goal.returns-clause-value
-returns-clause-value c = c.consumption.ensures ∙ part_at
-    (λ ch. rate ch.consume c.args.firing) c.args.self.now.channels c.args.channel _ 0 c.channel.ensures.value
+module _ (c : After-channel-channel) where
+  same : c.channel-channel.result.now.consume.items ≡ consume_at c.args.self.now.channels c.args.channel
+  same = part_at (λ ch. ch.consume) c.args.self.now.channels c.args.channel _ [] c.channel-channel.ensures.value
 
-pub returns-clause-small : goal.returns-clause-small
-returns-clause-small c = subst (λ n. n ≤ 64) (sym c.consumption.ensures) (rate_small _ c.args.firing c.channel.ensures.consume)
+  in_phase : IsPhase c.channel-channel.result.now.consume.items c.args.turn.firing c.args.turn.phase
+  in_phase = subst (λ rates. IsPhase rates c.args.turn.firing c.args.turn.phase) (sym same) c.requires.phase
+
+  value : get_or c.channel-channel.result.now.consume.items c.args.turn.phase 0 ≡ rate c.channel-channel.result.now.consume.items c.args.turn.firing
+  value = rate_in_phase _ _ _ in_phase

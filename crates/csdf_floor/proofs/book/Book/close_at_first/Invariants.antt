@@ -1,4 +1,4 @@
-use Rattle.std.proofs.Common.{◌≡◌, ◌≤◌, ◌+◌, length, take}
+use Rattle.std.proofs.Common.{◌≤◌, ◌+◌, length, take}
 use Rattle.std.specs.List.{range_with_len}
 use Rattle.csdf_floor.specs.Inside.{AreClosed}
 use Rattle.csdf_floor.proofs.book.Book.close_at_first.Given as goal

@@ -1,6 +1,5 @@
-use Rattle.std.proofs.Common.{◌≡◌, ◌<◌, length, ap, sym, subst, ◌∙◌, arith}
+use Rattle.std.proofs.Common.{rules, ◌<◌, length, ap, subst, arith}
 use Rattle.csdf_core.specs.Plan.{Plan}
-use Rattle.csdf_core.specs.Step.{producer}
 use Rattle.csdf_core.proofs.LayoutLemmas.{length-capacities}
 use Rattle.csdf_floor.specs.Work.{program}
 use Rattle.csdf_floor.proofs.Works.{producer_there}
@@ -27,3 +26,6 @@ is_over-requires c =
       producer_there c.self.inside.work c.args.channel c.self.invariant.work there,
       ap (λ (u : Plan). length u.sources) c.self.invariant.kept.plan,
     )
+
+pub returns-else-is_open-clause-due : goal.returns-else-is_open-clause-due
+returns-else-is_open-clause-due c = search rules

@@ -1,5 +1,4 @@
-use Rattle.std.proofs.Common.{◌≡◌, ◌≤◌, ◌+◌, length, take}
-use Rattle.csdf_core.specs.declared.stage.Stage.TheVariants.{Idle}
+use Rattle.std.proofs.Common.{◌≤◌, ◌+◌, length, take}
 use Rattle.csdf_core.specs.Ports.{outputs_at}
 use Rattle.csdf_floor.specs.Inside.{AreClosed}
 use Rattle.csdf_floor.proofs.book.Book.close_outputs.Given as goal

@@ -1,12 +1,12 @@
-use Rattle.csdf_core.specs.declared.moves.Move.TheVariants as code
+use Rattle.csdf_core.specs.Moves.{Finish}
 use Rattle.csdf_floor.proofs.Books.{book_next, next_is}
 use Rattle.csdf_floor.proofs.book.Book.finish.Goals as goal
 
 pub invariant_of-self : goal.invariant_of-self
-invariant_of-self c = book_next _ _ _ _ _ (code.Finish c.args.actor) _ _ _ tt c.self.invariant c.finish.ensures tt c.push_reserved.ensures.items
+invariant_of-self c = book_next _ _ _ _ _ (Finish c.args.actor) _ _ _ tt c.self.invariant c.finish.ensures tt c.note_finish.ensures.moves
 
 pub returns : goal.returns
 returns c = record {
-  next = rw (← c.self.view_is) (next_is _ _ _ c.self.inside.moves c.push_reserved.new.self (code.Finish c.args.actor) _ _ _ _ _ c.self.invariant
-      c.finish.ensures c.push_reserved.ensures.items c.push_reserved.ensures.len c.push_reserved.ensures.capacity (rw (← c.self.view_is) at c.requires.room));
+  next = rw (← c.self.view_is) (next_is _ _ _ c.self.inside.journal c.note_finish.new.self (Finish c.args.actor) _ _ _ _ _ c.self.invariant
+      c.finish.ensures c.note_finish.ensures.moves c.note_finish.ensures.room c.note_finish.ensures.keeps);
 }

@@ -1,4 +1,4 @@
-use Rattle.std.proofs.Common.{◌≡◌, ◌<◌, ◌≤◌, length, refl, sym, ◌∙◌, ap, arith, take}
+use Rattle.std.proofs.Common.{◌<◌, ◌≤◌, length, refl, sym, ◌∙◌, ap, arith}
 use Rattle.std.proofs.lemmas.List.{take_more_same, take_all}
 use Rattle.csdf_floor.proofs.Books.{counted}
 use Rattle.csdf_floor.proofs.book.Book.has_counts.Goals as goal

@@ -1,9 +1,8 @@
-use Rattle.std.proofs.Common.{◌≡◌, ℕ, [], List, length, map, ap, sym, subst, ◌∙◌}
+use Rattle.std.proofs.Common.{◌≡◌, ℕ, [], List, length, ap, sym, subst, ◌∙◌}
 use Rattle.std.specs.Prelude.{replicate}
 use Rattle.std.proofs.lemmas.List.{length-map}
-use Rattle.csdf_core.specs.declared.moves.Move.{Move as MoveCode}
-use Rattle.csdf_core.specs.Moves.{move_of}
-use Rattle.csdf_floor.specs.Work.{Work, IsWork, program, feeds_in}
+use Rattle.csdf_core.specs.Moves.{Move}
+use Rattle.csdf_floor.specs.Work.{Work, program, feeds_in}
 use Rattle.csdf_floor.specs.Inside.{IsBook}
 use Rattle.csdf_floor.proofs.Books.{book_opened, floor_of}
 use Rattle.csdf_floor.proofs.book.Book.open.Goals as goal
@@ -16,7 +15,7 @@ invariant_of-result c =
     ∙ c.in_ok-sinks.ensures.reads ∙ c.actors.ensures.value in
     let none : c.in_ok-sinks.sinks.lists ≡ replicate (length c.in_ok-core.core.plan.sources) [] = c.in_ok-sinks.ensures.sinks
     ∙ ap (λ (n : ℕ). replicate n []) c.actors.ensures.value in
-    subst (λ (ms : List MoveCode). IsBook (floor_of w c.in_ok-core.core (map move_of ms) c.in_ok-sinks.sinks.lists) (feeds_in c.in_ok-sinks.reads.items))
-    (sym c.new.ensures.items)
+    subst (λ (ms : List Move). IsBook (floor_of c.new.result.keeps w c.in_ok-core.core ms c.in_ok-sinks.sinks.lists) (feeds_in c.in_ok-sinks.reads.items))
+    (sym c.new.ensures.moves)
     (book_opened w c.in_ok-core.core c.in_ok-sinks.sinks.lists (feeds_in c.in_ok-sinks.reads.items) c.in_ok-core.ensures.work plan
     c.in_ok-core.ensures.opening c.in_ok-core.ensures.peaks none each)

@@ -1,7 +1,6 @@
-use Rattle.std.proofs.lemmas.Grind.{common_steps}
 use Rattle.std.proofs.Common.{◌≡◌, ◌<◌, ◌++◌, [], length, get_or, set, cond, ap, ◌∙◌, arith, Bool}
 use Rattle.std.proofs.lemmas.List.{length-map}
-use Rattle.csdf_core.specs.declared.moves.Move.TheVariants as code
+use Rattle.csdf_core.specs.Moves.{Read}
 use Rattle.csdf_floor.proofs.Books.{book_fetch, fetch_length, fetch_tokens, next_is, sinks_each, sinks_after, read_there}
 use Rattle.csdf_floor.proofs.book.Book.read.Goals as goal
 use Rattle.csdf_floor.proofs.book.Book.read.Goals.{After-append_where}
@@ -24,9 +23,9 @@ module _ (c : After-append_where) where
 
 pub invariant_of-self : goal.invariant_of-self
 invariant_of-self c =
-    book_fetch c.self.inside.work c.self.inside.core c.read.new.core c.self.inside.moves.items c.push_reserved.new.self.items c.self.inside.sinks.lists
+    book_fetch c.self.inside.work c.self.inside.core c.read.new.core c.self.inside.journal.moves c.note_read.new.self.moves c.self.inside.sinks.lists
     c.append_where.new.self.lists c.self.inside.reads.items c.read.new.into c.args.actor
-    (rw (← c.self.view_is) at c.requires.accepted) c.self.invariant c.read.ensures.step c.push_reserved.ensures.items
+    (rw (← c.self.view_is) at c.requires.accepted) c.self.invariant c.read.ensures.step c.note_read.ensures.moves
     (took (goal.at.invariant_of-self c).After-append_where)
 
 pub returns : goal.returns
@@ -35,16 +34,12 @@ returns c =
     let lt : c.args.actor < length c.self.inside.reads.items =
     omega (arith, there, c.self.invariant.each_actor, length-map c.self.inside.reads.items (λ v. v.items)) in
     record {
-      next = rw (← c.self.view_is) (next_is _ _ _ c.self.inside.moves c.push_reserved.new.self (code.Read c.args.actor) _ _ _ _ _ c.self.invariant
-          c.read.ensures.step c.push_reserved.ensures.items c.push_reserved.ensures.len c.push_reserved.ensures.capacity
-          (rw (← c.self.view_is) at c.requires.room));
+      next = rw (← c.self.view_is) (next_is _ _ _ c.self.inside.journal c.note_read.new.self (Read c.args.actor) _ _ _ _ _ c.self.invariant
+          c.read.ensures.step c.note_read.ensures.moves c.note_read.ensures.room c.note_read.ensures.keeps);
       buffer = rw (← c.self.view_is) (fetch_length c.self.inside.reads.items c.index_mut-buffer.result.now c.read.new.into c.args.actor lt
           c.index_mut-buffer.ensures.value c.read.ensures.whole);
-      tokens = fetch_tokens c.self.inside.work c.self.inside.core c.read.new.core c.self.inside.moves.items c.push_reserved.new.self.items
+      tokens = fetch_tokens c.self.inside.work c.self.inside.core c.read.new.core c.self.inside.journal.moves c.note_read.new.self.moves
           c.self.inside.sinks.lists c.append_where.new.self.lists c.self.inside.reads.items c.read.new.into c.args.actor
-          (rw (← c.self.view_is) at c.requires.accepted) c.self.invariant c.read.ensures.step c.push_reserved.ensures.items
+          (rw (← c.self.view_is) at c.requires.accepted) c.self.invariant c.read.ensures.step c.note_read.ensures.moves
           (took (goal.at.returns c).After-append_where);
     }
-
-pub push_reserved-requires : goal.push_reserved-requires
-push_reserved-requires c = grind (arith, common_steps)

@@ -1,15 +1,8 @@
-use Rattle.std.proofs.Common.{◌≡◌, ℕ, ◌<◌, List, length, get_or, ap, sym, subst, ◌∙◌, arith}
-use Rattle.csdf_core.specs.declared.stage.Stage.TheVariants.{Idle}
-use Rattle.csdf_core.specs.Headline.{capacity_of}
+use Rattle.std.proofs.Common.{◌<◌, length, ap, subst, ◌∙◌, arith}
 use Rattle.csdf_core.specs.Plan.{Plan}
-use Rattle.csdf_core.specs.State.{Present}
-use Rattle.csdf_core.specs.Step.{count, is_open, producer, stage}
-use Rattle.csdf_core.specs.Streams.{length_of, peak_of}
-use Rattle.csdf_core.proofs.Peaks.{peaks_from_opening}
-use Rattle.csdf_floor.specs.Inside.{BookView, IsBook, consumer, put_into, taken_out_of}
-use Rattle.csdf_floor.specs.Outcome.{report_of}
+use Rattle.csdf_core.specs.Step.{count}
+use Rattle.csdf_floor.specs.Inside.{put_into, taken_out_of}
 use Rattle.csdf_floor.specs.Work.{program}
-use Rattle.csdf_floor.specs.declared.outcome.ChannelReport.{ChannelReport}
 use Rattle.csdf_floor.proofs.Reports.{as_told}
 use Rattle.csdf_floor.proofs.Works.{consumer_there, in_graph, producer_there}
 use Rattle.csdf_floor.proofs.book.Book.report_of.Goals as goal

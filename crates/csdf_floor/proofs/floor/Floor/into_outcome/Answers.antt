@@ -1,4 +1,4 @@
-use Rattle.std.proofs.Common.{◌≡◌, ◌∙◌, ap, sym, subst}
+use Rattle.std.proofs.Common.{sym, subst}
 use Rattle.csdf_core.specs.Shows.{View}
 use Rattle.csdf_core.specs.Step.{IsQuiet}
 use Rattle.csdf_floor.specs.Endings.{IsEnding}

@@ -1,35 +1,8 @@
-use Rattle.std.proofs.Common.{rules, ◌≡◌, ◌≤◌, None, ap, sym, subst, ◌∙◌, arith}
-use Rattle.csdf_floor.specs.Floor.{FloorView, IsBetween, start_refusal}
-use Rattle.csdf_floor.proofs.Floors.{MayStart, may_start, between_taken}
+use Rattle.csdf_floor.specs.Floor.{start_refusal}
+use Rattle.csdf_floor.proofs.Floors.{handed_on}
 use Rattle.csdf_floor.proofs.floor.Floor.start.Goals as goal
-use Rattle.csdf_floor.proofs.floor.Floor.start.Goals.{In_ok-make_room}
 
-module _ (c : In_ok-make_room) where
-  may : MayStart c.make_room.new.self.shown c.args.actor c.args.firing
-  may =
-      let none : start_refusal c.args.self.now c.args.actor c.args.firing ≡ None = sym c.start_refusal.ensures ∙ c.in_default.is in
-      subst (λ (f : FloorView). MayStart f c.args.actor c.args.firing) (sym (c.in_ok-make_room.ensures.shown ∙ c.self.view_is))
-      (may_start c.args.self.now c.args.actor c.args.firing none)
-
-pub take-requires-clause-accepted : goal.take-requires-clause-accepted
-take-requires-clause-accepted c = (may (goal.at.take-requires-clause-accepted c).In_ok-make_room).accepted
-
-pub invariant_of-self-2 : goal.invariant_of-self-2
-invariant_of-self-2 c =
-    let at : goal.In_ok-make_room = (goal.at.invariant_of-self-2 c).In_ok-make_room in
-    between_taken c.make_room.new.self c.take.new.self c.args.actor c.args.firing
-    (subst (λ (f : FloorView). IsBetween f.core.plan f.core.now) (sym c.in_ok-make_room.ensures.shown) c.self.invariant) (may at) c.take.ensures
-
-pub returns-clause-ready : goal.returns-clause-ready
-returns-clause-ready c = record {
-  few_counts = c.in_ok-counts.ensures.few;
-  small_counts = c.in_ok-counts.ensures.small;
-  few_inputs = omega (arith, c.in_ok-inputs.ensures.few, c.fill.ensures.count);
-  filter_in_range = c.kernel.ensures.in_range;
-}
-
-pub returns-clause-firing : goal.returns-clause-firing
-returns-clause-firing c = search rules
-
-pub returns-clause-job : goal.returns-clause-job
-returns-clause-job c = search rules
+pub returns-in_err-start_into-clause-answer : goal.returns-in_err-start_into-clause-answer
+returns-in_err-start_into-clause-answer c =
+    handed_on (Unit {0}) (start_refusal c.args.self.now c.args.actor c.args.firing) c.from_residual.result c.in_err-start_into.field-0.0
+    c.from_residual.ensures.1 c.in_err-start_into.ensures.answer

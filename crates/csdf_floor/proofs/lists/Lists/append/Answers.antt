@@ -1,4 +1,4 @@
-use Rattle.std.proofs.Common.{◌≡◌, ◌<◌, ◌++◌, [], length, get_or, set, ap, sym, ◌∙◌, arith}
+use Rattle.std.proofs.Common.{◌≡◌, ◌<◌, ◌++◌, [], length, get_or, set, ap, ◌∙◌, arith}
 use Rattle.std.proofs.lemmas.List.{length-map, map-set}
 use Rattle.csdf_floor.specs.Work.{feeds_in}
 use Rattle.csdf_floor.proofs.Works.{item_at}

@@ -1,4 +1,4 @@
-use Rattle.std.proofs.Common.{◌≡◌, ℕ, List, ap, sym, ◌∙◌, get_or}
+use Rattle.std.proofs.Common.{ℕ, List, ap, sym, ◌∙◌, get_or}
 use Rattle.csdf_floor.proofs.Works.{capacities_are}
 use Rattle.csdf_floor.proofs.work.Work.capacity.Goals as goal
 

@@ -1,4 +1,4 @@
-use Rattle.std.proofs.Common.{◌≡◌, ℕ, List, ap, sym, refl, ◌∙◌, map, get_or}
+use Rattle.std.proofs.Common.{ℕ, List, ap, sym, refl, ◌∙◌, map, get_or}
 use Rattle.csdf_model.specs.Graph.{Graph, Channel}
 use Rattle.csdf_core.specs.Plan.{Channel as PlanChannel}
 use Rattle.csdf_core.proofs.LayoutLemmas.{map-capacities}

@@ -1,4 +1,4 @@
-use Rattle.std.proofs.Common.{◌≡◌, ℕ, List, ap, sym, refl, ◌∙◌, map, get_or}
+use Rattle.std.proofs.Common.{ℕ, List, ap, sym, refl, ◌∙◌, get_or}
 use Rattle.csdf_model.specs.Graph.{Graph, Channel}
 use Rattle.csdf_model.specs.Rates.{produced, total}
 use Rattle.csdf_core.specs.Plan.{Channel as PlanChannel}

@@ -1,0 +1,32 @@
+//! Which firing of an actor is next, and in which phase: kept, so that nothing is divided.
+
+ghost use Rattle.std.specs.Prelude.{◌≡◌, ◌+◌, ◌<◌, ◌≤◌, length};
+ghost use Rattle.csdf_core.specs.Phases.{IsInPhase};
+
+use crate::layout::Layout;
+
+/// A firing of an actor, by its number, and the phase that it is in.
+#[derive(Clone, Copy)]
+pub(crate) struct Turn {
+    pub(crate) firing: u32,
+    pub(crate) phase: u32,
+}
+
+/// The actor's firing after this one: after the last phase comes the first.
+pub(crate) fn turn_after(layout: &Layout, actor: u32, turn: Turn) -> Turn
+    requires actor { actor < length layout.now.sources }
+    requires in_phase { IsInPhase layout.now.channels actor turn.firing turn.phase }
+    requires low { turn.phase < 16 }
+    requires few { turn.firing ≤ 16_384_000 }
+    ensures firing { result.firing ≡ turn.firing + 1 }
+    ensures in_phase { IsInPhase layout.now.channels actor (turn.firing + 1) result.phase }
+    ensures low { result.phase < 16 }
+{
+    let phases = layout.phases(actor);
+    let next = turn.phase + 1;
+    let phase = if next >= phases { 0 } else { next };
+    Turn {
+        firing: turn.firing + 1,
+        phase,
+    }
+}

@@ -1,0 +1,21 @@
+-- The move that a note is of.
+use Rattle.std.specs.Prelude.{List, [], ℤ}
+use Rattle.csdf_core.specs.Moves.{Move}
+use Rattle.csdf_core.specs.Moves.{Begin, Read, Write, Finish, Close}
+use Rattle.csdf_journal.specs.declared.note.Note.{Note}
+use Rattle.csdf_journal.specs.declared.note.Note.TheVariants as note
+
+abbrev pub noted : Note → Move
+noted (note.Begin a) = Begin a
+noted (note.Read a) = Read a
+noted (note.Write a v) = Write a v.now
+noted (note.Finish a) = Finish a
+noted (note.Close c) = Close c
+
+-- the tokens that a move writes
+abbrev pub tokens_in : Move → List ℤ
+tokens_in (Begin a) = []
+tokens_in (Read a) = []
+tokens_in (Write a v) = v
+tokens_in (Finish a) = []
+tokens_in (Close c) = []

@@ -1,0 +1,12 @@
+//! The journal of a run: always there for proofs, and kept only where the caller asks for it.
+#![tactic(auto)]
+
+mod journal;
+mod keeping;
+mod note;
+mod past;
+#[cfg(test)]
+mod tests;
+
+pub use journal::Journal;
+pub use keeping::Keeping;

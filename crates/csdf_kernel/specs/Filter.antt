@@ -1,0 +1,20 @@
+-- What the code keeps of a filter while it fires.
+use Rattle.std.specs.Prelude.{ℕ, ◌≡◌, ◌+◌, ◌<◌, ◌≤◌, ◌^◌, Bool, IsTrue, List, ℤ, length, unsigned_abs}
+use Rattle.csdf_kernel.specs.Value.{token_at}
+
+-- each of the first n weights is at most 2^27 in size, so that its product with a token is at most 2^58, and sixteen add up to 2^62 at most
+abbrev pub AreSmall : List ℤ → ℕ → Type 0
+AreSmall weights n = (j : ℕ) → j < n → unsigned_abs (token_at weights j) ≤ 2 ^ 27
+
+-- at most 16 taps, a shift of at most 31, and weights that are small where they are marked so
+pub record IsInRange (weights : List ℤ) (taps shift : ℕ) (small : Bool) : Type 0 where
+  pub few_taps : taps ≤ 16
+  pub low_shift : shift ≤ 31
+  pub are_small : IsTrue small → AreSmall weights taps
+
+-- sixteen taps with small weights, each of which has a token from this place on
+pub record IsWhole (weights : List ℤ) (taps : ℕ) (small : Bool) (xs : List ℤ) (place : ℕ) : Type 0 where
+  pub marked : IsTrue small
+  pub sixteen : taps ≡ 16
+  pub weighted : 16 ≤ length weights
+  pub there : place + 16 ≤ length xs

@@ -1,0 +1,94 @@
+//! A filter, told token by token. A place of its inputs is called whole where there are sixteen taps,
+//! all with small weights, and each finds a token.
+ghost use Rattle.std.specs.Prelude.{◌≡◌, ◌<◌, ◌≤◌, ℕ, IsTrue, length};
+ghost use Rattle.csdf_kernel.specs.Filter.{IsInRange, IsWhole};
+ghost use Rattle.csdf_kernel.specs.Value.{filter_token};
+
+use crate::numbers::{clamped, products_at, shifted};
+use crate::small::{
+    are_small, sixteen_products_at, small_clamped, small_products_at, small_shifted,
+};
+
+/// A filter: the first `taps` weights count, and each sum of products is divided by two to the power
+/// of `shift`.
+#[derive(Clone, Copy)]
+pub(crate) struct Filter<'a> {
+    pub(crate) weights: &'a [i32],
+    pub(crate) taps: u32,
+    pub(crate) shift: u32,
+    /// Whether each weight that counts is so small that 64 bits hold every sum.
+    pub(crate) small: bool,
+}
+
+impl<'a> Filter<'a> {
+    /// The filter of these weights, of which those that count are gone through once.
+    pub(crate) fn new(weights: &'a [i32], taps: u32, shift: u32) -> Filter<'a>
+        requires taps { taps ≤ 16 }
+        requires shift { shift ≤ 31 }
+        ensures weights { result.weights.now ≡ weights.now }
+        ensures taps { result.taps ≡ taps }
+        ensures shift { result.shift ≡ shift }
+        ensures in_range { IsInRange result.weights.now result.taps result.shift result.small }
+    {
+        Filter {
+            weights,
+            taps,
+            shift,
+            small: are_small(weights, taps as usize),
+        }
+    }
+
+    /// Whether there are sixteen taps, all with small weights.
+    fn is_sixteen(&self) -> bool
+        ensures small { IsTrue result → IsTrue self.now.small }
+        ensures taps { IsTrue result → self.now.taps ≡ 16 }
+        ensures weights { IsTrue result → 16 ≤ length self.now.weights.now }
+    {
+        self.small && self.taps == 16 && self.weights.len() >= 16
+    }
+
+    /// How many places are whole: those from the first on, as many as this.
+    pub(crate) fn whole_places(&self, inputs: &[i32]) -> usize
+        ensures { (i : ℕ) → i < result → IsWhole self.now.weights.now self.now.taps self.now.small inputs.now i }
+    {
+        if self.is_sixteen() {
+            inputs.len().saturating_sub(15)
+        } else {
+            0
+        }
+    }
+
+    /// The token at a whole place.
+    #[tactic(auto, unfolding(crate::specs::Value::filter_token))]
+    pub(crate) fn whole_token(&self, inputs: &[i32], place: usize) -> i32
+        requires in_range { IsInRange self.now.weights.now self.now.taps self.now.shift self.now.small }
+        requires whole { IsWhole self.now.weights.now self.now.taps self.now.small inputs.now place }
+        ensures { result ≡ filter_token self.now.weights.now self.now.taps self.now.shift inputs.now place }
+    {
+        let sum = sixteen_products_at(self.weights, inputs, place);
+        small_clamped(small_shifted(sum, self.shift))
+    }
+
+    /// The token at this place, where the weights are small.
+    #[tactic(auto, unfolding(crate::specs::Value::filter_token))]
+    pub(crate) fn small_token(&self, inputs: &[i32], place: usize) -> i32
+        requires in_range { IsInRange self.now.weights.now self.now.taps self.now.shift self.now.small }
+        requires small { IsTrue self.now.small }
+        requires place { place ≤ 8192 }
+        ensures { result ≡ filter_token self.now.weights.now self.now.taps self.now.shift inputs.now place }
+    {
+        let sum = small_products_at(self.weights, self.taps as usize, inputs, place);
+        small_clamped(small_shifted(sum, self.shift))
+    }
+
+    /// The token at this place, whatever the weights.
+    #[tactic(auto, unfolding(crate::specs::Value::filter_token))]
+    pub(crate) fn wide_token(&self, inputs: &[i32], place: usize) -> i32
+        requires in_range { IsInRange self.now.weights.now self.now.taps self.now.shift self.now.small }
+        requires place { place ≤ 8192 }
+        ensures { result ≡ filter_token self.now.weights.now self.now.taps self.now.shift inputs.now place }
+    {
+        let sum = products_at(self.weights, self.taps as usize, inputs, place);
+        clamped(shifted(sum, self.shift))
+    }
+}

@@ -1,0 +1,77 @@
+//! The arithmetic of filters whose weights are small, in 64 bits.
+ghost use Rattle.std.specs.Prelude.{◌≡◌, ◌+◌, ◌*ℤ◌, ◌^◌, ◌≤◌, IsTrue, length, unsigned_abs};
+ghost use Rattle.csdf_kernel.specs.Filter.{AreSmall};
+ghost use Rattle.csdf_kernel.specs.Value.{clamp, convolution, floor};
+
+use crate::numbers::{full_taps, token};
+
+/// The greatest size of a small weight: sixteen products with tokens of 32 bits stay within 2^62.
+const GREATEST_SMALL: u32 = 1 << 27;
+
+/// Whether each weight of the taps is small. Greater ones may add up in 64 bits too, and are not asked
+/// for.
+pub(crate) fn are_small(weights: &[i32], taps: usize) -> bool
+    ensures { IsTrue result → AreSmall weights.now taps }
+{
+    for tap in 0..taps {
+        if token(weights, tap).unsigned_abs() > GREATEST_SMALL {
+            return false;
+        }
+    }
+    true
+}
+
+/// The product with a small weight.
+fn small_product(weight: i32, token: i32) -> i64
+    requires { unsigned_abs weight ≤ 2 ^ 27 }
+    ensures value { result ≡ weight *ℤ token }
+    ensures bound { unsigned_abs result ≤ 2 ^ 58 }
+{
+    i64::from(weight) * i64::from(token)
+}
+
+/// The sum of the products of sixteen weights with the tokens from `place` on, which are all there.
+/// Its loop has a constant length, so that the compiler unrolls it.
+pub(crate) fn sixteen_products_at(weights: &[i32], inputs: &[i32], place: usize) -> i64
+    requires weights { 16 ≤ length weights.now }
+    requires tokens { place + 16 ≤ length inputs.now }
+    requires small { AreSmall weights.now 16 }
+    ensures { result ≡ convolution weights.now 16 inputs.now place }
+{
+    let mut sum = 0;
+    for next in 0..16 {
+        sum += small_product(weights[next], inputs[place + next]);
+    }
+    sum
+}
+
+/// The sum of the products of the first `taps` weights with the tokens from `place` on.
+pub(crate) fn small_products_at(weights: &[i32], taps: usize, inputs: &[i32], place: usize) -> i64
+    requires taps { taps ≤ 16 }
+    requires place { place ≤ 8192 }
+    requires small { AreSmall weights.now taps }
+    ensures { result ≡ convolution weights.now taps inputs.now place }
+{
+    let mut sum = 0;
+    for tap in 0..full_taps(weights, taps, inputs, place) {
+        sum += small_product(weights[tap], inputs[place + tap]);
+    }
+    sum
+}
+
+/// A sum divided by two to the power of `shift`, rounded down.
+#[tactic(auto, using(crate::proofs::NumberLemmas::shr_is))]
+pub(crate) fn small_shifted(sum: i64, shift: u32) -> i64
+    requires { shift ≤ 31 }
+    ensures { result ≡ floor sum (2 ^ shift) }
+{
+    sum >> shift
+}
+
+/// The nearest number in the range of `i32`.
+#[tactic(auto, using(crate::proofs::NumberLemmas::clamp_is))]
+pub(crate) fn small_clamped(quotient: i64) -> i32
+    ensures { result ≡ clamp quotient }
+{
+    quotient.clamp(i32::MIN as i64, i32::MAX as i64) as i32
+}

@@ -1,0 +1,15 @@
+use Rattle.csdf_run.proofs.request.Request.settle.Goals as goal
+
+pub returns-clause-outcome : goal.returns-clause-outcome
+returns-clause-outcome c = rw (← c.self.view_is) (record {
+  honest = c.in_ok-outcome.ensures.honest;
+  settled = c.in_ok-outcome.ensures.settled;
+  order = c.in_ok-outcome.ensures.order;
+  capacities = c.in_ok-outcome.ensures.capacities;
+  closing = c.in_ok-outcome.ensures.closing;
+  sinks = c.in_ok-outcome.ensures.sinks;
+  report = c.in_ok-outcome.ensures.report;
+  ending = c.in_ok-outcome.ensures.ending;
+  sequential = c.in_ok-outcome.ensures.sequential;
+  complete = c.in_ok-outcome.ensures.complete;
+})

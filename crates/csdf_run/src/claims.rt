@@ -1,0 +1,113 @@
+//! How a worker claims firings, and how its claims end.
+
+ghost use Rattle.std.specs.Prelude.{◌≡◌, ◌<◌, ℕ};
+ghost use Rattle.csdf_claims.specs.Board.{HasFinished};
+ghost use Rattle.csdf_run.specs.Workers.{HoldsJust, HasMade, IsActor, IsClaimBeside};
+
+use crate::run_floor::Delivered;
+use csdf_claims::{Board, Place};
+
+/// The greatest firing number that may be claimed.
+const LAST_FIRING: u32 = 16_384_000;
+
+/// A firing of an actor that a place holds.
+#[derive(Clone, Copy)]
+pub(crate) struct Claim {
+    pub(crate) actor: u32,
+    pub(crate) firing: u32,
+}
+
+/// Claims the present firing of an actor, beside what is held. `None` where it cannot be had.
+fn try_actor(board: &Board, place: &mut Place, beside: Option<Claim>, actor: u32) -> Option<Claim>
+    requires place { place.old.board ≡ board.now.id }
+    requires actor { actor < board.now.actors }
+    requires holds { HoldsJust place.old.view beside None }
+    ensures board { place.new.board ≡ board.now.id }
+    ensures claim { IsClaimBeside place.old.view place.new.view beside board.now.actors result }
+{
+    // `beside` is there for the contract alone, as other parameters that stand behind `let _ =`.
+    let _ = beside;
+    let (firing, is_held) = board.peek(place, actor);
+    if is_held || firing > LAST_FIRING {
+        return None;
+    }
+    match board.try_claim(place, actor, firing) {
+        Ok(()) => Some(Claim { actor, firing }),
+        Err(_lost) => None,
+    }
+}
+
+/// Claims a firing of one of these actors, beside what is held.
+pub(crate) fn claim_among(
+    board: &Board,
+    place: &mut Place,
+    beside: Option<Claim>,
+    mask: u64,
+) -> Option<Claim>
+    requires place { place.old.board ≡ board.now.id }
+    requires holds { HoldsJust place.old.view beside None }
+    ensures board { place.new.board ≡ board.now.id }
+    ensures claim { IsClaimBeside place.old.view place.new.view beside board.now.actors result }
+{
+    let mut left = mask;
+    for _ in 0..64 {
+        if left == 0 {
+            break;
+        }
+        let actor = left.trailing_zeros();
+        left &= left - 1;
+        if actor >= board.actors() {
+            break;
+        }
+        if let Some(claim) = try_actor(board, place, beside, actor) {
+            return Some(claim);
+        }
+    }
+    None
+}
+
+/// Marks the claim done: its firing is finished, and held no longer.
+fn mark_done(board: &Board, place: &mut Place, claim: Claim, beside: Option<Claim>)
+    requires place { place.old.board ≡ board.now.id }
+    requires actor { claim.actor < board.now.actors }
+    requires holds { HoldsJust place.old.view (Some claim) beside }
+    ensures board { place.new.board ≡ board.now.id }
+    ensures holds { HoldsJust place.new.view None beside }
+    ensures made { HasMade place.new.view (Some claim) }
+{
+    let _ = beside;
+    board.done(place, claim.actor);
+}
+
+/// Marks the claim done whose result the floor has taken, where there is one.
+pub(crate) fn finish(
+    board: &Board,
+    place: &mut Place,
+    delivered: Option<Delivered>,
+    beside: Option<Claim>,
+)
+    requires place { place.old.board ≡ board.now.id }
+    requires actor { IsActor board.now.actors delivered }
+    requires holds { HoldsJust place.old.view delivered beside }
+    ensures board { place.new.board ≡ board.now.id }
+    ensures holds { HoldsJust place.new.view None beside }
+    ensures made { HasMade place.new.view delivered }
+{
+    if let Some(delivered) = delivered {
+        mark_done(board, place, delivered.claim(), beside);
+    }
+}
+
+/// The claim is given up: nothing is held any more.
+pub(crate) fn give_back(board: &Board, place: &mut Place, claim: Option<Claim>)
+    requires place { place.old.board ≡ board.now.id }
+    requires actor { IsActor board.now.actors claim }
+    requires holds { HoldsJust place.old.view None claim }
+    ensures board { place.new.board ≡ board.now.id }
+    ensures holds { HoldsJust place.new.view None None }
+    ensures finished { (a k : ℕ) → HasFinished place.old.view a k → HasFinished place.new.view a k }
+{
+    if let Some(claim) = claim {
+        board.hand_back(place, claim.actor);
+    }
+}

@@ -1,0 +1,120 @@
+//! What a worker has in hand: one job and one list of outputs, which it uses again and again.
+
+ghost use Rattle.std.specs.Prelude.{◌≡◌, MatchOption, OnOk, false, true};
+ghost use Rattle.csdf_kernel.specs.Value.{value_of};
+ghost use Rattle.csdf_floor.specs.Floor.{IsReady};
+ghost use Rattle.csdf_run.specs.Hand.{claim_in};
+
+use crate::claims::Claim;
+use crate::gate::Gate;
+use csdf_floor::{Floor, StartFault};
+use csdf_kernel::{Job, Outputs, eval_into};
+use std::alloc::{AllocError, Global};
+use std::marker::Model;
+
+/// A job, and its outputs once it was evaluated behind the gate. Only [`Hand::evaluate`] says so of a job,
+/// and no other call lends out tokens to deliver than [`Hand::tokens`]. A contract sees the job and
+/// whether it was made: the job determines the outputs.
+#[derive(Drop)]
+pub(crate) struct Hand {
+    job: Job,
+    outputs: Outputs,
+    is_made: bool,
+}
+
+impl Model for Hand {
+    ghost use Rattle.std.specs.Prelude.{◌≡◌, true};
+    ghost use Rattle.csdf_kernel.specs.Value.{value_of};
+    ghost use Rattle.csdf_run.specs.Hand.{HandView};
+
+    ghost Value = { HandView };
+
+    ghost view = { λ h. record { job = h.job; is_made = h.is_made } };
+
+    ghost invariant = { λ h. h.is_made ≡ true
+        → h.outputs.items ≡ value_of h.job.kernel h.job.counts.items h.job.inputs.items };
+}
+
+impl Hand {
+    /// Nothing in hand.
+    pub(crate) fn new(alloc: Global) -> Hand
+        ensures { result.is_made ≡ false }
+    {
+        Hand {
+            job: Job::blank(alloc),
+            outputs: Outputs::new(alloc),
+            is_made: false,
+        }
+    }
+
+    /// The job.
+    pub(crate) fn job(&self) -> &Job
+        ensures { result.now ≡ self.now.job }
+    {
+        &self.job
+    }
+
+    /// The claim of what is to be delivered.
+    pub(crate) fn claim(&self) -> Option<Claim>
+        ensures { result ≡ claim_in self.now }
+    {
+        if !self.is_made {
+            return None;
+        }
+        Some(Claim {
+            actor: self.job.actor,
+            firing: self.job.firing,
+        })
+    }
+
+    /// The tokens to deliver, where the job was evaluated.
+    pub(crate) fn tokens(&self) -> Option<&[i32]>
+        ensures { MatchOption result (self.now.is_made ≡ false) (λ tokens.
+            (tokens.now ≡ value_of self.now.job.kernel self.now.job.counts.items self.now.job.inputs.items) × (self.now.is_made ≡ true)) }
+    {
+        if !self.is_made {
+            return None;
+        }
+        Some(self.outputs.as_slice())
+    }
+
+    /// What was delivered is no longer in hand.
+    pub(crate) fn put_down(&mut self)
+        ensures { self.new.is_made ≡ false }
+    {
+        self.is_made = false;
+    }
+
+    /// Starts a firing on the floor, with its job in the place of the one in hand.
+    pub(crate) fn start(
+        &mut self,
+        floor: &mut Floor,
+        actor: u32,
+        firing: u32,
+    ) -> Result<(), StartFault>
+        ensures idle { self.new.is_made ≡ false }
+        ensures job { OnOk result ((self.new.job.actor ≡ actor) × (self.new.job.firing ≡ firing)) }
+        ensures ready { OnOk result (IsReady self.new.job) }
+        ensures keeps { floor.new.keeps ≡ floor.old.keeps }
+    {
+        self.is_made = false;
+        match floor.start_into(actor, firing, &mut self.job) {
+            Ok(()) => Ok(()),
+            Err(fault) => Err(fault),
+        }
+    }
+
+    /// Evaluates the job, whose worker has passed the gate.
+    pub(crate) fn evaluate<G: Gate>(&mut self, gate: &G) -> Result<(), AllocError>
+        requires ready { IsReady self.old.job }
+        requires passed { G.passed gate.now self.old.job.actor self.old.job.firing }
+        ensures job { self.new.job ≡ self.old.job }
+        ensures made { OnOk result (self.new.is_made ≡ true) }
+    {
+        let _ = gate;
+        self.is_made = false;
+        eval_into(&self.job, &mut self.outputs)?;
+        self.is_made = true;
+        Ok(())
+    }
+}

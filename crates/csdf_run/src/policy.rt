@@ -1,0 +1,155 @@
+//! The policy of the workers: who tends the graph, who sleeps, and who is woken.
+
+use crate::actors::bit_of;
+use csdf_graph::Kernel;
+use csdf_kernel::Job;
+
+/// How many products, or tokens, make a firing heavy: it takes about as long as to wake a worker.
+const HEAVY: usize = 16_384;
+
+/// The workers of a run.
+#[derive(Clone, Copy)]
+pub(crate) struct Crew {
+    /// How many there are.
+    pub(crate) workers: u32,
+    /// Whether one may have to wait for another at the gate.
+    pub(crate) may_wait: bool,
+}
+
+impl Crew {
+    /// Whether there is one alone.
+    pub(crate) fn is_alone(self) -> bool {
+        self.workers <= 1
+    }
+}
+
+/// Whether a firing is worth waking a worker for.
+#[derive(Clone, Copy, PartialEq, Eq)]
+enum Weight {
+    Light,
+    Heavy,
+}
+
+/// What a worker does once it has told where to look.
+#[derive(Clone, Copy, PartialEq, Eq)]
+pub(crate) enum Teller {
+    /// It makes the firing that it has started.
+    Fires,
+    /// It looks for a firing itself.
+    Looks,
+}
+
+/// Which actors are heavy, whether a worker tends, how many sleep, and how many were woken and have not
+/// looked yet. All of it changes under the lock alone.
+///
+/// One worker *tends*: it makes light firings and comes back soon, for to hand one over takes longer than
+/// to make it. *Spare* is what the others may take: the heavy ones of the actors that can begin, and all
+/// of them where nobody tends. An actor is heavy where its last firing was, and each is where a worker may
+/// wait at the gate. Who starts a heavy firing, or finds nothing to start, tends no longer.
+///
+/// No wake-up is lost: what is spare changes under the lock alone, and whoever changes it tells: it wakes a
+/// worker where more is spare than there are workers who look, or were woken to look. Each of those sees
+/// under the lock that nothing is spare before it sleeps, or starts a firing and tells in its turn.
+/// None is woken in vain: it is woken for an actor that nobody else looks for, once the claims of the one
+/// who wakes it have ended, and finds it unless another was faster or its start is refused.
+#[derive(Drop)]
+pub(crate) struct Policy {
+    heavy: u64,
+    is_tended: bool,
+    sleeping: u32,
+    woken: u32,
+    may_wait: bool,
+}
+
+/// How heavy the firing of a job is.
+fn weight_of(job: &Job) -> Weight {
+    let each = match job.kernel {
+        Kernel::Fir { taps, .. } => taps as usize,
+        _ => 1,
+    };
+    if job.inputs.len().saturating_mul(each) >= HEAVY {
+        Weight::Heavy
+    } else {
+        Weight::Light
+    }
+}
+
+impl Policy {
+    /// Of a crew of which no worker tends or sleeps.
+    pub(crate) fn new(crew: Crew) -> Policy {
+        Policy {
+            heavy: if crew.may_wait { u64::MAX } else { 0 },
+            is_tended: false,
+            sleeping: 0,
+            woken: 0,
+            may_wait: crew.may_wait,
+        }
+    }
+
+    /// How heavy the job that is started is, which is kept for its actor's next firing.
+    fn weigh(&mut self, job: &Job) -> Weight {
+        let weight = if self.may_wait {
+            Weight::Heavy
+        } else {
+            weight_of(job)
+        };
+        match weight {
+            Weight::Heavy => self.heavy |= bit_of(job.actor),
+            Weight::Light => self.heavy &= !bit_of(job.actor),
+        }
+        weight
+    }
+
+    /// Whether a worker tends from now on that has started this job, or none: it does unless the job is
+    /// heavy or another worker tends.
+    pub(crate) fn tends(&mut self, tended: bool, started: Option<&Job>) -> bool {
+        let weight = match started {
+            Some(job) => self.weigh(job),
+            None => Weight::Light,
+        };
+        let another_tends = self.is_tended && !tended;
+        let tends = weight == Weight::Light && !another_tends;
+        self.is_tended = tends || another_tends;
+        tends
+    }
+
+    /// A worker that finds nothing to start tends no longer.
+    pub(crate) fn rests(&mut self, tended: bool) {
+        self.is_tended = self.is_tended && !tended;
+    }
+
+    /// The spare ones of the actors that can begin.
+    pub(crate) fn spare(&self, ready: u64) -> u64 {
+        if self.is_tended {
+            ready & self.heavy
+        } else {
+            ready
+        }
+    }
+
+    /// Whether the teller is to wake a worker, which then counts as woken.
+    pub(crate) fn wakes_one(&mut self, spare: u64, looking: u32, teller: Teller) -> bool {
+        let own = if teller == Teller::Looks { 1 } else { 0 };
+        let awake = looking.saturating_add(self.woken).saturating_add(own);
+        if self.sleeping == 0 || spare.count_ones() <= awake {
+            return false;
+        }
+        self.sleeping -= 1;
+        self.woken = self.woken.saturating_add(1);
+        true
+    }
+
+    /// A worker goes to sleep.
+    pub(crate) fn sleeps(&mut self) {
+        self.sleeping = self.sleeping.saturating_add(1);
+    }
+
+    /// A worker has woken up: one that was told to, or at the end of the run.
+    pub(crate) fn is_awake(&mut self) {
+        if self.woken > 0 {
+            self.woken -= 1;
+        } else {
+            self.sleeping = self.sleeping.saturating_sub(1);
+        }
+    }
+}

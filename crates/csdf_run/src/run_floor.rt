@@ -1,0 +1,116 @@
+//! The floor of a run, and what says that it took a result.
+
+ghost use Rattle.std.specs.Prelude.{◌≡◌, Bool, IfOk, OnOk, false, true};
+ghost use Rattle.csdf_floor.specs.Floor.{IsReady};
+ghost use Rattle.csdf_run.specs.Hand.{claim_in};
+ghost use Rattle.csdf_run.specs.Workers.{HasTaken};
+
+use crate::claims::Claim;
+use crate::hand::Hand;
+use csdf_core::Core;
+use csdf_floor::{DeliverFault, Floor, StartFault};
+use std::alloc::Global;
+use std::marker::{Brand, Model, PhantomData};
+
+/// What a run asks of its floor, as a type: so it is known of a floor that was behind a lock.
+pub(crate) trait Asked {
+    /// Whether the journal is kept.
+    ghost keeps: { Bool };
+}
+
+impl Asked for Brand {
+    ghost keeps = { true };
+}
+
+/// The floor of a run, which keeps its journal where the run asks for it.
+#[derive(Drop)]
+pub(crate) struct RunFloor<K: Asked> {
+    floor: Floor,
+    of: PhantomData<K>,
+    ghost kept: { floor.keeps ≡ K.keeps },
+}
+
+/// That the floor has taken the result of a firing, whose claim a contract sees. Only
+/// [`RunFloor::deliver`] makes one, and no claim is marked done without.
+#[derive(Drop)]
+pub(crate) struct Delivered {
+    claim: Claim,
+}
+
+impl Model for Delivered {
+    ghost use Rattle.csdf_run.specs.declared.claims.Claim.{Claim};
+
+    ghost Value = { Claim };
+
+    ghost view = { λ d. d.claim };
+}
+
+impl Delivered {
+    /// The claim of the firing.
+    pub(crate) fn claim(&self) -> Claim
+        ensures { result ≡ self.now }
+    {
+        self.claim
+    }
+}
+
+impl<K: Asked> RunFloor<K> {
+    pub(crate) fn new(floor: Floor) -> RunFloor<K>
+        requires { floor.keeps ≡ K.keeps }
+    {
+        RunFloor {
+            floor,
+            of: PhantomData,
+        }
+    }
+
+    /// The core.
+    pub(crate) fn core(&self) -> &Core
+        ensures { result.now ≡ self.now.floor.core }
+    {
+        self.floor.core()
+    }
+
+    /// The floor itself.
+    pub(crate) fn into_floor(self) -> Floor
+        ensures { result.keeps ≡ K.keeps }
+    {
+        let RunFloor { floor, of: _ } = self;
+        floor
+    }
+
+    /// Starts a firing, with its job in the place of the one in hand.
+    pub(crate) fn start(
+        &mut self,
+        actor: u32,
+        firing: u32,
+        hand: &mut Hand,
+    ) -> Result<(), StartFault>
+        ensures idle { hand.new.is_made ≡ false }
+        ensures job { OnOk result ((hand.new.job.actor ≡ actor) × (hand.new.job.firing ≡ firing)) }
+        ensures ready { OnOk result (IsReady hand.new.job) }
+    {
+        hand.start(&mut self.floor, actor, firing)
+    }
+
+    /// Gives the floor what is in hand, where something is.
+    pub(crate) fn deliver(
+        &mut self,
+        alloc: Global,
+        hand: &Hand,
+    ) -> Result<Option<Delivered>, DeliverFault>
+        ensures claim { IfOk result (λ delivered. delivered ≡ claim_in hand.now) }
+        ensures taken { OnOk result (HasTaken hand.now.is_made hand.now.job self.old.floor self.new.floor) }
+    {
+        let Some(tokens) = hand.tokens() else {
+            return Ok(None);
+        };
+        let job = hand.job();
+        self.floor.deliver_value(alloc, job, tokens)?;
+        let claim = Claim {
+            actor: job.actor,
+            firing: job.firing,
+        };
+        Ok(Some(Delivered { claim }))
+    }
+}

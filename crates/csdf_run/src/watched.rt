@@ -1,0 +1,131 @@
+//! What the workers share behind the lock.
+
+ghost use Rattle.std.specs.Prelude.{◌≡◌, ◌<◌, ℕ, IfOk, IsTrue, OnOk, false};
+ghost use Rattle.csdf_analysis.specs.Waking.{IsIn};
+ghost use Rattle.csdf_core.specs.Step.{IsQuiet};
+ghost use Rattle.csdf_floor.specs.Floor.{IsReady};
+ghost use Rattle.csdf_run.specs.Hand.{claim_in};
+ghost use Rattle.csdf_run.specs.Looking.{CanBegin};
+ghost use Rattle.csdf_run.specs.Workers.{IsStartOf};
+
+use crate::claims::Claim;
+use crate::hand::Hand;
+use crate::hints::Hints;
+use crate::policy::Policy;
+use crate::run_floor::{Asked, Delivered, RunFloor};
+use csdf_floor::{DeliverFault, StartFault};
+use csdf_kernel::Job;
+use std::alloc::Global;
+
+/// What a worker knows since it had the lock last.
+#[derive(Clone, Copy)]
+pub(crate) struct Stand {
+    /// Whether it tends.
+    pub(crate) tends: bool,
+    /// The actors that could begin.
+    pub(crate) ready: u64,
+    /// The actors that may be able to begin once what is in hand is delivered.
+    pub(crate) next: u64,
+}
+
+/// The floor, where to look for the next firing, how many firings are under way, and what the policy goes
+/// by.
+#[derive(Drop)]
+pub(crate) struct Watched<K: Asked> {
+    pub(crate) floor: RunFloor<K>,
+    pub(crate) hints: Hints,
+    pub(crate) running: u32,
+    pub(crate) policy: Policy,
+}
+
+impl<K: Asked> Watched<K> {
+    /// Starts the actor's firing.
+    fn start(&mut self, actor: u32, firing: u32, hand: &mut Hand) -> Result<(), StartFault>
+        ensures idle { hand.new.is_made ≡ false }
+        ensures job { OnOk result ((hand.new.job.actor ≡ actor) × (hand.new.job.firing ≡ firing)) }
+        ensures ready { OnOk result (IsReady hand.new.job) }
+    {
+        let answer = self.floor.start(actor, firing, hand);
+        if answer.is_ok() {
+            self.running = self.running.saturating_add(1);
+            self.hints.started(self.floor.core(), actor);
+        } else {
+            self.hints.refused(actor);
+        }
+        answer
+    }
+
+    /// Starts what is claimed, in the place of what is in hand. False where nothing is.
+    pub(crate) fn start_next(
+        &mut self,
+        next: Option<Claim>,
+        hand: &mut Hand,
+    ) -> Result<bool, StartFault>
+        ensures idle { hand.new.is_made ≡ false }
+        ensures started { IfOk result (λ is_started. IsStartOf next is_started hand.new.job) }
+    {
+        match next {
+            Some(claim) => match self.start(claim.actor, claim.firing, hand) {
+                Ok(()) => Ok(true),
+                Err(fault) => Err(fault),
+            },
+            None => {
+                hand.put_down();
+                Ok(false)
+            }
+        }
+    }
+
+    /// Takes the result in hand, where there is one.
+    pub(crate) fn deliver(
+        &mut self,
+        alloc: Global,
+        hand: &Hand,
+    ) -> Result<Option<Delivered>, DeliverFault>
+        ensures { IfOk result (λ delivered. delivered ≡ claim_in hand.now) }
+    {
+        let delivered = self.floor.deliver(alloc, hand)?;
+        if let Some(delivered) = &delivered {
+            self.running = self.running.saturating_sub(1);
+            self.hints
+                .delivered(self.floor.core(), delivered.claim().actor);
+        }
+        Ok(delivered)
+    }
+
+    /// Where a worker stands that has started this job, or none.
+    pub(crate) fn stand(&mut self, tended: bool, started: Option<&Job>) -> Stand {
+        Stand {
+            tends: self.policy.tends(tended, started),
+            ready: self.hints.ready(),
+            next: match started {
+                Some(job) => self.hints.after(job.actor),
+                None => 0,
+            },
+        }
+    }
+
+    /// The actors that others than the one who tends may take.
+    pub(crate) fn spare(&self) -> u64 {
+        self.policy.spare(self.hints.ready())
+    }
+
+    /// Whether no firing is under way and none can begin. The core, which looks at all actors, is asked
+    /// only where no firing is under way and no actor is hinted; if one can begin all the same, all that
+    /// can are hinted from then on.
+    pub(crate) fn is_over(&mut self) -> bool
+        ensures floor { self.new.floor ≡ self.old.floor }
+        ensures over { IsTrue result → IsQuiet self.new.floor.floor.core.plan self.new.floor.floor.core.now }
+        ensures looked { self.old.running ≡ 0 → self.old.hints.ready ≡ 0 → result ≡ false
+            → (a : ℕ) → a < 64 → CanBegin self.new.floor.floor.core a → IsIn self.new.hints.ready a }
+    {
+        if self.running != 0 || self.hints.ready() != 0 {
+            return false;
+        }
+        if self.floor.core().is_quiet() {
+            return true;
+        }
+        self.hints.look_at_all(self.floor.core());
+        false
+    }
+}
