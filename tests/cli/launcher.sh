@@ -49,8 +49,14 @@ rm "$launched/crates/csdf/out/csdf.sum"
 launch "built, with no record" 7 1 "$room/words_told" /dev/null with_rt
 launch "built, with a record once more" 7 1 "$room/words_told" /dev/null with_rt
 launch "built, and no rt" 7 1 "$room/words_told" /dev/null without_rt
+rm "$launched/crates/csdf/out/csdf.sum"
+mkdir "$launched/crates/csdf/out/csdf.sum"
+launch "built, where no record can be written" 7 1 "$room/words_told" /dev/null with_rt
+rmdir "$launched/crates/csdf/out/csdf.sum"
+launch "built, with no record, and no rt" 7 1 "$room/words_told" /dev/null without_rt
 touch -d "1 hour" "$main"
 launch "a source with another time" 7 1 "$room/words_told" /dev/null with_rt
+launch "a source with the time of the last call" 7 1 "$room/words_told" /dev/null with_rt
 echo "old edit" > "$launched/crates/csdf/must-fail/x.edit"
 launch "no source changed" 7 1 "$room/words_told" /dev/null with_rt
 echo "fn main() { }" > "$main"
