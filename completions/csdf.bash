@@ -1,0 +1,28 @@
+# Completion of csdf for bash: `source completions/csdf.bash`, or put it where bash-completion looks.
+
+_csdf() {
+  local word="${COMP_WORDS[COMP_CWORD]}" last="${COMP_WORDS[COMP_CWORD - 1]}" command="${COMP_WORDS[1]:-}"
+  COMPREPLY=()
+  if [[ "$COMP_CWORD" == 1 ]]; then
+    mapfile -t COMPREPLY < <(compgen -W \
+      "run moves check repetition schedule capacity dot explain help --help --version" -- "$word")
+    return
+  fi
+  case "$command $last" in
+    "run --workers") mapfile -t COMPREPLY < <(compgen -W "1 2 3 4 5 6 7 8" -- "$word") ;;
+    "run --periods" | "run --firings") ;;
+    help\ *) mapfile -t COMPREPLY < <(compgen -W \
+      "run moves check repetition schedule capacity dot explain" -- "$word") ;;
+    *)
+      if [[ "$word" != -* ]]; then
+        mapfile -t COMPREPLY < <(compgen -f -- "$word")
+      elif [[ "$command" == run ]]; then
+        mapfile -t COMPREPLY < <(compgen -W "--workers --periods --firings --help" -- "$word")
+      else
+        mapfile -t COMPREPLY < <(compgen -W "--help" -- "$word")
+      fi
+      ;;
+  esac
+}
+
+complete -o filenames -F _csdf csdf

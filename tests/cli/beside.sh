@@ -1,0 +1,28 @@
+# shellcheck shell=bash disable=SC2154
+# What stands beside the program, in the words of `run`, which reads this file: completions and the man
+# page name all commands and options that its help has, and the schema of graph files its keys and limits.
+
+# named_in FILE: the words of the help that the file does not name, one a line.
+named_in() {
+  local told
+  {
+    "$program" --help | sed -n '/^Commands:/,/^$/s/^  \([a-z]*\) .*/\1/p'
+    for command in run check; do
+      "$program" "$command" --help | grep -o -- '^  *\(-h, \)\?--[a-z]*' | sed 's/.*--//'
+    done
+    echo version
+  } | sort -u | while read -r told; do
+    if ! tr -c 'a-z\n' ' ' < "$top/$1" | grep -qw -- "$told"; then echo "$told"; fi
+  done
+}
+
+: > "$room/err"
+for file in completions/csdf.bash completions/_csdf completions/csdf.fish docs/csdf.1; do
+  named_in "$file" > "$room/out"
+  compare "$file names all commands and options" 0 /dev/null /dev/null 0
+done
+"$program" --help | grep -c '^  [a-z]' > "$room/out"
+echo 9 > "$room/nine"
+compare "the help has nine commands" 0 "$room/nine" /dev/null 0
+python3 "$here/schema.py" "$program" > "$room/out" 2> "$room/err"
+compare "the schema of graph files" "$?" /dev/null /dev/null 0
