@@ -192,7 +192,8 @@ fn graph_file(graph: &Graph) -> String {
 fn write_feeds(graph: &Graph, dir: &Path) {
     for actor in graph.actors.iter().filter(|actor| matches!(actor.kernel, Kernel::Source)) {
         let mut text = String::new();
-        for number in 0..graph.periods * actor.firings {
+        let each: usize = actor.outputs.iter().map(|&at| graph.channels[at].produce).sum();
+        for number in 0..graph.periods * actor.firings * each as u32 {
             writeln!(text, "{}", (number.wrapping_mul(2654435761) >> 20) as i32 - 2048).unwrap();
         }
         fs::write(dir.join(format!("{}.in", actor.name)), text).unwrap();
