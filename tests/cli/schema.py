@@ -1,5 +1,5 @@
 #!/usr/bin/env python3
-"""Sees that docs/graph.schema.json has the keys of docs/FORMATS.md, and that the program takes what is at
+"""Sees that docs/graph.schema.json has the keys of docs/FORMATS, and that the program takes what is at
 each of its limits and refuses what is one past it.
 
 usage: schema.py PROGRAM        prints what is wrong, a line each; nothing where all is well
@@ -106,7 +106,7 @@ def wrong_limits() -> list[str]:
 
 def documented() -> set:
     """The keys of the tables of FORMATS."""
-    text = (TOP / "docs" / "FORMATS.md").read_text().split("### Cells")[0]
+    text = next((TOP / "docs").glob("FORMATS*")).read_text().split("### Cells")[0]
     rows = re.findall(r"^\| (`\w+`(?:, `\w+`)*) \| (?:array|string|integer|table)", text, re.M)
     return {key for keys in rows for key in re.findall(r"\w+", keys)}
 
