@@ -93,5 +93,8 @@ module _ (v : View) (a w : ℕ) (found : Finds v a w) (lt : a < length v.tracks)
   pub found_held : (k : ℕ) → Holds v a k → w ≡ 2 * k + 1
   found_held k h = sym found.3 ∙ sits_held v found.0 found.1 found.2 a lt k h
 
+  pub found_once : (x : ℕ) → times x (track_of v a).finished ≤ 1
+  found_once x = sits_once v found.0 found.1 found.2 a lt x
+
   pub found_count : length (track_of v a).finished ≤ w / 2
   found_count = subst (λ (z : ℕ). length (track_of v a).finished ≤ z / 2) found.3 (sits_count v found.0 found.1 found.2 a lt)

@@ -3,13 +3,14 @@ use Rattle.std.proofs.Common.{◌≡◌, ◌≢◌, ℕ, ◌+◌, ◌/◌, ◌%�
 use Rattle.std.proofs.Common.{get_or-set_other, length-set, ⊎_elim}
 use mathlib.Core.Logic.{dite}
 use mathlib.Core.Option.{some}
-use native.Mathlib.Decide.{ℕ_discrete}
+use native.Mathlib.Decide.{ℕ_discrete, dec_lt}
+use Rattle.std.specs.List.{range_with_len}
 use lib.ListN.{get_elem?}
 use Rattle.atomic_table.proofs.Lists.{at_set}
 use Rattle.csdf_claims.specs.declared.rule.Track.{Track}
 use Rattle.csdf_claims.specs.declared.rule.View.{View}
 use Rattle.csdf_claims.specs.Board.{track_of, times, claims, finishes, word_of, IsLawfulAt, IsLawful}
-use Rattle.csdf_claims.proofs.Totals.{times-append, times_one_same, times_one_other, total_set, total_at}
+use Rattle.csdf_claims.proofs.Totals.{times-append, times_one_same, times_one_other, times_before, times_beyond, times_within, total_set, total_at}
 
 -- One place i, with the view v, gets the view u. Of actor a that changes the claims and the finished firings as said
 module _ (places : List View) (i : ℕ) (v u : View) (at : get_elem? places i ≡ some v) (a : ℕ) where
@@ -63,23 +64,24 @@ module _ (places : List View) (i : ℕ) (v u : View) (at : get_elem? places i �
       (λ e. (sym e, let h : claims places a k ≡ b = subst (λ (z : ℕ). claims places a z ≡ b) (sym e) L.held in omega arith))
       (λ ne. let h = L.held_elsewhere k ne in absurd (omega arith))
 
-  -- the firing that was held is finished
-  pub ended : (k : ℕ) → IsLawfulAt places a k 1 → H v ≡ k ∷ [] → H u ≡ [] → F u ≡ F v ++ k ∷ [] → (track_of u a).seen ≤ k + 1 → IsLawfulAt Ps a (k + 1) 0
-  ended k L hv eh ef s = record {
-    held = let c = claims_change (k + 1) in let e : times (k + 1) (H u) ≡ 0 = ap (times (k + 1)) eh in
-        let h = L.held_elsewhere (k + 1) (λ q. absurd (omega arith)) in omega arith;
+  -- the firing that was held is finished, and those that follow it, n in all
+  pub ended : (k n : ℕ) → 1 ≤ n → IsLawfulAt places a k 1 → H v ≡ k ∷ [] → H u ≡ [] → F u ≡ F v ++ range_with_len k n → (track_of u a).seen ≤ k + n
+      → IsLawfulAt Ps a (k + n) 0
+  ended k n some_firing L hv eh ef s = record {
+    held = let c = claims_change (k + n) in let e : times (k + n) (H u) ≡ 0 = ap (times (k + n)) eh in
+        let h = L.held_elsewhere (k + n) (λ q. absurd (omega arith)) in omega arith;
     held_elsewhere = λ x _. let c = claims_change x in let e : times x (H u) ≡ 0 = ap (times x) eh in dite (ℕ_discrete x k)
         (λ q. let h : claims places a x ≡ 1 = subst (λ (z : ℕ). claims places a z ≡ 1) (sym q) L.held in
         let o : times x (H v) ≡ 1 = ap (times x) hv ∙ times_one_same x k q in omega arith)
         (λ ne. let h = L.held_elsewhere x ne in omega arith);
     finished = λ x lt. let c = finishes_change x in
-        let e : times x (F u) ≡ times x (F v) + times x (k ∷ []) = ap (times x) ef ∙ times-append x (F v) (k ∷ []) in dite (ℕ_discrete x k)
-        (λ q. let h = L.unfinished x (omega arith) in let o = times_one_same x k q in omega arith)
-        (λ ne. let h = L.finished x (omega arith) in let o = times_one_other x k ne in omega arith);
+        let e : times x (F u) ≡ times x (F v) + times x (range_with_len k n) = ap (times x) ef ∙ times-append x (F v) (range_with_len k n) in dite (dec_lt x k)
+        (λ low. let h = L.finished x low in let o = times_before x k n low in omega arith)
+        (λ high. let h = L.unfinished x (omega arith) in let o = times_within x k n (omega arith) lt in omega arith);
     unfinished = λ x le. let c = finishes_change x in
-        let e : times x (F u) ≡ times x (F v) + times x (k ∷ []) = ap (times x) ef ∙ times-append x (F v) (k ∷ []) in
-        let h = L.unfinished x (omega arith) in let o = times_one_other x k (λ q. absurd (omega arith)) in omega arith;
-    seen = seen_change (k + 1) (λ seat w e. let h = L.seen seat w e in omega arith) s;
+        let e : times x (F u) ≡ times x (F v) + times x (range_with_len k n) = ap (times x) ef ∙ times-append x (F v) (range_with_len k n) in
+        let h = L.unfinished x (omega arith) in let o = times_beyond x k n le in omega arith;
+    seen = seen_change (k + n) (λ seat w e. let h = L.seen seat w e in omega arith) s;
   }
 
   -- the claim is given up

@@ -3,13 +3,14 @@ use Rattle.std.proofs.Common.{◌≡◌, ◌≢◌, ℕ, ◌+◌, ◌*◌, ◌/�
 use Rattle.std.proofs.Common.{arith, eq-eqb, ne_eqb, get_or-set_same, get_or-set_other, length-set}
 use mathlib.Core.Logic.{dite}
 use mathlib.Core.Option.{none, some}
-use native.Mathlib.Decide.{ℕ_discrete}
+use native.Mathlib.Decide.{ℕ_discrete, dec_lt}
+use Rattle.std.specs.List.{range_with_len}
 use lib.ListN.{get_elem?}
 use prog.Atomic.{either}
 use Rattle.atomic_table.specs.Table.{State, step, stepped, keeps, Allows}
 use Rattle.csdf_claims.specs.declared.rule.Track.{Track}
 use Rattle.csdf_claims.specs.declared.rule.View.{View}
-use Rattle.csdf_claims.specs.Board.{blank, track_of, word_of, IsLawfulAt, IsLawful, Finds, Holds, looked, claimed, finished_view, handed_back}
+use Rattle.csdf_claims.specs.Board.{blank, track_of, word_of, IsLawfulAt, IsLawful, Finds, Holds, looked, claimed, finished_block, handed_back}
 use Rattle.csdf_claims.specs.Steps.{Seated, LookTells, ClaimTells, FinishTells, GiveUpTells, after_claim}
 use Rattle.csdf_claims.proofs.Lawful.{kept, won, ended, given_up, steps}
 use Rattle.csdf_claims.proofs.Found.{finds_before, finds_after, found_held}
@@ -86,19 +87,26 @@ module _ (actors slots id : ℕ) (me : Seated) (a : ℕ) (size : length me.0.tra
       at_k = let o = odd in let half : w / 2 ≡ k = omega arith in let one : w % 2 ≡ 1 = omega arith in
           subst (λ (z : ℕ × ℕ). IsLawfulAt s.views a z.0 z.1) (λ i. (half i, one i)) (L.each a lt)
 
-      abbrev over : Track
-      over = record { held = []; finished = (track_of me.0 a).finished ++ k ∷ []; seen = k + 1 }
+      module _ (n : ℕ) (some_firing : 1 ≤ n) (fits : 1 < n → k + n ≤ 16384001) where
+        abbrev over : Track
+        over = record { held = []; finished = (track_of me.0 a).finished ++ range_with_len k n; seen = k + n }
 
-      ends_lawful : Law actors (stepped s (a + 1) (2 * k + 2) id me.1 (finished_view me.0 a k) keeps)
-      ends_lawful =
-          let t = track_here me.0 a over me.0.found inside in let o = odd in let most = L.within a lt in
-          steps actors s.words s.views id me.0 (finished_view me.0 a k) a (2 * k + 2) (k + 1) 0 L at lt (omega arith) (omega arith) (omega arith)
-          (ended s.views id me.0 (finished_view me.0 a k) at a k at_k has (ap (λ (z : Track). z.held) t) (ap (λ (z : Track). z.finished) t)
-          (let e = ap (λ (z : Track). z.seen) t in omega arith))
-          (track_there me.0 a over me.0.found)
+        -- one firing more fits, since a held word is odd
+        ends_within : 2 * (k + n) ≤ 32768002
+        ends_within = let o = odd in let most = L.within a lt in
+            dite (dec_lt 1 n) (λ several. let h = fits several in omega arith) (λ single. omega arith)
 
-      ends_after : Finds (finished_view me.0 a k) a (2 * k + 2)
-      ends_after = finds_after actors s.words s.views id me.0 (finished_view me.0 a k) a (2 * k + 2) ends_lawful at (length-set me.0.tracks a over ∙ size) room
+        ends_lawful : Law actors (stepped s (a + 1) (2 * (k + n)) id me.1 (finished_block me.0 a k n) keeps)
+        ends_lawful =
+            let t = track_here me.0 a over me.0.found inside in
+            steps actors s.words s.views id me.0 (finished_block me.0 a k n) a (2 * (k + n)) (k + n) 0 L at lt ends_within (omega arith) (omega arith)
+            (ended s.views id me.0 (finished_block me.0 a k n) at a k n some_firing at_k has (ap (λ (z : Track). z.held) t) (ap (λ (z : Track). z.finished) t)
+            (let e = ap (λ (z : Track). z.seen) t in omega arith))
+            (track_there me.0 a over me.0.found)
+
+        ends_after : Finds (finished_block me.0 a k n) a (2 * (k + n))
+        ends_after = finds_after actors s.words s.views id me.0 (finished_block me.0 a k n) a (2 * (k + n)) ends_lawful at
+            (length-set me.0.tracks a over ∙ size) room
 
       abbrev free : Track
       free = record (track_of me.0 a) { held = [] }
@@ -157,20 +165,20 @@ module _ (actors slots id : ℕ) (me : Seated) (a : ℕ) (size : length me.0.tra
             ),
       ))
 
-  pub finishes_firing : (k : ℕ) → Holds me.0 a k
-      → Allows (Law actors) slots id me (a + 1) (λ _. 2 * k + 2) (λ _. FinishTells (step slots (a + 1) (2 * k + 2) 0 none) me (2 * k + 2))
-  finishes_firing k has s L _ at _ = (
-    finished_view me.0 a k,
+  pub finishes_firings : (k n : ℕ) → Holds me.0 a k → 1 ≤ n → (1 < n → k + n ≤ 16384001)
+      → Allows (Law actors) slots id me (a + 1) (λ _. 2 * (k + n)) (λ _. FinishTells (step slots (a + 1) (2 * (k + n)) 0 none) me (2 * (k + n)))
+  finishes_firings k n has some_firing fits s L _ at _ = let u : View = finished_block me.0 a k n in (
+    u,
     keeps,
     tt,
-    ends_lawful s L at k has,
-    λ c j is _ has'. let e : a ≡ c = omega arith in
-        let P : ℕ → Type 0 = λ b. (j : ℕ) → Holds me.0 b j → (◌≡◌ {A = Seated} (finished_view me.0 a k, me.1) (finished_view me.0 b j, me.1))
-        × Finds (finished_view me.0 a k) b (2 * j + 2) in
-        let base : P a = λ j' h. let d : k ≡ j' = head_of (sym has ∙ h) in
-        subst (λ (z : ℕ). (◌≡◌ {A = Seated} (finished_view me.0 a k, me.1) (finished_view me.0 a z, me.1)) × Finds (finished_view me.0 a k) a (2 * z + 2)) d
-        (refl, ends_after s L at k has) in
-        subst P e base j has',
+    ends_lawful s L at k has n some_firing fits,
+    λ c j m is _ same has'. let e : a ≡ c = omega arith in
+        let P : ℕ → Type 0 = λ b. (j m : ℕ) → 2 * (k + n) ≡ 2 * (j + m) → Holds me.0 b j
+        → (◌≡◌ {A = Seated} (u, me.1) (finished_block me.0 b j m, me.1)) × Finds u b (2 * (j + m)) in
+        let base : P a = λ j' m' same' h. let d : k ≡ j' = head_of (sym has ∙ h) in let f : n ≡ m' = omega arith in
+        let Q : ℕ × ℕ → Type 0 = λ z. (◌≡◌ {A = Seated} (u, me.1) (finished_block me.0 a z.0 z.1, me.1)) × Finds u a (2 * (z.0 + z.1)) in
+        subst Q (λ i. (d i, f i)) (refl, ends_after s L at k has n some_firing fits) in
+        subst P e base j m same has',
   )
 
   pub gives_up : (k : ℕ) → Holds me.0 a k

@@ -2,6 +2,7 @@
 -- A word 2k says that the actor is idle at firing k, and 2k + 1 that some place holds it at k.
 use Rattle.std.specs.Prelude.{◌≡◌, ◌≢◌, ℕ, ◌+◌, ◌*◌, ◌/◌, ◌%◌, ◌<◌, ◌≤◌, ◌==◌, Bool, true, false, List, [], ◌∷◌, ◌++◌, map, max, length, replicate}
 use Rattle.std.specs.Prelude.{slice_index, slice_index_or, slice_set, if◌then◌else◌}
+use Rattle.std.specs.List.{range_with_len}
 use mathlib.Core.Option.{some}
 use lib.ListN.{get_elem?}
 use Rattle.csdf_claims.specs.declared.rule.Track.{Track}
@@ -141,6 +142,12 @@ claimed v a k =
 abbrev pub finished_view : View → ℕ → ℕ → View
 finished_view v a k =
     let over : Track = record { held = []; finished = (track_of v a).finished ++ k ∷ []; seen = k + 1 } in
+    record v { tracks = slice_set v.tracks a over }
+
+-- after the claim on firing k of actor a has ended in n firings being finished, k and those that follow it
+abbrev pub finished_block : View → ℕ → ℕ → ℕ → View
+finished_block v a k n =
+    let over : Track = record { held = []; finished = (track_of v a).finished ++ range_with_len k n; seen = k + n } in
     record v { tracks = slice_set v.tracks a over }
 
 -- after the claim on actor a was given up

@@ -2,7 +2,7 @@
 use Rattle.std.specs.Prelude.{◌≡◌, ℕ, ◌+◌, ◌*◌, ◌<◌, ◌==◌, List, length, if◌then◌else◌}
 use Rattle.atomic_table.specs.Table.{Step, Me}
 use Rattle.csdf_claims.specs.declared.rule.View.{View}
-use Rattle.csdf_claims.specs.Board.{Finds, Holds, SitsAt, word_after_claim, looked, claimed, finished_view, handed_back}
+use Rattle.csdf_claims.specs.Board.{Finds, Holds, SitsAt, word_after_claim, looked, claimed, finished_block, handed_back}
 
 -- a place at the table, which has no slots
 abbrev pub Seated : Type 0
@@ -26,11 +26,11 @@ ClaimTells step me w me' =
     (a k : ℕ) → step.word ≡ a + 1 → a < length me.0.tracks → step.first ≡ 2 * k
     → Finds me.0 a w × (me' ≡ (after_claim me.0 a k w, me.1)) × Finds me'.0 a (word_after_claim k w)
 
--- the firing that was held is finished
+-- the firing that was held is finished, with those that follow it below the new word's
 abbrev pub FinishTells : Stage → Seated → ℕ → Seated → Type 0
 FinishTells step me w me' =
-    (a k : ℕ) → step.word ≡ a + 1 → a < length me.0.tracks → Holds me.0 a k
-    → (me' ≡ (finished_view me.0 a k, me.1)) × Finds me'.0 a (2 * k + 2)
+    (a k n : ℕ) → step.word ≡ a + 1 → a < length me.0.tracks → step.first ≡ 2 * (k + n) → Holds me.0 a k
+    → (me' ≡ (finished_block me.0 a k n, me.1)) × Finds me'.0 a (2 * (k + n))
 
 -- the claim is given up, and the actor is idle at the same firing
 abbrev pub GiveUpTells : Stage → Seated → ℕ → Seated → Type 0

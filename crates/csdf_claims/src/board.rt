@@ -6,7 +6,8 @@ ghost use Rattle.std.specs.Mem.Slots.{slots_items, slots_len, IsFull};
 ghost use Rattle.csdf_claims.specs.Board.{track_of, word_of, SitsAt, Finds, Holds, IsHolding, HasFinished};
 ghost use Rattle.csdf_claims.specs.Board.{KeepsAll, KeepsJust, IsBlank};
 ghost use Rattle.csdf_claims.specs.Board.{Gathers, Lacks, IsNew, word_after_claim, opening_view, looked};
-ghost use Rattle.csdf_claims.specs.Board.{claimed, finished_view, handed_back, newcomer_view, joined_view};
+ghost use Rattle.csdf_claims.specs.Board.{times, claimed, finished_view, finished_block, handed_back};
+ghost use Rattle.csdf_claims.specs.Board.{newcomer_view, joined_view};
 ghost use Rattle.csdf_claims.specs.Face.{LostBy, joined_entry, CountsTo};
 ghost use Rattle.csdf_claims.specs.declared.place.Entry.{Entry};
 ghost use Rattle.csdf_claims.specs.declared.rule.View.{View};
@@ -117,16 +118,33 @@ impl Board {
         ensures view { (k : ℕ) → Holds place.old.view actor k → place.new.view ≡ finished_view place.old.view actor k }
         ensures left { (k : ℕ) → Holds place.old.view actor k → Finds place.new.view actor (2 * k + 2) }
     {
+        self.done_many(place, actor, 1);
+    }
+
+    /// The firing that the place holds is finished, and those that follow it, `count` in all, by one store. Where
+    /// there are several, the last is firing 16,384,000 at most; of a single one its claim has seen to that.
+    pub fn done_many(&self, place: &mut Place, actor: u32, count: u32)
+        requires place { place.old.board ≡ self.now.id }
+        requires actor { actor < self.now.actors }
+        requires held { IsHolding place.old.view actor }
+        requires count { 1 ≤ count }
+        requires fits { (k : ℕ) → 1 < count → Holds place.old.view actor k → k + count ≤ 16384001 }
+        ensures board { place.new.board ≡ place.old.board }
+        ensures view { (k : ℕ) → Holds place.old.view actor k → place.new.view ≡ finished_block place.old.view actor k count }
+        ensures left { (k : ℕ) → Holds place.old.view actor k → Finds place.new.view actor (2 * (k + count)) }
+        ensures each { (k x : ℕ) → Holds place.old.view actor k → k ≤ x → x < k + count
+            → times x (track_of place.new.view actor).finished ≡ 1 }
+    {
         let index = actor as usize;
         let Some(firing) = place.entries[index].held else {
             unreachable!()
         };
-        let next = 2 * firing as u64 + 2;
+        let next = 2 * (firing as u64 + count as u64);
         self.table
             .shared
             .store::<Finish>(&mut place.seat, index + 1, next);
         let entry = &mut place.entries[index];
-        entry.finished += 1;
+        entry.finished += count;
         entry.held = None;
     }
 

@@ -40,7 +40,7 @@ impl Play<(), View> for Claim {
     ghost then = { ClaimTells };
 }
 
-/// A store that ends a claim, the firing being finished.
+/// A store that ends a claim, the firing being finished, or several from it on.
 pub(crate) struct Finish;
 
 impl Play<(), View> for Finish {

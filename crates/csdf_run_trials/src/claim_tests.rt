@@ -199,6 +199,41 @@ fn a_place_alone_misses_what_the_other_finished(rt: HostRuntime) -> Result<(), F
     Ok(())
 }
 
+// Claims the actor's first firing, and finishes it with those that follow it.
+fn finish_block<R: Abort>(rt: &R, board: &Board, place: &mut Place, actor: u32, count: u32)
+    requires place { place.old.board ≡ board.now.id }
+    requires actor { actor < board.now.actors }
+    requires some { 1 ≤ count }
+    requires fits { count ≤ 16384001 }
+    ensures board { place.new.board ≡ place.old.board }
+{
+    win(rt, board, place, actor, 0);
+    board.done_many(place, actor, count);
+}
+
+// `p` finishes a block of three firings, and `q` the one after them.
+fn a_block_and_one<R: Abort>(rt: &R, board: &Board, p: &mut Place, q: &mut Place)
+    requires p { p.old.board ≡ board.now.id }
+    requires q { q.old.board ≡ board.now.id }
+    requires actors { 0 < board.now.actors }
+    ensures p { p.new.board ≡ p.old.board }
+    ensures q { q.new.board ≡ q.old.board }
+{
+    finish_block(rt, board, p, 0, 3);
+    expect_eq(rt, board.try_claim(q, 0, 1), Err(Lost::Moved(3)));
+    win(rt, board, q, 0, 3);
+    board.done(q, 0);
+}
+
+#[test]
+fn a_block_is_finished_at_once(rt: HostRuntime) -> Result<(), Fail> {
+    let (board, mut p, mut q) = board_of_two(rt.alloc(), 1)?;
+    a_block_and_one(&rt, &board, &mut p, &mut q);
+    board.join(&mut p, q);
+    check_gathered(&rt, board, p, &mut [7], Ok(()), &[4]);
+    Ok(())
+}
+
 // Claims and finishes the actor's first firing.
 fn finish_first<R: Abort>(rt: &R, board: &Board, place: &mut Place, actor: u32)
     requires place { place.old.board ≡ board.now.id }

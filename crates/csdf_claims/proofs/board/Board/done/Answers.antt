@@ -1,55 +1,14 @@
-use Rattle.std.proofs.Common.{◌≡◌, ℕ, ◌+◌, ◌*◌, [], ◌∷◌, sym, ◌∙◌, arith, refl, subst, length-append}
-use Rattle.csdf_claims.specs.Board.{Finds, Holds, track_of, finished_view}
-use Rattle.csdf_claims.specs.Face.{PlaceFace}
-use Rattle.csdf_claims.proofs.Records.{ready, record_set, entry_held, entry_finished}
-use Rattle.csdf_claims.proofs.Claims.{Ended, count_before}
-use Rattle.csdf_claims.proofs.Moves.{finishes_firing, head_of}
+use Rattle.std.proofs.Common.{◌≡◌, ◌+◌, ◌*◌, arith, subst}
+use Rattle.csdf_claims.specs.Board.{Finds}
 use Rattle.csdf_claims.proofs.board.Board.done.Goals as goal
 
-pub overflow_mul-next : goal.overflow_mul-next
-overflow_mul-next c = omega arith
+-- one firing is no block of several
+pub done_many-requires-clause-fits : goal.done_many-requires-clause-fits
+done_many-requires-clause-fits c k several has = absurd (omega arith)
 
-pub overflow_add-next : goal.overflow_add-next
-overflow_add-next c = omega arith
-
-pub store-requires : goal.store-requires
-store-requires c =
-    let r = ready c.place.inside c.self.inside _ _ c.args.actor c.place.view_is c.self.view_is c.place.invariant c.self.invariant.0
-    c.requires.place c.requires.actor in
-    let h = entry_held c.place.inside.entries.items c.place.inside.seat.me c.place.inside.seat.table_id c.args.actor c.in-Some.firing c.index.result.now
-    c.place.invariant r.track c.index.ensures c.in-Some.is in
-    (r.same, r.word, finishes_firing _ _ _ _ _ r.size r.actor c.in-Some.firing h)
-
-pub overflow_add-entry : goal.overflow_add-entry
-overflow_add-entry c =
-    let r = ready c.place.inside c.self.inside _ _ c.args.actor c.place.view_is c.self.view_is c.place.invariant c.self.invariant.0
-    c.requires.place c.requires.actor in
-    let h = entry_held c.place.inside.entries.items c.place.inside.seat.me c.place.inside.seat.table_id c.args.actor c.in-Some.firing c.index.result.now
-    c.place.invariant r.track c.index.ensures c.in-Some.is in
-    let t = c.store.ensures.2 c.args.actor c.in-Some.firing refl r.track h in
-    let n = entry_finished _ _ _ _ c.index_mut-entry.result.now c.place.invariant r.track c.index_mut-entry.ensures.value in
-    let m = count_before c.place.inside.seat.me c.store.new.seat.me c.args.actor c.in-Some.firing t.0 r.track t.1 in
-    omega arith
-
--- what the store told
-told : (c : goal.After-place-1)
-    → Ended c.place.inside.seat.me c.store.new.seat.me c.args.actor c.in-Some.firing (2 * c.in-Some.firing + 2)
-    (finished_view c.place.inside.seat.me.0 c.args.actor c.in-Some.firing)
-told c =
-    let r = ready c.place.inside c.self.inside _ _ c.args.actor c.place.view_is c.self.view_is c.place.invariant c.self.invariant.0
-    c.requires.place c.requires.actor in
-    let h = entry_held c.place.inside.entries.items c.place.inside.seat.me c.place.inside.seat.table_id c.args.actor c.in-Some.firing c.index.result.now
-    c.place.invariant r.track c.index.ensures c.in-Some.is in
-    let t = c.store.ensures.2 c.args.actor c.in-Some.firing refl r.track h in
-    record { track = r.track; held = h; now = t.0; after = t.1 }
-
-pub invariant_of-place : goal.invariant_of-place
-invariant_of-place c = let t = told c in
-    let n = entry_finished _ _ _ _ c.index_mut-entry.result.now c.place.invariant t.track c.index_mut-entry.ensures.value in
-    record_set _ _ _ _ _ c.args.actor _ _ c.place.invariant t.track t.now c.store.ensures.0 _
-    (record { finished = omega (arith, length-append (track_of c.place.inside.seat.me.0 c.args.actor).finished (c.in-Some.firing ∷ [])); held = refl })
+pub returns-clause-view : goal.returns-clause-view
+returns-clause-view c k has = c.done_many.ensures.view k has
 
 pub returns-clause-left : goal.returns-clause-left
-returns-clause-left c k has = let t = told c in
-    let e : c.in-Some.firing ≡ k = head_of (sym t.held ∙ subst (λ (z : PlaceFace). Holds z.view c.args.actor k) (sym c.place.view_is) has) in
-    subst (λ (z : ℕ). Finds c.store.new.seat.me.0 c.args.actor (2 * z + 2)) e t.after
+returns-clause-left c k has = let next : 2 * (k + 1) ≡ 2 * k + 2 = omega arith in
+    subst (Finds c.done_many.new.place.view c.args.actor) next (c.done_many.ensures.left k has)
