@@ -451,10 +451,10 @@ impl Book {
     }
 
     /// The actor's kernel.
-    pub(crate) fn kernel(&self, actor: u32) -> Kernel
+    pub(crate) fn kernel(&self, actor: u32) -> &Kernel
         requires { actor < length self.now.shown.core.plan.sources }
-        ensures value { result ≡ slice_index_or (program self.now.shown.work).kernels actor Sink }
-        ensures in_range { HasFilterInRange result }
+        ensures value { result.now ≡ slice_index_or (program self.now.shown.work).kernels actor Sink }
+        ensures in_range { HasFilterInRange result.now }
     {
         self.work.kernel(actor)
     }
@@ -542,7 +542,7 @@ impl Book {
         actor < self.core.actors()
             && self.has_read(actor)
             && job.firing == self.core.fired(actor)
-            && is_same_kernel(&job.kernel, &self.work.kernel(actor))
+            && is_same_kernel(&job.kernel, self.work.kernel(actor))
             && self
                 .work
                 .are_counts(actor, job.firing, job.counts.as_slice())

@@ -210,7 +210,7 @@ impl Floor {
         self.book.make_room(actor)?;
         self.book.take(actor);
         self.book.fill(actor, &mut job.inputs);
-        job.kernel = self.book.kernel(actor);
+        job.kernel = *self.book.kernel(actor);
         job.actor = actor;
         job.firing = firing;
         Ok(())

@@ -131,16 +131,16 @@ fn consumed_of(graph: &Graph, channel: u32, firings: u32) -> u32
 }
 
 /// The actor's kernel.
-fn kernel_of(graph: &Graph, actor: u32) -> Kernel
+fn kernel_of(graph: &Graph, actor: u32) -> &Kernel
     requires { actor < length graph.now.actors }
-    ensures value { result ≡ slice_index_or (map (λ (row : ActorModel). row.kernel) graph.now.actors) actor Sink }
-    ensures in_range { HasFilterInRange result }
+    ensures value { result.now ≡ slice_index_or (map (λ (row : ActorModel). row.kernel) graph.now.actors) actor Sink }
+    ensures in_range { HasFilterInRange result.now }
 {
-    graph.actors()[actor as usize].kernel
+    &graph.actors()[actor as usize].kernel
 }
 
-fn is_source(kernel: Kernel) -> bool
-    ensures { result ≡ is_source_kernel kernel }
+fn is_source(kernel: &Kernel) -> bool
+    ensures { result ≡ is_source_kernel kernel.now }
 {
     matches!(kernel, Kernel::Source)
 }
@@ -152,8 +152,8 @@ fn is_source_of(graph: &Graph, actor: u32) -> bool
     is_source(kernel_of(graph, actor))
 }
 
-fn is_sink(kernel: Kernel) -> bool
-    ensures { result ≡ is_sink_kernel kernel }
+fn is_sink(kernel: &Kernel) -> bool
+    ensures { result ≡ is_sink_kernel kernel.now }
 {
     matches!(kernel, Kernel::Sink)
 }
@@ -272,10 +272,10 @@ impl Work {
     }
 
     /// The actor's kernel.
-    pub(crate) fn kernel(&self, actor: u32) -> Kernel
+    pub(crate) fn kernel(&self, actor: u32) -> &Kernel
         requires { actor < length self.now.accepted.graph.actors }
-        ensures value { result ≡ slice_index_or (program self.now).kernels actor Sink }
-        ensures in_range { HasFilterInRange result }
+        ensures value { result.now ≡ slice_index_or (program self.now).kernels actor Sink }
+        ensures in_range { HasFilterInRange result.now }
     {
         kernel_of(self.accepted.graph(), actor)
     }

@@ -5,8 +5,6 @@ mod journal;
 mod keeping;
 mod note;
 mod past;
-#[cfg(test)]
-mod tests;
 
 pub use journal::Journal;
 pub use keeping::Keeping;

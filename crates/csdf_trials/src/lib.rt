@@ -1,5 +1,5 @@
-//! The graph, the analysis, the pool, the core and the answers tried out: worked examples, on their
-//! public calls alone. They are a crate of their own, since a crate with tests is proved twice.
+//! The graph, the analysis, the pool, the core, the journal and the answers tried out: worked examples,
+//! on their public calls alone. They are a crate of their own, since a crate with tests is proved twice.
 #![tactic(auto)]
 
 #[cfg(test)]
@@ -14,6 +14,8 @@ mod core_tests;
 mod explained_tests;
 #[cfg(test)]
 mod graph_tests;
+#[cfg(test)]
+mod journal_tests;
 #[cfg(test)]
 mod memory_tests;
 #[cfg(test)]

@@ -25,7 +25,7 @@ returns-clause-ready c = record {
   few_counts = c.in_ok-counts_into.ensures.few;
   small_counts = c.in_ok-counts_into.ensures.small;
   few_inputs = omega (arith, c.in_ok-blank_into.ensures.few, c.fill.ensures.count);
-  filter_in_range = c.kernel-job.ensures.in_range;
+  filter_in_range = c.kernel.ensures.in_range;
 }
 
 pub returns-clause-firing : goal.returns-clause-firing

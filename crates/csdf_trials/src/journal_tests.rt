@@ -1,6 +1,6 @@
 //! A journal that keeps its moves beside one that does not.
 
-use crate::{Journal, Keeping};
+use csdf_journal::{Journal, Keeping};
 use std::alloc::{AllocError, Global};
 use std::test::Fail;
 
