@@ -9,11 +9,28 @@ cp "$top/csdf" "$launched/csdf"
 echo "csdf:" > "$launched/crates.txt"
 echo "fn main() {}" > "$launched/crates/csdf/src/main.rt"
 : > "$launched/crates/csdf/stdin"
-for tool in bash cat chmod dirname env find mkdir mktemp readlink rm sed sha256sum sleep sort tail xargs; do
+for tool in bash cat chmod dirname env find install mkdir mktemp readlink rm sed sha256sum sleep sort tail xargs; do
   ln -s "$(command -v "$tool")" "$launched/without_rt/$tool"
 done
+# stand_in TOOLS SYSTEM MEMORY DISK: for what tells the system, and the kilobytes that are free.
+stand_in() {
+  printf '#!/bin/sh\necho "%s"\n' "$2" > "$launched/$1/uname"
+  printf '#!/bin/sh\necho "MemAvailable:    %s kB"\n' "$3" > "$launched/$1/grep"
+  printf '#!/bin/sh\necho Filesystem\necho "disk 9 9 %s 9%% /"\n' "$4" > "$launched/$1/df"
+  chmod +x "$launched/$1/uname" "$launched/$1/grep" "$launched/$1/df"
+}
+stand_in without_rt "Linux x86_64" 9000000 9000000
 cat > "$launched/with_rt/rt" << 'EOF'
 #!/usr/bin/env bash
+if [[ "$1" == version ]]; then
+  echo "rattle-kit-13f logic 0"
+  exit
+fi
+if [[ "$1" == try ]]; then
+  printf '%s\n' "${@:3}"
+  printf '%s\n' "csdf: device: $PWD/../../of_here" "checked: ended status=5" "races: none" "run=ended status=5" >&2
+  exit 5
+fi
 if [[ -e src/bad.rt ]]; then exit 1; fi
 mkdir -p out
 printf '#!/bin/sh\necho "$@"\nexit 7\n' > out/csdf
@@ -22,11 +39,16 @@ echo built >> builds
 EOF
 chmod +x "$launched/with_rt/rt"
 
-# launch NAME WANTED_STATUS WANTED_BUILDS OUT ERR FOLDER: the launcher in place of the program, with
-# the folder of tools FOLDER. Of standard error the lines with a log's name are left out.
+# launch NAME WANTED_STATUS WANTED_BUILDS OUT ERR FOLDER [WORD..]: the launcher in place of the program,
+# with the folder of tools FOLDER and these words, or `one two`. Of standard error the lines with a log's
+# name are left out.
 launch() {
   local name="$1" wanted_status="$2" wanted_builds="$3" out="$4" err="$5" tools="$6" status builds=0
-  TMPDIR="$room" PATH="$launched/$tools:$launched/without_rt" "$launched/csdf" one two \
+  shift 6
+  if [[ "$#" == 0 ]]; then
+    set -- one two
+  fi
+  (cd "$launched" && TMPDIR="$room" PATH="$launched/$tools:$launched/without_rt" ./csdf "$@") \
     > "$room/out" 2> "$room/told"
   status="$?"
   grep -v "csdf-build" "$room/told" > "$room/err"
@@ -39,10 +61,35 @@ launch() {
 }
 
 echo "one two" > "$room/words_told"
-echo "csdf: built" > "$room/built"
-sed -n '/^csdf: not built/,/^EOF/p' "$top/csdf" | sed '$d' > "$room/no_rt"
+echo "csdf: meanwhile './csdf --unproved WORDS' in place of './csdf WORDS' answers in some minutes" \
+  > "$room/begun"
+{ cat "$room/begun"; echo "csdf: built"; } > "$room/built"
+cat > "$room/no_rt" << 'EOF'
+csdf: it has to be built, and this is missing:
+- the command rt of the Rattle kit rattle-kit-13f, whose folder bin has to be on PATH: export PATH="KIT/bin:$PATH"
+Then call this again. A first build takes about 40 minutes on four cores.
+EOF
+mkdir "$launched/lacking"
+stand_in lacking "Linux aarch64" 2900000 1500000
+printf '#!/bin/sh\necho "rattle-kit-7 logic 0"\n' > "$launched/lacking/rt"
+chmod +x "$launched/lacking/rt"
+cat > "$room/lacking" << EOF
+csdf: it has to be built, and this is missing:
+- x86-64 Linux: this is Linux aarch64
+- the Rattle kit rattle-kit-13f: the command rt on PATH says that it is 'rattle-kit-7 logic 0'
+- memory: 2900 MB are free, and the build takes about 4000
+- disk: 1500 MB are free where $launched is, and the build takes about 5000
+Then call this again. A first build takes about 40 minutes on four cores.
+EOF
 main="$launched/crates/csdf/src/main.rt"
 launch "no rt" 3 0 /dev/null "$room/no_rt" without_rt
+launch "all that is missing" 3 0 /dev/null "$room/lacking" lacking
+printf '%s\n' run "$launched/of_here" --workers 2 /of/anywhere > "$room/unproved_words"
+cat > "$room/unproved" << 'EOF'
+csdf: nothing is proved yet: this answer is the program's as it is read, without a build, in some minutes
+csdf: device: crates/csdf/../../of_here
+EOF
+launch "unproved" 5 0 "$room/unproved_words" "$room/unproved" with_rt --unproved run of_here --workers 2 /of/anywhere
 launch "first build" 7 1 "$room/words_told" "$room/built" with_rt
 launch "nothing changed" 7 1 "$room/words_told" /dev/null with_rt
 rm "$launched/crates/csdf/out/csdf.sum"
@@ -68,4 +115,25 @@ launch "a newer source, with no record" 7 3 "$room/words_told" "$room/built" wit
 echo "#" >> "$launched/crates/csdf/out/csdf"
 launch "another program" 7 4 "$room/words_told" "$room/built" with_rt
 echo > "$launched/crates/csdf/src/bad.rt"
-launch "a build that fails" 3 4 /dev/null /dev/null with_rt
+launch "a build that fails" 3 4 /dev/null "$room/begun" with_rt
+rm "$launched/crates/csdf/src/bad.rt"
+mkdir -p "$launched/completions" "$launched/docs"
+cp "$top"/completions/* "$launched/completions/"
+cp "$top/docs/csdf.1" "$launched/docs/"
+echo "csdf: installed under $room/prefix" > "$room/installed"
+launch "install" 0 4 /dev/null "$room/installed" with_rt --install "$room/prefix"
+echo "csdf: usage: ./csdf --install PREFIX" > "$room/usage"
+launch "install, and not where" 2 4 /dev/null "$room/usage" with_rt --install
+(cd "$room/prefix" && find . -type f | LC_ALL=C sort) > "$room/out"
+"$room/prefix/bin/csdf" three >> "$room/out"
+status="$?"
+: > "$room/err"
+cat > "$room/wanted_launch" << 'EOF'
+./bin/csdf
+./share/bash-completion/completions/csdf
+./share/fish/vendor_completions.d/csdf.fish
+./share/man/man1/csdf.1
+./share/zsh/site-functions/_csdf
+three
+EOF
+compare "the launcher: what is installed" "$status" "$room/wanted_launch" /dev/null 7
