@@ -38,3 +38,10 @@ pub mod Periodic
 pub mod Ever
 pub mod EverCores
 pub mod EverExamples
+pub mod BlockPools
+pub mod BlockPorts
+pub mod BlockBegins
+pub mod BlockMachines
+pub mod BlockMoves
+pub mod FewGifts
+pub mod OnePhase

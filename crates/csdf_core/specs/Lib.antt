@@ -18,3 +18,4 @@ pub mod Amounts
 pub mod Phases
 pub mod Sound
 pub mod Inside
+pub mod Blocks

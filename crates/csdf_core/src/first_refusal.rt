@@ -14,7 +14,7 @@ use crate::turn::Turn;
 
 /// Whether the stage is the wanted one.
 #[inline(always)]
-fn is_at(stage: Stage, wanted: Stage) -> bool
+pub(crate) fn is_at(stage: Stage, wanted: Stage) -> bool
     ensures { result ≡ is_stage stage wanted }
 {
     stage == wanted
@@ -112,7 +112,7 @@ impl Core {
 
     /// How many cells are held or reserved.
     #[inline(always)]
-    fn used(&self) -> u64
+    pub(crate) fn used(&self) -> u64
         ensures value { result ≡ held self.now.now + reserved self.now.plan self.now.now }
         ensures small { result ≤ 8_388_480 }
     {

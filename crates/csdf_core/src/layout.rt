@@ -8,6 +8,7 @@ ghost use Rattle.csdf_core.specs.Plan.{Channel as ChannelModel, consume_at, from
 ghost use Rattle.csdf_core.specs.Layout.{is_source_kernel, plan_for, with_capacity};
 ghost use Rattle.csdf_model.specs.Graph.{channel_view};
 ghost use Rattle.csdf_core.specs.Playable.{IsPlayable};
+ghost use Rattle.csdf_core.specs.Rows.{gift};
 ghost use Rattle.csdf_core.specs.Streams.{part};
 ghost use Rattle.csdf_core.specs.Ports.{inputs_at, outputs_at, take_at, give_at};
 ghost use Rattle.csdf_core.specs.Phases.{HasPhases, IsInPhase, IsPhase};
@@ -132,6 +133,14 @@ impl Layout {
         ensures consume { All (λ n. n ≤ 64) result.now.consume.items }
     {
         &self.graph.channels()[channel as usize]
+    }
+
+    /// No firing gives many tokens. The call does nothing.
+    #[inline(always)]
+    pub(crate) fn gives_few(&self)
+        ensures { (a k : ℕ) → gift a k self.now.channels ≤ 8192 }
+    {
+        let _channels = self.graph.channels();
     }
 
     /// How many phases the actor has.

@@ -1,6 +1,7 @@
 //! The moves of firings over one shared pool of cells.
 #![tactic(auto)]
 
+mod blocks;
 mod filling;
 mod firing_core;
 mod first_refusal;
@@ -15,6 +16,7 @@ mod stage;
 mod transfer;
 mod turn;
 
+pub use blocks::Block;
 pub use firing_core::Core;
 pub use laws::{
     ample_by_default, has_firings, has_period, phases_return, printed_is_period, runs_for_ever,

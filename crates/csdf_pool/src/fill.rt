@@ -1,9 +1,11 @@
 //! Writing and reading the tokens of linked cells.
 
-ghost use Rattle.std.specs.Prelude.{◌≡◌, ℕ, ◌-◌, ◌<◌, length, map, slice_index, All};
+ghost use Rattle.std.specs.Prelude.{◌≡◌, ℕ, ◌-◌, ◌<◌, ◌≤◌, length, map, slice_index, All};
 ghost use Rattle.csdf_pool.specs.Cells.{times, EachOnce};
-ghost use Rattle.csdf_pool.specs.Chains.{linked_from};
+ghost use Rattle.csdf_pool.specs.Chains.{linked_from, cells_of, IsChain};
 ghost use Rattle.csdf_pool.specs.Inside.{token_at};
+
+use crate::ends::Ends;
 
 // Writes the tokens into as many cells, from `first` on, and answers the last of these.
 pub(crate) fn fill(links: &[u32], table: &mut [i32], first: u32, tokens: &[i32]) -> u32
@@ -43,4 +45,32 @@ pub(crate) fn copy_out(links: &[u32], table: &[i32], first: u32, tokens: &mut [i
         next = links[last as usize];
     }
     last
+}
+
+// The last of so many linked cells, from `first` on.
+pub(crate) fn last_of(links: &[u32], first: u32, n: u32) -> u32
+    requires in_links { All (λ cell. cell < length links.now) (linked_from links.now first n) }
+    requires some { 0 < n }
+    ensures { result ≡ slice_index (linked_from links.now first n) (n - 1) }
+{
+    let mut last = first;
+    let mut next = first;
+    for _cell in 0..n {
+        last = next;
+        next = links[last as usize];
+    }
+    last
+}
+
+// The cell at which the first `n` cells of a chain end: no walk where they are all.
+pub(crate) fn end_after(links: &[u32], chain: Ends, n: u32) -> u32
+    requires chain { IsChain links.now chain }
+    requires some { 0 < n }
+    requires enough { n ≤ chain.length }
+    ensures { result ≡ slice_index (cells_of links.now chain) (n - 1) }
+{
+    if n as usize == chain.length {
+        return chain.end;
+    }
+    last_of(links, chain.front, n)
 }

@@ -6,7 +6,7 @@ ghost use Rattle.std.specs.List.{range_with_len};
 ghost use Rattle.csdf_pool.specs.Pool.{chain_of, held_cells, held_tokens, IsPartition, after_put, after_puts, after_take, after_takes};
 
 use crate::ends::{Ends, move_cells};
-use crate::fill::{copy_out, fill};
+use crate::fill::{copy_out, end_after, fill};
 use crate::iters::{Cells, Tokens};
 use std::alloc::{AllocError, Global};
 use std::marker::Model;
@@ -155,6 +155,39 @@ impl Pool {
         let last = copy_out(&self.links, &self.tokens, ends.front, tokens);
         move_cells(&mut self.links, &mut ends, &mut self.free, last, n);
         self.chains[chain as usize] = ends;
+    }
+
+    /// Moves the first `n` cells of the chain to the end of the free list, as
+    /// [`take_into`](Pool::take_into) does, and copies no token.
+    pub fn drop_front(&mut self, chain: u32, n: u32)
+        requires chain { chain < length self.old.chains }
+        requires enough { n ≤ length (chain_of self.old chain) }
+        ensures chains { self.new.chains ≡ slice_set self.old.chains chain (drop n (chain_of self.old chain)) }
+        ensures free { self.new.free ≡ self.old.free ++ held_cells (take n (chain_of self.old chain)) }
+        ensures one_by_one { self.new ≡ after_takes self.old chain n }
+        ensures size { self.new.size ≡ self.old.size }
+        ensures shared_out { IsPartition self.new }
+    {
+        let mut rest = self.chains[chain as usize];
+        if n == 0 {
+            return;
+        }
+        let end = end_after(&self.links, rest, n);
+        move_cells(&mut self.links, &mut rest, &mut self.free, end, n);
+        self.chains[chain as usize] = rest;
+    }
+
+    /// Copies the oldest tokens of the chain, as many as the slice is long, in order.
+    pub fn copy_front(&self, chain: u32, tokens: &mut [i32])
+        requires chain { chain < length self.now.chains }
+        requires enough { length tokens.old ≤ length (chain_of self.now chain) }
+        ensures { tokens.new ≡ held_tokens (take (length tokens.old) (chain_of self.now chain)) }
+    {
+        let from = self.chains[chain as usize];
+        if tokens.is_empty() {
+            return;
+        }
+        copy_out(&self.links, &self.tokens, from.front, tokens);
     }
 
     /// How many tokens the chain holds.

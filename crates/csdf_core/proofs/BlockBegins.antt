@@ -1,0 +1,120 @@
+-- An actor that finds what its next firings need begins the first of them.
+use Rattle.std.proofs.Common.{◌≡◌, ℕ, zero, suc, ◌+◌, ◌-◌, ◌<◌, ◌≤◌, ◌&&◌, nat_lt, nat_le, cond, List, [], ◌∷◌, length, refl, ap, ◌∙◌, sym, arith}
+use Rattle.std.proofs.Common.{Bool, true, false, Option, Some, None, le-ltb}
+use Rattle.std.specs.Prelude.{find, IfSome}
+use Rattle.std.specs.List.{AllByRecursion}
+use Rattle.std.proofs.lemmas.Bool.Decides.{nat_tests}
+use Rattle.csdf_core.specs.declared.refusal.Refusal.TheVariants.{Stopped, NoCells}
+use Rattle.csdf_core.specs.Blocks.{gifts_of, needs_of, FindsAll, capacity_at}
+use Rattle.csdf_core.specs.Going.{CanGo}
+use Rattle.csdf_core.specs.Moves.{Begin}
+use Rattle.csdf_core.specs.Plan.{Channel, Plan}
+use Rattle.csdf_core.specs.Ports.{inputs_at, outputs_at, take_at, give_at, tokens_at, short_at, full_at, own_take_at}
+use Rattle.csdf_core.specs.Ready.{IsFit}
+use Rattle.csdf_core.specs.Rows.{need, gift, is_short, is_full, first}
+use Rattle.csdf_core.specs.State.{Present}
+use Rattle.csdf_core.specs.Step.{count, given, is_dry, is_stopped, is_reached, lacks_cells, refusal, first_of, when, begun_count, held, reserved}
+use Rattle.csdf_core.proofs.Accepting.{begin_is}
+use Rattle.csdf_core.proofs.BlockPorts.{both, each_within, sum_none}
+use Rattle.csdf_core.proofs.PortLemmas.{first_short, first_full, need_is, gift_is}
+use Rattle.csdf_core.proofs.Totals.{given-suc}
+
+-- what the firings give is told by the sums
+pub given_more : (plan : Plan) (a k n : ℕ) → given plan a (k + n) ≡ given plan a k + gifts_of plan.channels a k n
+given_more plan a k zero = let e : k + zero ≡ k = omega arith in let t = ap (given plan a) e in omega (arith, t)
+given_more plan a k (suc n) =
+    let e : k + suc n ≡ suc k + n = omega arith in
+    let t = ap (given plan a) e in
+    omega (arith, t, given_more plan a (suc k) n, given-suc plan a k)
+
+-- an actor with no input needs no tokens
+pub needs_one : (channels : List Channel) (a k : ℕ) → length (inputs_at channels a) ≡ 0 → need a k channels ≡ 0
+needs_one channels a k e = sym (need_is a k channels) ∙ sum_none (take_at channels k) (inputs_at channels a) e
+
+pub needs_none : (channels : List Channel) (a k n : ℕ) → length (inputs_at channels a) ≡ 0 → needs_of channels a k n ≡ 0
+needs_none channels a k zero e = refl
+needs_none channels a k (suc n) e =
+    omega (
+      arith,
+      need_is a k channels,
+      sum_none (take_at channels k) (inputs_at channels a) e,
+      needs_none channels a (suc k) n e,
+    )
+
+none_found : (test : ℕ → Bool) (ns : List ℕ) → AllByRecursion (λ c. test c ≡ false) ns → find test ns ≡ None
+none_found test [] all = refl
+none_found test (c ∷ ns) all = ap (λ (b : Bool). cond b (Some c) (find test ns)) all.0 ∙ none_found test ns all.1
+
+above : (a b : ℕ) → b < a → nat_le a b ≡ false
+above a b lt = grind (arith, nat_tests)
+
+not_reached : (o : Option ℕ) (b n : ℕ) → IfSome o (λ most. b + suc n ≤ most) → is_reached o b ≡ false
+not_reached None b n h = refl
+not_reached (Some most) b n h = above most b (omega arith)
+
+dry_free : (b : Bool) (x y : ℕ) → (b ≡ true → y ≤ x) → (b && nat_lt x y) ≡ false
+dry_free true x y h = le-ltb x y (h refl)
+dry_free false x y h = refl
+
+and_none : (b c : Bool) → c ≡ false → (b && c) ≡ false
+and_none true c e = e
+and_none false c e = refl
+
+module _ (plan : Plan) (p : Present) (a n : ℕ) (fit : IsFit plan p) (h : FindsAll plan p a (count p a) (suc n)) where
+  abbrev k : ℕ
+  k = count p a
+
+  not_short : first (is_short a k) plan.channels p.tokens ≡ None
+  not_short =
+      let each : AllByRecursion (λ c. take_at plan.channels k c ≤ need a k plan.channels) (inputs_at plan.channels a) =
+      each_within (take_at plan.channels k) (inputs_at plan.channels a) (need a k plan.channels) (omega (arith, need_is a k plan.channels)) in
+      let none : AllByRecursion (λ c. short_at plan.channels k p.tokens c ≡ false) (inputs_at plan.channels a) =
+      both (inputs_at plan.channels a)
+      (λ c (x : take_at plan.channels k c ≤ need a k plan.channels) (y : needs_of plan.channels a k (suc n) ≤ length (tokens_at p.tokens c)).
+      le-ltb (length (tokens_at p.tokens c)) (take_at plan.channels k c) (omega (arith, x, y))) each h.tokens in
+      sym (first_short a k plan.channels p.tokens fit.queued) ∙ none_found (short_at plan.channels k p.tokens) (inputs_at plan.channels a) none
+
+  not_full : first (is_full a k) plan.channels p.tokens ≡ None
+  not_full =
+      let each : AllByRecursion (λ c. give_at plan.channels k c ≤ gift a k plan.channels) (outputs_at plan.channels a) =
+      each_within (give_at plan.channels k) (outputs_at plan.channels a) (gift a k plan.channels) (omega (arith, gift_is a k plan.channels)) in
+      let none : AllByRecursion (λ c. full_at plan.channels a k p.tokens c ≡ false) (outputs_at plan.channels a) =
+      both (outputs_at plan.channels a)
+      (λ c (x : give_at plan.channels k c ≤ gift a k plan.channels)
+      (y : length (tokens_at p.tokens c) + gifts_of plan.channels a k (suc n) ≤ capacity_at plan.channels c).
+      le-ltb (capacity_at plan.channels c) (length (tokens_at p.tokens c) - own_take_at plan.channels a k c + give_at plan.channels k c) (omega (arith, x, y)))
+      each h.room in
+      sym (first_full a k plan.channels p.tokens fit.queued) ∙ none_found (full_at plan.channels a k p.tokens) (outputs_at plan.channels a) none
+
+  not_dry : is_dry plan p a ≡ false
+  not_dry =
+      dry_free _ _ _ (λ source.
+      let supply = h.supply source in
+      let e : k + suc n ≡ suc k + n = omega arith in
+      let t = ap (given plan a) e in
+      let more = given_more plan a (suc k) n in
+      omega (arith, supply, t, more))
+
+  can_go : CanGo plan p a
+  can_go = record {
+    exists = h.there;
+    idle = h.idle;
+    not_spent = above _ _ (let l = h.limit in omega (arith, l));
+    not_dry = not_dry;
+    not_short = not_short;
+    not_full = not_full;
+  }
+
+  not_stopped : is_stopped plan p ≡ false
+  not_stopped = not_reached plan.firings (begun_count p) n h.firings
+
+  enough_cells : lacks_cells plan p a ≡ false
+  enough_cells =
+      and_none _ _
+      (le-ltb plan.cells (held p + reserved plan p + (gift a k plan.channels - need a k plan.channels)) (let c = h.cells in omega (arith, c)))
+
+  pub begins_next : refusal plan p (Begin a) ≡ None
+  begins_next =
+      begin_is plan p a h.opens can_go
+      ∙ ap (λ (b : Bool). first_of (when b Stopped ∷ when (lacks_cells plan p a) NoCells ∷ [])) not_stopped
+      ∙ ap (λ (b : Bool). first_of (when false Stopped ∷ when b NoCells ∷ [])) enough_cells

@@ -1,0 +1,170 @@
+use Rattle.std.proofs.Common.{◌≡◌, ◌<◌, ◌+◌, ℕ, length, get_or, set, ap, subst, sym, ◌∙◌, refl, arith}
+use Rattle.std.specs.Vec.{with_items}
+use Rattle.std.proofs.lemmas.List.{with_items_is, get_or_default}
+use Rattle.csdf_core.specs.Plan.{Plan}
+use Rattle.csdf_core.specs.State.{Present}
+use Rattle.csdf_core.specs.Inside.{now_in}
+use Rattle.csdf_core.specs.Ports.{tokens_in, raise_over}
+use Rattle.csdf_core.specs.Blocks.{needs_of, gifts_of, takes_in, puts_in, firings_of, answers_to, FindsAll}
+use Rattle.csdf_core.specs.Shows.{Plays}
+use Rattle.csdf_core.specs.Step.{count}
+use Rattle.csdf_core.proofs.AmountLemmas.{amounts_finished}
+use Rattle.csdf_core.proofs.BlockMachines.{Machine, IsGood, view, ins, outs}
+use Rattle.csdf_core.proofs.BlockMoves.{IsBlock, AreFew, room_for, block_of, landed}
+use Rattle.csdf_core.proofs.PhaseLemmas.{phases_finished}
+use Rattle.csdf_core.proofs.SoundLemmas.{few_started}
+use Rattle.csdf_core.proofs.firing_core.Core.fire.Goals as goal
+use Rattle.csdf_core.proofs.firing_core.Core.fire.Goals.{After-index_mut}
+
+pub put_block-requires-clause-room : goal.put_block-requires-clause-room
+put_block-requires-clause-room c =
+    let finds : FindsAll c.self.inside.layout (now_in c.self.inside) c.args.actor (count (now_in c.self.inside) c.args.actor) c.args.n =
+    rw (← c.self.view_is) at c.requires.can in
+    let all : length c.args.tokens.now ≡
+    gifts_of c.self.inside.layout.channels c.args.actor (count (now_in c.self.inside) c.args.actor) c.args.n = rw (← c.self.view_is) at c.requires.all in
+    let r = room_for c.self.inside.layout c.args.actor (record {
+      now = now_in c.self.inside;
+      peaks = c.self.inside.peaks.items;
+      sums = c.self.inside.sums.items;
+      started = c.self.inside.started;
+      kept = c.self.inside.reserved;
+      pool = c.self.inside.pool;
+    }) c.args.n (record { sound = c.self.invariant.sound; chains = refl }) finds in
+    omega (arith, r, all, c.take_block.ensures.free)
+
+pub overflow_add-self : goal.overflow_add-self
+overflow_add-self c = omega (arith, few_started _ _ _ _ _ _ _ c.self.invariant.sound, c.from.ensures, c.ranges.n.fits)
+
+pub overflow_add-index_mut : goal.overflow_add-index_mut
+overflow_add-index_mut c =
+    let there : c.args.actor < length c.self.inside.layout.sources = rw (← c.self.view_is) at c.requires.can.there in
+    let tallied = c.self.invariant.sound.tallied in
+    let old : c.index_mut.result.now ≡ get_or c.self.inside.sums.items c.args.actor 0 = c.index_mut.ensures.value
+    ∙ get_or_default c.self.inside.sums.items c.args.actor c.index_mut.result.now 0 (omega (arith, there, tallied)) in
+    let low = c.self.invariant.sound.small c.args.actor there in
+    let first : c.turn-turn.result.firing ≡ count (now_in c.self.inside) c.args.actor = rw (← c.self.view_is) at c.turn-turn.ensures.firing in
+    let few_before = c.turn-turn.ensures.few in
+    omega (arith, old, low, first, few_before, c.look_ahead-ahead.ensures.small, c.ranges.n.fits)
+
+-- where all has come to
+module _ (c : After-index_mut) where
+  abbrev plan : Plan
+  plan = c.self.inside.layout
+
+  abbrev p : Present
+  p = now_in c.self.inside
+
+  abbrev a : ℕ
+  a = c.args.actor
+
+  abbrev n : ℕ
+  n = c.args.n
+
+  abbrev k : ℕ
+  k = count p a
+
+  abbrev m : Machine
+  m = record {
+    now = now_in c.self.inside;
+    peaks = c.self.inside.peaks.items;
+    sums = c.self.inside.sums.items;
+    started = c.self.inside.started;
+    kept = c.self.inside.reserved;
+    pool = c.self.inside.pool;
+  }
+
+  good : IsGood plan m
+  good = record { sound = c.self.invariant.sound; chains = refl }
+
+  finds : FindsAll plan p a k n
+  finds = rw (← c.self.view_is) at c.requires.can
+
+  all : length c.args.tokens.now ≡ gifts_of plan.channels a k n
+  all = rw (← c.self.view_is) at c.requires.all
+
+  few : AreFew plan a k n
+  few = λ i lt. c.gives_few.ensures a (k + i)
+
+  made : (new : Machine) × IsBlock plan a k n c.args.tokens.now m new
+  made = block_of plan a n c.args.tokens.now m good finds all few
+
+  firing : c.turn-turn.result.firing ≡ k
+  firing = rw (← c.self.view_is) at c.turn-turn.ensures.firing
+
+  needed : c.look_ahead-ahead.result.needed ≡ needs_of plan.channels a k n
+  needed = c.look_ahead-ahead.ensures.needed ∙ ap (λ (x : ℕ). needs_of plan.channels a x n) firing
+
+  given : c.look_ahead-ahead.result.given ≡ gifts_of plan.channels a k n
+  given = c.look_ahead-ahead.ensures.given ∙ ap (λ (x : ℕ). gifts_of plan.channels a x n) firing
+
+  next : c.look_ahead-ahead.result.next.firing ≡ k + n
+  next = c.look_ahead-ahead.ensures.firing ∙ ap (λ (x : ℕ). x + n) firing
+
+  summed : a < length c.self.inside.sums.items
+  summed = let t = c.self.invariant.sound.tallied in let there = finds.there in omega (arith, t, there)
+
+  items : (with_items c.self.inside.peaks c.raise_peaks.new.peaks).items ≡ c.raise_peaks.new.peaks
+  items = with_items_is c.self.inside.peaks c.raise_peaks.new.peaks (c.raise_peaks.auto.peaks ∙ c.deref_mut.ensures.len)
+
+  abbrev there : Machine
+  there = record {
+    now = record {
+      counts = set c.self.inside.counts.items c.args.actor c.look_ahead-ahead.result.next.firing;
+      stages = c.self.inside.stages.items;
+      opens = c.self.inside.opens.items;
+      tokens = tokens_in c.put_block.new.pool;
+    };
+    peaks = (with_items c.self.inside.peaks c.raise_peaks.new.peaks).items;
+    sums = set c.self.inside.sums.items c.args.actor (c.index_mut.result.now + c.look_ahead-ahead.result.given);
+    started = c.self.inside.started + c.from.result;
+    kept = c.self.inside.reserved;
+    pool = c.put_block.new.pool;
+  }
+
+  lands : made.0 ≡ there
+  lands =
+      let old : c.index_mut.result.now ≡ get_or c.self.inside.sums.items c.args.actor 0 = c.index_mut.ensures.value
+      ∙ get_or_default c.self.inside.sums.items c.args.actor c.index_mut.result.now 0 summed in
+      let sum : c.index_mut.result.now + c.look_ahead-ahead.result.given ≡
+      get_or c.self.inside.sums.items c.args.actor 0 + gifts_of c.self.inside.layout.channels c.args.actor k c.args.n =
+      (let g = given in omega (arith, old, g)) in
+      landed plan a k n c.args.tokens.now m made.0 made.1 there.now.counts there.sums there.peaks there.started there.pool
+      (ap (set c.self.inside.counts.items c.args.actor) next)
+      (ap (set c.self.inside.sums.items c.args.actor) sum)
+      (items ∙ c.raise_peaks.ensures ∙ ap (raise_over (outs plan a) (tokens_in c.put_block.new.pool)) c.deref_mut.ensures.value)
+      (ap (λ (x : ℕ). c.self.inside.started + x) c.from.ensures)
+      (c.put_block.ensures.cells
+      ∙ ap (λ q. puts_in (outs plan a) q c.args.tokens.now)
+      (c.take_block.ensures.cells ∙ ap (λ (x : ℕ). takes_in (ins plan a) x c.self.inside.pool) needed))
+
+pub invariant_of-self : goal.invariant_of-self
+invariant_of-self c =
+    let at : After-index_mut = (goal.at.invariant_of-self c).After-index_mut in
+    let plan : Plan = c.self.inside.layout in
+    let within : c.args.actor < length plan.sources = (finds at).there in
+    let counted : c.args.actor < length c.self.inside.counts.items = (let e = c.self.invariant.sound.fit.counted in omega (arith, e, within)) in
+    record {
+      phases = phases_finished plan c.self.inside.counts.items c.self.inside.phases.items c.args.actor c.look_ahead-ahead.result.next.firing
+          c.look_ahead-ahead.result.next.phase c.self.invariant.phases within counted c.look_ahead-ahead.ensures.in_phase c.look_ahead-ahead.ensures.low;
+      amounts = amounts_finished plan c.self.inside.counts.items c.self.inside.needs.items c.self.inside.gifts.items c.args.actor
+          c.look_ahead-ahead.result.next.firing c.need_of-needed.result c.gift_of-given.result c.self.invariant.amounts within counted
+          c.need_of-needed.ensures.value c.gift_of-given.ensures.value c.need_of-needed.ensures.small c.gift_of-given.ensures.small;
+      sound = (subst (IsGood plan) (lands at) (made at).1.good).sound;
+    }
+
+pub returns-clause-accepted : goal.returns-clause-accepted
+returns-clause-accepted c =
+    let at : After-index_mut = (goal.at.returns-clause-accepted c).After-index_mut in
+    rw (← c.self.view_is) (made at).1.accepted
+
+pub returns-clause-plays : goal.returns-clause-plays
+returns-clause-plays c =
+    let at : After-index_mut = (goal.at.returns-clause-plays c).After-index_mut in
+    rw (← c.self.view_is) (subst (λ (x : Machine). Plays (view (plan at) (m at)) (view (plan at) x)
+    (firings_of (plan at).channels (a at) (k at) (n at) c.args.tokens.now)
+    (answers_to (plan at) (p at) (firings_of (plan at).channels (a at) (k at) (n at) c.args.tokens.now))) (lands at) (made at).1.plays)
+
+pub returns-clause-cells : goal.returns-clause-cells
+returns-clause-cells c =
+    let at : After-index_mut = (goal.at.returns-clause-cells c).After-index_mut in
+    rw (← c.self.view_is) (sym (ap (λ (x : Machine). x.pool) (lands at)) ∙ (made at).1.cells)

@@ -1,0 +1,69 @@
+use Rattle.std.proofs.Common.{◌≡◌, ◌+◌, ℕ, List, length, ap, subst, sym, ◌∙◌, refl}
+use Rattle.std.specs.Prelude.{ℤ}
+use Rattle.csdf_core.specs.Plan.{Plan}
+use Rattle.csdf_core.specs.State.{Present}
+use Rattle.csdf_core.specs.Inside.{now_in}
+use Rattle.csdf_core.specs.Ports.{inputs_at, tokens_in}
+use Rattle.csdf_core.specs.Blocks.{needs_of, gifts_of, from_front, parts_of, HoldAll, FindsAll}
+use Rattle.csdf_core.specs.Step.{count}
+use Rattle.csdf_core.proofs.BlockBegins.{needs_none}
+use Rattle.csdf_core.proofs.BlockMachines.{Machine}
+use Rattle.csdf_core.proofs.BlockMoves.{IsBlock, block_of}
+use Rattle.csdf_core.proofs.firing_core.Core.peek.Goals as goal
+use Rattle.csdf_core.proofs.firing_core.Core.peek.Goals.{After-copy_block}
+
+pub copy_block-requires-clause-enough : goal.copy_block-requires-clause-enough
+copy_block-requires-clause-enough c =
+    let p : Present = now_in c.self.inside in
+    let plan : Plan = c.self.inside.layout in
+    let finds : FindsAll plan p c.args.actor (count p c.args.actor) c.args.n = rw (← c.self.view_is) at c.requires.can in
+    let all : length c.args.into.now ≡ needs_of plan.channels c.args.actor (count p c.args.actor) c.args.n = rw (← c.self.view_is) at c.requires.all in
+    subst (λ (x : ℕ). HoldAll (tokens_in c.self.inside.pool) x (inputs_at plan.channels c.args.actor)) (sym all) finds.tokens
+
+pub copy_block-requires-clause-none : goal.copy_block-requires-clause-none
+copy_block-requires-clause-none c =
+    let p : Present = now_in c.self.inside in
+    let plan : Plan = c.self.inside.layout in
+    let all : length c.args.into.now ≡ needs_of plan.channels c.args.actor (count p c.args.actor) c.args.n = rw (← c.self.view_is) at c.requires.all in
+    λ e. all ∙ needs_none plan.channels c.args.actor (count p c.args.actor) c.args.n e
+
+-- what is known at the end
+module _ (c : After-copy_block) where
+  abbrev plan : Plan
+  plan = c.self.inside.layout
+
+  abbrev p : Present
+  p = now_in c.self.inside
+
+  abbrev k : ℕ
+  k = count p c.args.actor
+
+  abbrev m : Machine
+  m = record {
+    now = now_in c.self.inside;
+    peaks = c.self.inside.peaks.items;
+    sums = c.self.inside.sums.items;
+    started = c.self.inside.started;
+    kept = c.self.inside.reserved;
+    pool = c.self.inside.pool;
+  }
+
+  made : (v : List ℤ) → length v ≡ gifts_of plan.channels c.args.actor k c.args.n → (new : Machine) × IsBlock plan c.args.actor k c.args.n v m new
+  made v len =
+      block_of plan c.args.actor c.args.n v m (record { sound = c.self.invariant.sound; chains = refl }) (rw (← c.self.view_is) at c.requires.can) len
+      (λ i lt. c.gives_few.ensures c.args.actor (k + i))
+
+  copied : c.copy_block.new.into ≡ from_front (inputs_at plan.channels c.args.actor) (needs_of plan.channels c.args.actor k c.args.n) p.tokens
+  copied =
+      let all : length c.args.into.now ≡ needs_of plan.channels c.args.actor k c.args.n = rw (← c.self.view_is) at c.requires.all in
+      c.copy_block.ensures ∙ ap (λ (x : ℕ). from_front (inputs_at plan.channels c.args.actor) x (tokens_in c.self.inside.pool)) all
+
+pub returns-clause-all : goal.returns-clause-all
+returns-clause-all c =
+    let at : After-copy_block = (goal.at.returns-clause-all c).After-copy_block in
+    rw (← c.self.view_is) (λ v len. copied at ∙ sym (made at v len).1.handed)
+
+pub returns-clause-each : goal.returns-clause-each
+returns-clause-each c =
+    let at : After-copy_block = (goal.at.returns-clause-each c).After-copy_block in
+    rw (← c.self.view_is) (λ v len. (made at v len).1.reads ∙ ap (parts_of (plan at).channels c.args.actor (k at) c.args.n) (sym (copied at)))

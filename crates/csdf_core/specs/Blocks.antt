@@ -1,0 +1,125 @@
+-- Several firings of one actor, one after another with no other's move between.
+use Rattle.std.specs.Prelude.{ℕ, zero, suc, ◌≡◌, ◌≢◌, ◌+◌, ◌<◌, ◌≤◌, true, List, [], ◌∷◌, ◌++◌, ℤ, None, Ok, Err, IfSome, length, map, take, drop, slice_index}
+use Rattle.std.specs.List.{AllByRecursion}
+use Rattle.csdf_pool.specs.Pool.{Shared, after_takes, after_puts}
+use Rattle.csdf_core.specs.declared.stage.Stage.TheVariants.{Idle}
+use Rattle.csdf_core.specs.Moves.{Move}
+use Rattle.csdf_core.specs.Moves.{Begin, Read, Write, Finish, Close}
+use Rattle.csdf_core.specs.Next.{next}
+use Rattle.csdf_core.specs.Plan.{Channel, Plan}
+use Rattle.csdf_core.specs.Ports.{inputs_at, outputs_at, tokens_at}
+use Rattle.csdf_core.specs.Rows.{is_closed, first, need, gift}
+use Rattle.csdf_core.specs.State.{Present}
+use Rattle.csdf_core.specs.Transfers.{after_read, after_write}
+use Rattle.csdf_core.specs.Step.{Reply, count, stage, is_source, given, begun_count, held, reserved, refusal, answer}
+
+-- how many tokens n firings of the actor take, from firing number k on, and how many they give
+abbrev pub needs_of : List Channel → ℕ → ℕ → ℕ → ℕ
+needs_of channels a k zero = 0
+needs_of channels a k (suc n) = need a k channels + needs_of channels a (suc k) n
+
+abbrev pub gifts_of : List Channel → ℕ → ℕ → ℕ → ℕ
+gifts_of channels a k zero = 0
+gifts_of channels a k (suc n) = gift a k channels + gifts_of channels a (suc k) n
+
+-- their moves: v are the tokens that they write, one firing's after another's
+abbrev pub firings_of : List Channel → ℕ → ℕ → ℕ → List ℤ → List Move
+firings_of channels a k zero v = []
+firings_of channels a k (suc n) v =
+    Begin a ∷ Read a ∷ Write a (take (gift a k channels) v) ∷ Finish a ∷ firings_of channels a (suc k) n (drop (gift a k channels) v)
+
+-- each of the moves is accepted, from what is present on
+abbrev pub AreAccepted : Plan → Present → List Move → Type 0
+AreAccepted plan p [] = Unit {0}
+AreAccepted plan p (m ∷ moves) = (refusal plan p m ≡ None) × AreAccepted plan (next plan p m) moves
+
+-- the replies to moves that are all accepted
+abbrev pub answers_to : Plan → Present → List Move → List Reply
+answers_to plan p [] = []
+answers_to plan p (m ∷ moves) = Ok (answer plan p m) ∷ answers_to plan (next plan p m) moves
+
+-- all tokens that the replies hand out, in order
+abbrev pub handed_by : List Reply → List ℤ
+handed_by [] = []
+handed_by (Ok tokens ∷ replies) = tokens ++ handed_by replies
+handed_by (Err refusal ∷ replies) = handed_by replies
+
+-- the actor has at most one input and at most one output, and they are different channels
+pub record IsPlain (channels : List Channel) (a : ℕ) : Type 0 where
+  pub one_in : length (inputs_at channels a) ≤ 1
+  pub one_out : length (outputs_at channels a) ≤ 1
+  pub apart : AllByRecursion (λ c. AllByRecursion (λ d. d ≢ c) (outputs_at channels a)) (inputs_at channels a)
+
+-- the capacity of a channel, by its number
+abbrev pub capacity_at : List Channel → ℕ → ℕ
+capacity_at channels c = slice_index (map (λ (channel : Channel). channel.capacity) channels) c
+
+-- the pool after the first of the channels, where there is one, gave up n tokens, and after it got those of v
+abbrev pub takes_in : List ℕ → ℕ → Shared → Shared
+takes_in [] n pool = pool
+takes_in (c ∷ numbers) n pool = after_takes pool c n
+
+abbrev pub puts_in : List ℕ → Shared → List ℤ → Shared
+puts_in [] pool v = pool
+puts_in (c ∷ numbers) pool v = after_puts pool c v
+
+-- the pool after the n firings have read and written, one after another
+abbrev pub pool_after : Plan → ℕ → ℕ → ℕ → Shared → List ℤ → Shared
+pool_after plan a k zero pool v = pool
+pool_after plan a k (suc n) pool v =
+    pool_after plan a (suc k) n (after_write plan a k (after_read plan a k pool) (take (gift a k plan.channels) v)) (drop (gift a k plan.channels) v)
+
+-- the first n tokens of the first of the channels
+abbrev pub from_front : List ℕ → ℕ → List (List ℤ) → List ℤ
+from_front [] n tokens = []
+from_front (c ∷ numbers) n tokens = take n (tokens_at tokens c)
+
+-- each of the channels holds n tokens, and each has room for so many more
+abbrev pub HoldAll : List (List ℤ) → ℕ → List ℕ → Type 0
+HoldAll tokens n numbers = AllByRecursion (λ c. n ≤ length (tokens_at tokens c)) numbers
+
+abbrev pub HaveRoomFor : List Channel → List (List ℤ) → ℕ → List ℕ → Type 0
+HaveRoomFor channels tokens n numbers = AllByRecursion (λ c. length (tokens_at tokens c) + n ≤ capacity_at channels c) numbers
+
+-- the tokens are those that n firings hand out, from number k on, whatever they write
+abbrev pub AreRead : Plan → Present → ℕ → ℕ → ℕ → List ℤ → Type 0
+AreRead plan p a k n tokens =
+    (v : List ℤ) → length v ≡ gifts_of plan.channels a k n → tokens ≡ handed_by (answers_to plan p (firings_of plan.channels a k n v))
+
+-- the tokens that each of n firings reads, cut out of all that they read
+abbrev pub parts_of : List Channel → ℕ → ℕ → ℕ → List ℤ → List (List ℤ)
+parts_of channels a k zero tokens = []
+parts_of channels a k (suc n) tokens = take (need a k channels) tokens ∷ parts_of channels a (suc k) n (drop (need a k channels) tokens)
+
+-- what the reads among moves that are all accepted hand out
+abbrev pub reads_among : Plan → Present → List Move → List (List ℤ)
+reads_among plan p [] = []
+reads_among plan p (Read a ∷ moves) = answer plan p (Read a) ∷ reads_among plan (next plan p (Read a)) moves
+reads_among plan p (Begin a ∷ moves) = reads_among plan (next plan p (Begin a)) moves
+reads_among plan p (Write a v ∷ moves) = reads_among plan (next plan p (Write a v)) moves
+reads_among plan p (Finish a ∷ moves) = reads_among plan (next plan p (Finish a)) moves
+reads_among plan p (Close c ∷ moves) = reads_among plan (next plan p (Close c)) moves
+
+-- each of n firings reads its part of the tokens, whatever they write
+abbrev pub AreReadEach : Plan → Present → ℕ → ℕ → ℕ → List ℤ → Type 0
+AreReadEach plan p a k n tokens =
+    (v : List ℤ) → length v ≡ gifts_of plan.channels a k n
+    → reads_among plan p (firings_of plan.channels a k n v) ≡ parts_of plan.channels a k n tokens
+
+-- a plain actor, whose next firing is number k, finds what n firings need: tokens, room and cells, and that it and all actors may make so many
+pub record FindsAll (plan : Plan) (p : Present) (a k n : ℕ) : Type 0 where
+  pub plain : IsPlain plan.channels a
+  pub there : a < length plan.sources
+  pub number : count p a ≡ k
+  pub idle : stage p a ≡ Idle
+  pub limit : k + n ≤ slice_index plan.limits a
+  pub opens : first (is_closed a) plan.channels p.opens ≡ None
+  pub supply : is_source plan a ≡ true → given plan a (k + n) ≤ slice_index plan.supplies a
+  pub tokens : HoldAll p.tokens (needs_of plan.channels a k n) (inputs_at plan.channels a)
+  pub room : HaveRoomFor plan.channels p.tokens (gifts_of plan.channels a k n) (outputs_at plan.channels a)
+  pub firings : IfSome plan.firings (λ most. begun_count p + n ≤ most)
+  pub cells : held p + reserved plan p + gifts_of plan.channels a k n ≤ plan.cells
+
+-- the actor can make n firings one after the other
+abbrev pub CanFire : Plan → Present → ℕ → ℕ → Type 0
+CanFire plan p a n = FindsAll plan p a (count p a) n

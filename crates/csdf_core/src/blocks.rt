@@ -1,0 +1,440 @@
+//! Several firings of one actor, made in one call.
+
+ghost use Rattle.std.specs.Prelude.{ℕ, ◌≡◌, ◌≢◌, ◌+◌, ◌*◌, ◌<◌, ◌≤◌, true, IsTrue, IfSome, length, slice_index};
+ghost use Rattle.csdf_pool.specs.Pool.{IsPartition};
+ghost use Rattle.csdf_core.specs.Blocks.{needs_of, gifts_of, takes_in, puts_in, from_front, HoldAll, HaveRoomFor, IsPlain};
+ghost use Rattle.csdf_core.specs.Phases.{HasPhases, IsInPhase};
+ghost use Rattle.csdf_core.specs.Ports.{inputs_at, outputs_at, tokens_in};
+
+use crate::firing_core::Core;
+use crate::first_refusal::is_at;
+use crate::layout::Layout;
+use crate::readiness::first_closed;
+use crate::stage::Stage;
+use crate::transfer::{gift_of, need_of, raise_peaks};
+use crate::turn::{Turn, turn_after};
+use csdf_pool::Pool;
+
+/// What so many firings of an actor move in all, and the firing after them.
+#[derive(Clone, Copy)]
+struct Ahead {
+    next: Turn,
+    needed: u64,
+    given: u64,
+}
+
+/// What n firings of an actor of one phase move, from this one on: each as much as the first.
+#[inline(always)]
+fn alike(layout: &Layout, actor: u32, turn: Turn, n: u32) -> Ahead
+    requires actor { actor < length layout.now.sources }
+    requires phases { HasPhases layout.now.channels actor 1 }
+    requires in_phase { IsInPhase layout.now.channels actor turn.firing turn.phase }
+    requires few { turn.firing + n ≤ 16_384_000 }
+    ensures firing { result.next.firing ≡ turn.firing + n }
+    ensures in_phase { IsInPhase layout.now.channels actor result.next.firing result.next.phase }
+    ensures low { result.next.phase < 16 }
+    ensures needed { result.needed ≡ needs_of layout.now.channels actor turn.firing n }
+    ensures given { result.given ≡ gifts_of layout.now.channels actor turn.firing n }
+    ensures small { result.given ≤ 8192 * n }
+{
+    let needed = need_of(layout, actor, turn) as u64;
+    let given = gift_of(layout, actor, turn) as u64;
+    Ahead {
+        next: Turn {
+            firing: turn.firing + n,
+            phase: 0,
+        },
+        needed: u64::from(n) * needed,
+        given: u64::from(n) * given,
+    }
+}
+
+/// What n firings move, from this one on, added up one by one.
+fn one_by_one(layout: &Layout, actor: u32, turn: Turn, n: u32) -> Ahead
+    requires actor { actor < length layout.now.sources }
+    requires in_phase { IsInPhase layout.now.channels actor turn.firing turn.phase }
+    requires low { turn.phase < 16 }
+    requires few { turn.firing + n ≤ 16_384_000 }
+    ensures firing { result.next.firing ≡ turn.firing + n }
+    ensures in_phase { IsInPhase layout.now.channels actor result.next.firing result.next.phase }
+    ensures low { result.next.phase < 16 }
+    ensures needed { result.needed ≡ needs_of layout.now.channels actor turn.firing n }
+    ensures given { result.given ≡ gifts_of layout.now.channels actor turn.firing n }
+    ensures small { result.given ≤ 8192 * n }
+{
+    let mut next = turn;
+    let mut needed = 0;
+    let mut given = 0;
+    for _firing in 0..n {
+        needed += need_of(layout, actor, next) as u64;
+        given += gift_of(layout, actor, next) as u64;
+        next = turn_after(layout, actor, next);
+    }
+    Ahead {
+        next,
+        needed,
+        given,
+    }
+}
+
+/// What n firings move, from this one on.
+#[inline(always)]
+fn look_ahead(layout: &Layout, actor: u32, turn: Turn, n: u32) -> Ahead
+    requires actor { actor < length layout.now.sources }
+    requires in_phase { IsInPhase layout.now.channels actor turn.firing turn.phase }
+    requires low { turn.phase < 16 }
+    requires few { turn.firing + n ≤ 16_384_000 }
+    ensures firing { result.next.firing ≡ turn.firing + n }
+    ensures in_phase { IsInPhase layout.now.channels actor result.next.firing result.next.phase }
+    ensures low { result.next.phase < 16 }
+    ensures needed { result.needed ≡ needs_of layout.now.channels actor turn.firing n }
+    ensures given { result.given ≡ gifts_of layout.now.channels actor turn.firing n }
+    ensures small { result.given ≤ 8192 * n }
+{
+    if layout.phases(actor) == 1 {
+        return alike(layout, actor, turn, n);
+    }
+    one_by_one(layout, actor, turn, n)
+}
+
+/// A number of firings that an actor can make one after the other, and how many tokens they read
+/// and write in all.
+#[derive(Clone, Copy, Debug, PartialEq, Eq)]
+pub struct Block {
+    /// How many firings.
+    pub firings: u32,
+    /// How many tokens they read.
+    pub needed: u64,
+    /// How many tokens they write.
+    pub given: u64,
+}
+
+/// How many firings that each move so many tokens are possible where this many can be moved.
+fn times(tokens: u64, each: u64, most: u32) -> u32
+    ensures { result ≤ most }
+{
+    if each == 0 {
+        return most;
+    }
+    let n = if each == 1 { tokens } else { tokens / each };
+    if n < u64::from(most) { n as u32 } else { most }
+}
+
+/// Whether the actor has at most one input and at most one output, not the same channel.
+fn is_plain(layout: &Layout, actor: u32) -> bool
+    requires { actor < length layout.now.sources }
+    ensures { IsTrue result → IsPlain layout.now.channels actor }
+{
+    let inputs = layout.inputs(actor);
+    let outputs = layout.outputs(actor);
+    if inputs.len() > 1 || outputs.len() > 1 {
+        return false;
+    }
+    if inputs.is_empty() || outputs.is_empty() {
+        return true;
+    }
+    if inputs[0] == outputs[0] {
+        return false;
+    }
+    true
+}
+
+/// Whether each input of the actor holds so many tokens.
+fn hold_all(layout: &Layout, pool: &Pool, actor: u32, needed: u64) -> bool
+    requires actor { actor < length layout.now.sources }
+    requires same { length pool.now.chains ≡ length layout.now.channels }
+    ensures { IsTrue result → HoldAll (tokens_in pool.now) needed (inputs_at layout.now.channels actor) }
+{
+    let inputs = layout.inputs(actor);
+    for channel in inputs {
+        if u64::from(pool.len(*channel)) < needed {
+            return false;
+        }
+    }
+    true
+}
+
+/// Whether each output of the actor has room for so many tokens more.
+fn have_room(layout: &Layout, pool: &Pool, actor: u32, given: u64) -> bool
+    requires actor { actor < length layout.now.sources }
+    requires same { length pool.now.chains ≡ length layout.now.channels }
+    requires small { given ≤ 8192 * 16_384_000 }
+    ensures { IsTrue result → HaveRoomFor layout.now.channels (tokens_in pool.now) given (outputs_at layout.now.channels actor) }
+{
+    let outputs = layout.outputs(actor);
+    for channel in outputs {
+        if u64::from(pool.len(*channel)) + given > u64::from(layout.capacity(*channel)) {
+            return false;
+        }
+    }
+    true
+}
+
+/// Takes so many tokens out of the actor's input, where it has one.
+fn take_block(layout: &Layout, pool: &mut Pool, actor: u32, n: u64)
+    requires actor { actor < length layout.now.sources }
+    requires same { length pool.old.chains ≡ length layout.now.channels }
+    requires enough { HoldAll (tokens_in pool.old) n (inputs_at layout.now.channels actor) }
+    ensures cells { pool.new ≡ takes_in (inputs_at layout.now.channels actor) n pool.old }
+    ensures same { length pool.new.chains ≡ length pool.old.chains }
+    ensures free { length pool.old.free ≤ length pool.new.free }
+{
+    let inputs = layout.inputs(actor);
+    if inputs.is_empty() {
+        return;
+    }
+    let input = inputs[0];
+    prove!(n <= u64::from(pool.len(input)));
+    pool.drop_front(input, n as u32);
+}
+
+/// Copies the oldest tokens of the actor's input, where it has one, as many as the slice is long.
+fn copy_block(layout: &Layout, pool: &Pool, actor: u32, into: &mut [i32])
+    requires actor { actor < length layout.now.sources }
+    requires same { length pool.now.chains ≡ length layout.now.channels }
+    requires enough { HoldAll (tokens_in pool.now) (length into.old) (inputs_at layout.now.channels actor) }
+    requires none { length (inputs_at layout.now.channels actor) ≡ 0 → length into.old ≡ 0 }
+    ensures { into.new ≡ from_front (inputs_at layout.now.channels actor) (length into.old) (tokens_in pool.now) }
+{
+    let inputs = layout.inputs(actor);
+    if inputs.is_empty() {
+        return;
+    }
+    let input = inputs[0];
+    pool.copy_front(input, into);
+}
+
+/// Puts the tokens into the actor's output, where it has one.
+fn put_block(layout: &Layout, pool: &mut Pool, actor: u32, tokens: &[i32])
+    requires actor { actor < length layout.now.sources }
+    requires same { length pool.old.chains ≡ length layout.now.channels }
+    requires room { length tokens.now ≤ length pool.old.free }
+    ensures cells { pool.new ≡ puts_in (outputs_at layout.now.channels actor) pool.old tokens.now }
+    ensures same { length pool.new.chains ≡ length pool.old.chains }
+{
+    let outputs = layout.outputs(actor);
+    if outputs.is_empty() {
+        return;
+    }
+    pool.put_all(outputs[0], tokens);
+}
+
+impl Core {
+    ghost use Rattle.csdf_core.specs.Blocks.{CanFire, AreAccepted, AreRead, AreReadEach, answers_to, firings_of, pool_after};
+    ghost use Rattle.csdf_core.specs.Shows.{Plays};
+    ghost use Rattle.csdf_core.specs.Step.{count, stage, given, is_source, begun_count, held, reserved};
+
+    /// Whether the source's file has the tokens of its firings, which give so many from now on.
+    fn has_supply(&self, actor: u32, more: u64) -> bool
+        requires actor { actor < length self.now.plan.sources }
+        requires small { more ≤ 8192 * 16_384_000 }
+        ensures { IsTrue result → is_source self.now.plan actor ≡ true
+            → given self.now.plan actor (count self.now.now actor) + more ≤ slice_index self.now.plan.supplies actor }
+    {
+        if self.layout.is_source(actor)
+            && self.written(actor) + more > u64::from(self.layout.supply(actor))
+        {
+            return false;
+        }
+        true
+    }
+
+    /// Whether so many firings more may begin, of all actors together.
+    fn may_begin(&self, n: u32) -> bool
+        ensures { IsTrue result → IfSome self.now.plan.firings (λ most. begun_count self.now.now + n ≤ most) }
+    {
+        match self.layout.firings() {
+            Some(most) => self.started + u64::from(n) <= u64::from(most),
+            None => true,
+        }
+    }
+
+    /// Whether so many cells are neither held nor reserved.
+    fn has_cells(&self, given: u64) -> bool
+        requires { given ≤ 8192 * 16_384_000 }
+        ensures { IsTrue result → held self.now.now + reserved self.now.plan self.now.now + given ≤ self.now.plan.cells }
+    {
+        if self.used() + given > u64::from(self.layout.cells()) {
+            return false;
+        }
+        true
+    }
+
+    /// Whether the actor can make its next n firings one after the other, with no other's move
+    /// between them. Where it answers `true` each of their moves is accepted. It answers `false` for
+    /// an actor with several inputs or outputs, or with a channel to itself.
+    pub fn can_fire(&self, actor: u32, n: u32) -> bool
+        ensures { IsTrue result → CanFire self.now.plan self.now.now actor n }
+    {
+        if actor as usize >= self.counts.len() {
+            return false;
+        }
+        if !is_plain(&self.layout, actor) || !is_at(self.stage(actor), Stage::Idle) {
+            return false;
+        }
+        self.finds_all(actor, n)
+    }
+
+    /// About how many firings the actor can make: exact where it has one phase.
+    fn guess(&self, actor: u32, most: u32) -> u32
+        requires { actor < length self.now.plan.sources }
+        ensures { result ≤ most }
+    {
+        let layout = &self.layout;
+        let need = self.need(actor) as u64;
+        let gift = self.gives(actor) as u64;
+        let left = layout.limit(actor).saturating_sub(self.fired(actor));
+        let mut n = most.min(left);
+        if let Some(firings) = layout.firings() {
+            n = times(u64::from(firings).saturating_sub(self.started), 1, n);
+        }
+        let inputs = layout.inputs(actor);
+        if !inputs.is_empty() {
+            n = times(u64::from(self.pool.len(inputs[0])), need, n);
+        }
+        let outputs = layout.outputs(actor);
+        if !outputs.is_empty() {
+            let output = outputs[0];
+            let room = layout
+                .capacity(output)
+                .saturating_sub(self.pool.len(output));
+            n = times(u64::from(room), gift, n);
+        }
+        if layout.is_source(actor) {
+            let left = u64::from(layout.supply(actor)).saturating_sub(self.written(actor));
+            n = times(left, gift, n);
+        }
+        times(
+            u64::from(layout.cells()).saturating_sub(self.used()),
+            gift,
+            n,
+        )
+    }
+
+    /// The block of n firings, which the actor can make.
+    fn block_of(&self, actor: u32, n: u32) -> Block
+        requires { CanFire self.now.plan self.now.now actor n }
+        ensures firings { result.firings ≡ n }
+        ensures needed { result.needed ≡ needs_of self.now.plan.channels actor (count self.now.now actor) n }
+        ensures given { result.given ≡ gifts_of self.now.plan.channels actor (count self.now.now actor) n }
+    {
+        let turn = self.turn(actor);
+        let _limit = self.layout.limit(actor);
+        let ahead = look_ahead(&self.layout, actor, turn, n);
+        Block {
+            firings: n,
+            needed: ahead.needed,
+            given: ahead.given,
+        }
+    }
+
+    /// A number of next firings, at most so many, that the actor can make one after the other with
+    /// no other's move between: 0 where the first can't begin, and for an actor with several inputs
+    /// or outputs or a channel to itself.
+    pub fn block(&self, actor: u32, most: u32) -> Block
+        ensures most { result.firings ≤ most }
+        ensures can { 0 < result.firings → CanFire self.now.plan self.now.now actor result.firings }
+        ensures needed { 0 < result.firings → result.needed
+            ≡ needs_of self.now.plan.channels actor (count self.now.now actor) result.firings }
+        ensures given { 0 < result.firings → result.given
+            ≡ gifts_of self.now.plan.channels actor (count self.now.now actor) result.firings }
+    {
+        if (actor as usize) < self.counts.len() {
+            let mut n = self.guess(actor, most);
+            for _halving in 0..24 {
+                if self.can_fire(actor, n) {
+                    return self.block_of(actor, n);
+                }
+                n /= 2;
+            }
+        }
+        Block {
+            firings: 0,
+            needed: 0,
+            given: 0,
+        }
+    }
+
+    /// Whether each firing of the actor moves as much as any other: each of its lists of rates has
+    /// one entry.
+    pub fn has_one_phase(&self, actor: u32) -> bool
+        requires { actor < length self.now.plan.sources }
+        ensures { IsTrue result → HasPhases self.now.plan.channels actor 1 }
+    {
+        self.layout.phases(actor) == 1
+    }
+
+    /// The tests that move on with n.
+    fn finds_all(&self, actor: u32, n: u32) -> bool
+        requires actor { actor < length self.now.plan.sources }
+        requires plain { IsPlain self.now.plan.channels actor }
+        requires idle { stage self.now.now actor ≡ Stage.Idle }
+        ensures { IsTrue result → CanFire self.now.plan self.now.now actor n }
+    {
+        let turn = self.turn(actor);
+        if u64::from(turn.firing) + u64::from(n) > u64::from(self.layout.limit(actor)) {
+            return false;
+        }
+        if first_closed(&self.layout, &self.opens, actor).is_some() {
+            return false;
+        }
+        let ahead = look_ahead(&self.layout, actor, turn, n);
+        if !hold_all(&self.layout, &self.pool, actor, ahead.needed) {
+            return false;
+        }
+        if !have_room(&self.layout, &self.pool, actor, ahead.given) {
+            return false;
+        }
+        if !self.has_supply(actor, ahead.given) {
+            return false;
+        }
+        if !self.may_begin(n) {
+            return false;
+        }
+        if !self.has_cells(ahead.given) {
+            return false;
+        }
+        true
+    }
+
+    /// Copies the tokens that the actor's next n firings read, one firing's after another's, and
+    /// changes nothing.
+    pub fn peek(&self, actor: u32, n: u32, into: &mut [i32])
+        requires can { CanFire self.now.plan self.now.now actor n }
+        requires all { length into.old ≡ needs_of self.now.plan.channels actor (count self.now.now actor) n }
+        ensures all { AreRead self.now.plan self.now.now actor (count self.now.now actor) n into.new }
+        ensures each { AreReadEach self.now.plan self.now.now actor (count self.now.now actor) n into.new }
+    {
+        self.layout.gives_few();
+        copy_block(&self.layout, &self.pool, actor, into);
+    }
+
+    /// Makes the actor's next n firings, which write these tokens, one firing's after another's:
+    /// their 4n moves, in order.
+    pub fn fire(&mut self, actor: u32, n: u32, tokens: &[i32])
+        requires can { CanFire self.old.plan self.old.now actor n }
+        requires all { length tokens.now ≡ gifts_of self.old.plan.channels actor (count self.old.now actor) n }
+        ensures accepted { AreAccepted self.old.plan self.old.now
+            (firings_of self.old.plan.channels actor (count self.old.now actor) n tokens.now) }
+        ensures plays { Plays self.old self.new (firings_of self.old.plan.channels actor (count self.old.now actor) n tokens.now)
+            (answers_to self.old.plan self.old.now (firings_of self.old.plan.channels actor (count self.old.now actor) n tokens.now)) }
+        ensures cells { self.new.pool ≡ pool_after self.old.plan actor (count self.old.now actor) n self.old.pool tokens.now }
+    {
+        let turn = self.turn(actor);
+        self.layout.gives_few();
+        let ahead = look_ahead(&self.layout, actor, turn, n);
+        let needed = need_of(&self.layout, actor, ahead.next);
+        let given = gift_of(&self.layout, actor, ahead.next);
+        let layout = &self.layout;
+        take_block(layout, &mut self.pool, actor, ahead.needed);
+        put_block(layout, &mut self.pool, actor, tokens);
+        raise_peaks(layout, &self.pool, &mut self.peaks, actor);
+        let a = actor as usize;
+        self.started += u64::from(n);
+        self.sums[a] += ahead.given;
+        self.counts[a] = ahead.next.firing;
+        self.phases[a] = ahead.next.phase;
+        self.needs[a] = needed as u32;
+        self.gifts[a] = given as u32;
+    }
+}
