@@ -15,7 +15,7 @@ use Rattle.csdf_core.specs.Rows.{need, gift, is_short, is_full, first}
 use Rattle.csdf_core.specs.State.{Present}
 use Rattle.csdf_core.specs.Step.{count, given, is_dry, is_stopped, is_reached, lacks_cells, refusal, first_of, when, begun_count, held, reserved}
 use Rattle.csdf_core.proofs.Accepting.{begin_is}
-use Rattle.csdf_core.proofs.BlockPorts.{both, each_within, sum_none}
+use Rattle.csdf_core.proofs.BlockPorts.{both, each, each_within, sum_none}
 use Rattle.csdf_core.proofs.PortLemmas.{first_short, first_full, need_is, gift_is}
 use Rattle.csdf_core.proofs.Totals.{given-suc}
 
@@ -118,3 +118,42 @@ module _ (plan : Plan) (p : Present) (a n : ℕ) (fit : IsFit plan p) (h : Finds
       begin_is plan p a h.opens can_go
       ∙ ap (λ (b : Bool). first_of (when b Stopped ∷ when (lacks_cells plan p a) NoCells ∷ [])) not_stopped
       ∙ ap (λ (b : Bool). first_of (when false Stopped ∷ when b NoCells ∷ [])) enough_cells
+
+-- ---- fewer firings move no more
+
+pub needs_fewer : (channels : List Channel) (a k m n : ℕ) → m ≤ n → needs_of channels a k m ≤ needs_of channels a k n
+needs_fewer channels a k zero n le = omega arith
+needs_fewer channels a k (suc m) zero le = absurd (omega arith)
+needs_fewer channels a k (suc m) (suc n) le = let r = needs_fewer channels a (suc k) m n (omega arith) in omega (arith, r)
+
+pub gifts_fewer : (channels : List Channel) (a k m n : ℕ) → m ≤ n → gifts_of channels a k m ≤ gifts_of channels a k n
+gifts_fewer channels a k zero n le = omega arith
+gifts_fewer channels a k (suc m) zero le = absurd (omega arith)
+gifts_fewer channels a k (suc m) (suc n) le = let r = gifts_fewer channels a (suc k) m n (omega arith) in omega (arith, r)
+
+fewer_begun : (o : Option ℕ) (b m n : ℕ) → m ≤ n → IfSome o (λ most. b + n ≤ most) → IfSome o (λ most. b + m ≤ most)
+fewer_begun None b m n le h = tt
+fewer_begun (Some most) b m n le h = omega (arith, le, h)
+
+-- an actor that can make n firings can make any fewer
+pub finds_fewer : (plan : Plan) (p : Present) (a k m n : ℕ) → m ≤ n → FindsAll plan p a k n → FindsAll plan p a k m
+finds_fewer plan p a k m n le h =
+    let needs = needs_fewer plan.channels a k m n le in
+    let gifts = gifts_fewer plan.channels a k m n le in
+    record {
+      plain = h.plain;
+      there = h.there;
+      number = h.number;
+      idle = h.idle;
+      limit = (let l = h.limit in omega (arith, l, le));
+      opens = h.opens;
+      supply = λ source. (let s = h.supply source in omega (arith, s, gifts, given_more plan a k m, given_more plan a k n));
+      tokens = each (inputs_at plan.channels a)
+          (λ c (x : needs_of plan.channels a k n ≤ length (tokens_at p.tokens c)).
+          (let r : needs_of plan.channels a k m ≤ length (tokens_at p.tokens c) = omega (arith, x, needs) in r)) h.tokens;
+      room = each (outputs_at plan.channels a)
+          (λ c (x : length (tokens_at p.tokens c) + gifts_of plan.channels a k n ≤ capacity_at plan.channels c).
+          (let r : length (tokens_at p.tokens c) + gifts_of plan.channels a k m ≤ capacity_at plan.channels c = omega (arith, x, gifts) in r)) h.room;
+      firings = fewer_begun plan.firings (begun_count p) m n le h.firings;
+      cells = (let c = h.cells in omega (arith, c, gifts));
+    }

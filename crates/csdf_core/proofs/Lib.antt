@@ -45,3 +45,4 @@ pub mod BlockMachines
 pub mod BlockMoves
 pub mod FewGifts
 pub mod OnePhase
+pub mod GreatestBlocks

@@ -123,3 +123,10 @@ pub record FindsAll (plan : Plan) (p : Present) (a k n : ℕ) : Type 0 where
 -- the actor can make n firings one after the other
 abbrev pub CanFire : Plan → Present → ℕ → ℕ → Type 0
 CanFire plan p a n = FindsAll plan p a (count p a) n
+
+-- the most firings that the actor can make, of at most so many, are from low to high: it can make low, and none above high
+pub record IsBetween (plan : Plan) (p : Present) (a most low high : ℕ) : Type 0 where
+  pub can : CanFire plan p a low
+  pub order : low ≤ high
+  pub within : high ≤ most
+  pub above : (n : ℕ) → n ≤ most → CanFire plan p a n → n ≤ high

@@ -1,6 +1,6 @@
 //! Several firings of one actor, made in one call.
 
-ghost use Rattle.std.specs.Prelude.{ℕ, ◌≡◌, ◌≢◌, ◌+◌, ◌*◌, ◌<◌, ◌≤◌, true, IsTrue, IfSome, length, slice_index};
+ghost use Rattle.std.specs.Prelude.{ℕ, ◌≡◌, ◌≢◌, ◌+◌, ◌-◌, ◌*◌, ◌<◌, ◌≤◌, ◌↔◌, true, None, IsTrue, IfSome, length, slice_index};
 ghost use Rattle.csdf_pool.specs.Pool.{IsPartition};
 ghost use Rattle.csdf_core.specs.Blocks.{needs_of, gifts_of, takes_in, puts_in, from_front, HoldAll, HaveRoomFor, IsPlain};
 ghost use Rattle.csdf_core.specs.Phases.{HasPhases, IsInPhase};
@@ -109,6 +109,13 @@ pub struct Block {
     pub given: u64,
 }
 
+/// Where the greatest number of firings lies that an actor can make.
+#[derive(Clone, Copy)]
+struct Span {
+    low: u32,
+    high: u32,
+}
+
 /// How many firings that each move so many tokens are possible where this many can be moved.
 fn times(tokens: u64, each: u64, most: u32) -> u32
     ensures { result ≤ most }
@@ -123,7 +130,7 @@ fn times(tokens: u64, each: u64, most: u32) -> u32
 /// Whether the actor has at most one input and at most one output, not the same channel.
 fn is_plain(layout: &Layout, actor: u32) -> bool
     requires { actor < length layout.now.sources }
-    ensures { IsTrue result → IsPlain layout.now.channels actor }
+    ensures { IsTrue result ↔ IsPlain layout.now.channels actor }
 {
     let inputs = layout.inputs(actor);
     let outputs = layout.outputs(actor);
@@ -143,7 +150,7 @@ fn is_plain(layout: &Layout, actor: u32) -> bool
 fn hold_all(layout: &Layout, pool: &Pool, actor: u32, needed: u64) -> bool
     requires actor { actor < length layout.now.sources }
     requires same { length pool.now.chains ≡ length layout.now.channels }
-    ensures { IsTrue result → HoldAll (tokens_in pool.now) needed (inputs_at layout.now.channels actor) }
+    ensures { IsTrue result ↔ HoldAll (tokens_in pool.now) needed (inputs_at layout.now.channels actor) }
 {
     let inputs = layout.inputs(actor);
     for channel in inputs {
@@ -159,7 +166,7 @@ fn have_room(layout: &Layout, pool: &Pool, actor: u32, given: u64) -> bool
     requires actor { actor < length layout.now.sources }
     requires same { length pool.now.chains ≡ length layout.now.channels }
     requires small { given ≤ 8192 * 16_384_000 }
-    ensures { IsTrue result → HaveRoomFor layout.now.channels (tokens_in pool.now) given (outputs_at layout.now.channels actor) }
+    ensures { IsTrue result ↔ HaveRoomFor layout.now.channels (tokens_in pool.now) given (outputs_at layout.now.channels actor) }
 {
     let outputs = layout.outputs(actor);
     for channel in outputs {
@@ -220,16 +227,18 @@ fn put_block(layout: &Layout, pool: &mut Pool, actor: u32, tokens: &[i32])
 }
 
 impl Core {
-    ghost use Rattle.csdf_core.specs.Blocks.{CanFire, AreAccepted, AreRead, AreReadEach, answers_to, firings_of, pool_after};
+    ghost use Rattle.csdf_core.specs.Blocks.{CanFire, IsBetween, AreAccepted, AreRead, AreReadEach, answers_to, firings_of, pool_after};
     ghost use Rattle.csdf_core.specs.Shows.{Plays};
-    ghost use Rattle.csdf_core.specs.Step.{count, stage, given, is_source, begun_count, held, reserved};
+    ghost use Rattle.csdf_core.specs.Step.{count, stage, given, is_source, begun_count, held, reserved, refusal};
+    ghost use Rattle.csdf_core.specs.Moves.{Begin};
+    ghost use Rattle.csdf_core.specs.Rows.{gift};
 
     /// Whether the source's file has the tokens of its firings, which give so many from now on.
     fn has_supply(&self, actor: u32, more: u64) -> bool
         requires actor { actor < length self.now.plan.sources }
         requires small { more ≤ 8192 * 16_384_000 }
-        ensures { IsTrue result → is_source self.now.plan actor ≡ true
-            → given self.now.plan actor (count self.now.now actor) + more ≤ slice_index self.now.plan.supplies actor }
+        ensures { IsTrue result ↔ (is_source self.now.plan actor ≡ true
+            → given self.now.plan actor (count self.now.now actor) + more ≤ slice_index self.now.plan.supplies actor) }
     {
         if self.layout.is_source(actor)
             && self.written(actor) + more > u64::from(self.layout.supply(actor))
@@ -241,7 +250,7 @@ impl Core {
 
     /// Whether so many firings more may begin, of all actors together.
     fn may_begin(&self, n: u32) -> bool
-        ensures { IsTrue result → IfSome self.now.plan.firings (λ most. begun_count self.now.now + n ≤ most) }
+        ensures { IsTrue result ↔ IfSome self.now.plan.firings (λ most. begun_count self.now.now + n ≤ most) }
     {
         match self.layout.firings() {
             Some(most) => self.started + u64::from(n) <= u64::from(most),
@@ -252,7 +261,7 @@ impl Core {
     /// Whether so many cells are neither held nor reserved.
     fn has_cells(&self, given: u64) -> bool
         requires { given ≤ 8192 * 16_384_000 }
-        ensures { IsTrue result → held self.now.now + reserved self.now.plan self.now.now + given ≤ self.now.plan.cells }
+        ensures { IsTrue result ↔ held self.now.now + reserved self.now.plan self.now.now + given ≤ self.now.plan.cells }
     {
         if self.used() + given > u64::from(self.layout.cells()) {
             return false;
@@ -261,10 +270,10 @@ impl Core {
     }
 
     /// Whether the actor can make its next n firings one after the other, with no other's move
-    /// between them. Where it answers `true` each of their moves is accepted. It answers `false` for
-    /// an actor with several inputs or outputs, or with a channel to itself.
+    /// between them: each of their moves is then accepted. It can't where it has several inputs or
+    /// outputs or a channel to itself, nor where there is no such actor.
     pub fn can_fire(&self, actor: u32, n: u32) -> bool
-        ensures { IsTrue result → CanFire self.now.plan self.now.now actor n }
+        ensures { IsTrue result ↔ CanFire self.now.plan self.now.now actor n }
     {
         if actor as usize >= self.counts.len() {
             return false;
@@ -328,31 +337,104 @@ impl Core {
         }
     }
 
-    /// A number of next firings, at most so many, that the actor can make one after the other with
-    /// no other's move between: 0 where the first can't begin, and for an actor with several inputs
-    /// or outputs or a channel to itself.
+    /// Where the first firing's begin is accepted, and there are cells for all that it gives, one
+    /// firing can be made. The call does nothing.
+    fn begins_one(&self, actor: u32)
+        ensures { IsPlain self.now.plan.channels actor
+            → refusal self.now.plan self.now.now (Begin actor) ≡ None
+            → held self.now.now + reserved self.now.plan self.now.now + gift actor (count self.now.now actor) self.now.plan.channels ≤ self.now.plan.cells
+            → CanFire self.now.plan self.now.now actor 1 }
+    {
+        let _layout = &self.layout;
+    }
+
+    /// The span after a look at whether n firings can be made.
+    fn narrowed(&self, actor: u32, most: u32, span: Span, n: u32) -> Span
+        requires { IsBetween self.now.plan self.now.now actor most span.low span.high }
+        ensures between { IsBetween self.now.plan self.now.now actor most result.low result.high }
+        ensures narrower { span.low < n → n ≤ span.high → result.high - result.low < span.high - span.low }
+    {
+        if n <= span.low {
+            return span;
+        }
+        if n > span.high {
+            return span;
+        }
+        if self.can_fire(actor, n) {
+            return Span {
+                low: n,
+                high: span.high,
+            };
+        }
+        Span {
+            low: span.low,
+            high: n - 1,
+        }
+    }
+
+    /// The greatest number of firings, at most so many, that an actor can make that can make one.
+    /// The guess and the number after it are looked at first, then halves of what is left.
+    fn greatest_from_one(&self, actor: u32, most: u32) -> u32
+        requires some { 1 ≤ most }
+        requires can { CanFire self.now.plan self.now.now actor 1 }
+        ensures { IsBetween self.now.plan self.now.now actor most result result }
+    {
+        let guess = self.guess(actor, most);
+        let whole = Span { low: 1, high: most };
+        let below = self.narrowed(actor, most, whole, guess);
+        let mut span = self.narrowed(actor, most, below, guess.saturating_add(1));
+        for _look in 0..most {
+            if span.low >= span.high {
+                return span.low;
+            }
+            let middle = span.high - (span.high - span.low) / 2;
+            span = self.narrowed(actor, most, span, middle);
+        }
+        span.low
+    }
+
+    /// The greatest number of firings, at most so many, that the actor can make.
+    fn greatest(&self, actor: u32, most: u32) -> u32
+        ensures most { result ≤ most }
+        ensures can { 0 < result → CanFire self.now.plan self.now.now actor result }
+        ensures greatest { (n : ℕ) → n ≤ most → CanFire self.now.plan self.now.now actor n → n ≤ result }
+    {
+        if most == 0 {
+            return 0;
+        }
+        if !self.can_fire(actor, 1) {
+            return 0;
+        }
+        self.greatest_from_one(actor, most)
+    }
+
+    /// The greatest number of next firings, at most so many, that the actor can make one after the
+    /// other with no other's move between (see [`can_fire`](Core::can_fire)): 0 where it can't make
+    /// one. It can make one where its begin would be accepted and all that the firing gives finds
+    /// cells that are neither held nor reserved.
     pub fn block(&self, actor: u32, most: u32) -> Block
         ensures most { result.firings ≤ most }
         ensures can { 0 < result.firings → CanFire self.now.plan self.now.now actor result.firings }
+        ensures greatest { (n : ℕ) → n ≤ most → CanFire self.now.plan self.now.now actor n → n ≤ result.firings }
+        ensures first { 1 ≤ most → IsPlain self.now.plan.channels actor
+            → refusal self.now.plan self.now.now (Begin actor) ≡ None
+            → held self.now.now + reserved self.now.plan self.now.now + gift actor (count self.now.now actor) self.now.plan.channels ≤ self.now.plan.cells
+            → 1 ≤ result.firings }
         ensures needed { 0 < result.firings → result.needed
             ≡ needs_of self.now.plan.channels actor (count self.now.now actor) result.firings }
         ensures given { 0 < result.firings → result.given
             ≡ gifts_of self.now.plan.channels actor (count self.now.now actor) result.firings }
     {
-        if (actor as usize) < self.counts.len() {
-            let mut n = self.guess(actor, most);
-            for _halving in 0..24 {
-                if self.can_fire(actor, n) {
-                    return self.block_of(actor, n);
-                }
-                n /= 2;
-            }
+        self.begins_one(actor);
+        let n = self.greatest(actor, most);
+        if n == 0 {
+            return Block {
+                firings: 0,
+                needed: 0,
+                given: 0,
+            };
         }
-        Block {
-            firings: 0,
-            needed: 0,
-            given: 0,
-        }
+        self.block_of(actor, n)
     }
 
     /// Whether each firing of the actor moves as much as any other: each of its lists of rates has
@@ -369,7 +451,7 @@ impl Core {
         requires actor { actor < length self.now.plan.sources }
         requires plain { IsPlain self.now.plan.channels actor }
         requires idle { stage self.now.now actor ≡ Stage.Idle }
-        ensures { IsTrue result → CanFire self.now.plan self.now.now actor n }
+        ensures { IsTrue result ↔ CanFire self.now.plan self.now.now actor n }
     {
         let turn = self.turn(actor);
         if u64::from(turn.firing) + u64::from(n) > u64::from(self.layout.limit(actor)) {

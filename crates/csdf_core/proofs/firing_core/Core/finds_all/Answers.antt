@@ -26,19 +26,36 @@ returns c =
     ∙ ap (λ (x : ℕ). needs_of plan.channels a x n) firing in
     let given : c.look_ahead-ahead.result.given ≡ gifts_of plan.channels a k n = c.look_ahead-ahead.ensures.given
     ∙ ap (λ (x : ℕ). gifts_of plan.channels a x n) firing in
-    let supply = rw (← c.self.view_is) at (c.if-not-has_supply.ensures refl) in
-    let cells = rw (← c.self.view_is) at (c.if-not-has_cells.ensures refl) in
-    rw (← c.self.view_is) (λ _. record {
-      plain = rw (← c.self.view_is) at c.requires.plain;
-      there = rw (← c.self.view_is) at c.requires.actor;
-      number = refl;
-      idle = rw (← c.self.view_is) at c.requires.idle;
-      limit = omega (arith, c.if-from.false, c.from.ensures, c.from-2.ensures, c.from-3.ensures, c.limit.ensures.value, firing);
-      opens = sym (ap (first (is_closed a) plan.channels) c.deref.ensures.value) ∙ sym c.first_closed.ensures
-          ∙ none_of c.first_closed.result (sym c.is_some.ensures ∙ c.if-is_some.false);
-      supply = λ source. (let s = supply source in omega (arith, s, given, given_more plan a k n));
-      tokens = subst (λ x. HoldAll (tokens_in c.self.inside.pool) x (inputs_at plan.channels a)) needed (c.if-not-hold_all.ensures refl);
-      room = subst (λ x. HaveRoomFor plan.channels (tokens_in c.self.inside.pool) x (outputs_at plan.channels a)) given (c.if-not-have_room.ensures refl);
-      firings = rw (← c.self.view_is) at (c.if-not-may_begin.ensures refl);
-      cells = omega (arith, cells, given);
-    })
+    let supply = rw (← c.self.view_is) at (c.if-not-has_supply.ensures.0 refl) in
+    let cells = rw (← c.self.view_is) at (c.if-not-has_cells.ensures.0 refl) in
+    rw (← c.self.view_is) (
+      λ _. record {
+        plain = rw (← c.self.view_is) at c.requires.plain;
+        there = rw (← c.self.view_is) at c.requires.actor;
+        number = refl;
+        idle = rw (← c.self.view_is) at c.requires.idle;
+        limit = omega (arith, c.if-from.false, c.from.ensures, c.from-2.ensures, c.from-3.ensures, c.limit.ensures.value, firing);
+        opens = sym (ap (first (is_closed a) plan.channels) c.deref.ensures.value) ∙ sym c.first_closed.ensures
+            ∙ none_of c.first_closed.result (sym c.is_some.ensures ∙ c.if-is_some.false);
+        supply = λ source. (let s = supply source in omega (arith, s, given, given_more plan a k n));
+        tokens = subst (λ x. HoldAll (tokens_in c.self.inside.pool) x (inputs_at plan.channels a)) needed (c.if-not-hold_all.ensures.0 refl);
+        room = subst (λ x. HaveRoomFor plan.channels (tokens_in c.self.inside.pool) x (outputs_at plan.channels a)) given (c.if-not-have_room.ensures.0 refl);
+        firings = rw (← c.self.view_is) at (c.if-not-may_begin.ensures.0 refl);
+        cells = omega (arith, cells, given);
+      },
+      λ _. refl,
+    )
+
+pub returns-then-not-has_supply : goal.returns-then-not-has_supply
+returns-then-not-has_supply c =
+    let p : Present = now_in c.self.inside in
+    let plan : Plan = c.self.inside.layout in
+    let a : ℕ = c.args.actor in
+    let n : ℕ = c.args.n in
+    let k : ℕ = count p a in
+    let firing : c.turn-turn.result.firing ≡ k = rw (← c.self.view_is) at c.turn-turn.ensures.firing in
+    let given : c.look_ahead-ahead.result.given ≡ gifts_of plan.channels a k n = c.look_ahead-ahead.ensures.given
+    ∙ ap (λ (x : ℕ). gifts_of plan.channels a x n) firing in
+    let short = rw (← c.self.view_is) at c.if-not-has_supply.ensures.1 in
+    rw (← c.self.view_is)
+    (λ e. absurd (cc), λ h. short (λ source. (let s = h.supply source in omega (arith, s, given, given_more plan a k n))))
