@@ -1,7 +1,8 @@
 -- The value of a kernel: the tokens that one firing writes, from its counts and the tokens that it read alone.
 -- The kernels are nodes of synchronous dataflow graphs (Lee and Messerschmitt 1987), the filter is a finite impulse response by
 -- direct convolution (Oppenheim and Schafer, Discrete-Time Signal Processing).
-use Rattle.std.specs.Prelude.{ℕ, ◌+◌, ◌%◌, ◌^◌, ◌≤◌, List, length, map, fold, sum, flat_map, replicate, slice_index_or, ℤ, pos, ◌+ℤ◌, ◌*ℤ◌}
+use Rattle.std.specs.Prelude.{ℕ, zero, suc, ◌+◌, ◌%◌, ◌^◌, ◌≤◌, List, [], ◌++◌, length, map, fold, sum, flat_map, replicate, take, drop, slice_index_or}
+use Rattle.std.specs.Prelude.{ℤ, pos, ◌+ℤ◌, ◌*ℤ◌}
 use Rattle.std.specs.List.{range_with_len}
 use Rattle.std.specs.Int.{w32, saturate_signed, int_div_euclid}
 use Rattle.csdf_model.specs.declared.parts.Kernel.{Kernel}
@@ -46,6 +47,11 @@ value_of Sink counts xs = replicate (sum counts) (pos 0)
 value_of Copy counts xs = flat_map (places (copy_token xs)) counts
 value_of Sum counts xs = replicate (sum counts) (clamp (total xs))
 value_of (Fir weights taps shift) counts xs = flat_map (places (filter_token weights taps shift xs)) counts
+
+-- what n firings of the same counts write, end to end, where each has the next `need` of the tokens
+abbrev pub values_of : Kernel → List ℕ → ℕ → ℕ → List ℤ → List ℤ
+values_of kernel counts need zero xs = []
+values_of kernel counts need (suc n) xs = value_of kernel counts (take need xs) ++ values_of kernel counts need n (drop need xs)
 
 -- a filter has at most 16 taps, and shifts by at most 31
 abbrev pub HasFilterInRange : Kernel → Type 0

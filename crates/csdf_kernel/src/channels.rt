@@ -12,7 +12,8 @@ use crate::outputs::Outputs;
 #[tactic(auto, using(crate::proofs::PlaceLemmas::one_place))]
 pub(crate) fn push_source(outputs: &mut Outputs, count: usize, inputs: &[i32])
     requires { HasRoomFor outputs.old count }
-    ensures { outputs.new.items ≡ outputs.old.items ++ places (token_at inputs.now) count }
+    ensures items { outputs.new.items ≡ outputs.old.items ++ places (token_at inputs.now) count }
+    ensures capacity { outputs.new.capacity ≡ outputs.old.capacity }
 {
     for place in 0..count {
         outputs.push_reserved(token(inputs, place));
@@ -34,8 +35,9 @@ pub fn push_same(outputs: &mut Outputs, count: usize, same: i32)
 #[tactic(auto, using(crate::proofs::PlaceLemmas::one_channel))]
 pub(crate) fn push_copies(outputs: &mut Outputs, counts: &[u32], inputs: &[i32])
     requires { HasRoomFor outputs.old (sum counts.now) }
-    ensures { outputs.new.items ≡ outputs.old.items
+    ensures items { outputs.new.items ≡ outputs.old.items
         ++ flat_map (places (copy_token inputs.now)) counts.now }
+    ensures capacity { outputs.new.capacity ≡ outputs.old.capacity }
 {
     for count in counts {
         push_copy(outputs, *count as usize, inputs);
@@ -81,8 +83,9 @@ pub(crate) fn push_filtered(
     requires room { HasRoomFor outputs.old (sum counts.now) }
     requires few { sum counts.now ≤ 8192 }
     requires in_range { IsInRange filter.now.weights.now filter.now.taps filter.now.shift filter.now.small }
-    ensures { outputs.new.items ≡ outputs.old.items
+    ensures items { outputs.new.items ≡ outputs.old.items
         ++ flat_map (places (filter_token filter.now.weights.now filter.now.taps filter.now.shift inputs.now)) counts.now }
+    ensures capacity { outputs.new.capacity ≡ outputs.old.capacity }
 {
     for count in counts {
         push_filter(outputs, *count as usize, filter, inputs);

@@ -1,6 +1,7 @@
 //! The outputs of a job, in one list.
-ghost use Rattle.std.specs.Prelude.{◌≡◌, ◌≤◌, ◌<◌, ◌^◌, length, sum, All, IsOk, OnOk, OnErr};
-ghost use Rattle.csdf_kernel.specs.Value.{value_of, HasFilterInRange};
+ghost use Rattle.std.specs.Prelude.{◌≡◌, ◌≤◌, ◌<◌, ◌^◌, ◌*◌, ◌++◌, [], length, sum, All, IsOk, OnOk, OnErr};
+ghost use Rattle.smallvec.specs.SmallVec.{HasRoomFor};
+ghost use Rattle.csdf_kernel.specs.Value.{value_of, values_of, HasFilterInRange};
 
 use crate::channels::{push_copies, push_filtered, push_same, push_source};
 use crate::filter::Filter;
@@ -20,10 +21,52 @@ fn total_of(counts: &[u32]) -> usize
     counts.iter().sum::<u32>() as usize
 }
 
+/// The kernel's value, at the end of a list that has room for it.
+#[tactic(auto, unfolding(crate::specs::Value::value_of))]
+fn push_value(outputs: &mut Outputs, kernel: &Kernel, counts: &[u32], inputs: &[i32])
+    requires few_counts { length counts.now ≤ 128 }
+    requires small_counts { All (λ count. count ≤ 64) counts.now }
+    requires few_inputs { length inputs.now ≤ 8192 }
+    requires filter_in_range { HasFilterInRange kernel.now }
+    requires room { HasRoomFor outputs.old (sum counts.now) }
+    ensures items { outputs.new.items ≡ outputs.old.items ++ value_of kernel.now counts.now inputs.now }
+    ensures capacity { outputs.new.capacity ≡ outputs.old.capacity }
+{
+    let count = total_of(counts);
+    match kernel {
+        Kernel::Source => push_source(outputs, count, inputs),
+        Kernel::Sink => push_same(outputs, count, 0),
+        Kernel::Copy => push_copies(outputs, counts, inputs),
+        Kernel::Sum => push_same(outputs, count, clamped(sum_of(inputs))),
+        Kernel::Fir {
+            weights,
+            taps,
+            shift,
+        } => {
+            let filter = Filter::new(weights, *taps, *shift);
+            push_filtered(outputs, counts, &filter, inputs);
+        }
+    }
+}
+
+/// Room for so many tokens in the place of what the list holds, which is let go.
+///
+/// An error says that memory ran out; then the list is as it was.
+fn make_room(outputs: &mut Outputs, count: usize) -> Result<(), AllocError>
+    ensures room { OnOk result (HasRoomFor outputs.new count) }
+    ensures items { OnOk result (outputs.new.items ≡ []) }
+    ensures unchanged { OnErr result (outputs.new ≡ outputs.old) }
+    ensures fits { count ≤ outputs.old.capacity → IsOk result }
+{
+    let more = count.saturating_sub(outputs.len());
+    outputs.reserve_exact(more)?;
+    outputs.clear();
+    Ok(())
+}
+
 /// The kernel's value, in the place of what the list holds.
 ///
 /// An error says that memory ran out; then the list is as it was.
-#[tactic(auto, unfolding(crate::specs::Value::value_of))]
 pub(crate) fn outputs_into(
     kernel: &Kernel,
     counts: &[u32],
@@ -38,23 +81,37 @@ pub(crate) fn outputs_into(
     ensures unchanged { OnErr result (outputs.new ≡ outputs.old) }
     ensures room { sum counts.now ≤ outputs.old.capacity → IsOk result }
 {
-    let count = total_of(counts);
-    let more = count.saturating_sub(outputs.len());
-    outputs.reserve_exact(more)?;
-    outputs.clear();
-    match kernel {
-        Kernel::Source => push_source(outputs, count, inputs),
-        Kernel::Sink => push_same(outputs, count, 0),
-        Kernel::Copy => push_copies(outputs, counts, inputs),
-        Kernel::Sum => push_same(outputs, count, clamped(sum_of(inputs))),
-        Kernel::Fir {
-            weights,
-            taps,
-            shift,
-        } => {
-            let filter = Filter::new(weights, *taps, *shift);
-            push_filtered(outputs, counts, &filter, inputs);
-        }
+    make_room(outputs, total_of(counts))?;
+    push_value(outputs, kernel, counts, inputs);
+    Ok(())
+}
+
+/// The kernel's values of so many firings of the same counts, end to end, in the place of what the
+/// list holds. Each firing has the next `need` of the inputs.
+///
+/// An error says that memory ran out; then the list is as it was.
+pub(crate) fn values_into(
+    kernel: &Kernel,
+    counts: &[u32],
+    need: usize,
+    firings: u32,
+    inputs: &[i32],
+    outputs: &mut Outputs,
+) -> Result<(), AllocError>
+    requires few_counts { length counts.now ≤ 128 }
+    requires small_counts { All (λ count. count ≤ 64) counts.now }
+    requires few_inputs { need ≤ 8192 }
+    requires filter_in_range { HasFilterInRange kernel.now }
+    requires whole { firings * need ≤ length inputs.now }
+    ensures values { OnOk result (outputs.new.items ≡ values_of kernel.now counts.now need firings inputs.now) }
+    ensures unchanged { OnErr result (outputs.new ≡ outputs.old) }
+    ensures room { firings * sum counts.now ≤ outputs.old.capacity → IsOk result }
+{
+    make_room(outputs, firings as usize * total_of(counts))?;
+    let mut at = 0;
+    for _firing in 0..firings {
+        push_value(outputs, kernel, counts, &inputs[at..at + need]);
+        at += need;
     }
     Ok(())
 }
