@@ -58,7 +58,7 @@ in_range k (suc n) c le lt = elim (eqb_tells k c) [
 ]
 
 -- the mark of a channel that was looked at, and that of its producer
-marked : (b was over over2 idle : Bool) → was ≡ true → over2 ≡ over → idle ≡ true → b ≡ (was && not (true && over)) → b ≡ not (idle && over2)
+pub marked : (b was over over2 idle : Bool) → was ≡ true → over2 ≡ over → idle ≡ true → b ≡ (was && not (true && over)) → b ≡ not (idle && over2)
 marked b was over over2 idle e f g is = is ∙ ap (λ o. o && not (true && over)) e ∙ ap not (sym f) ∙ ap (λ i. not (i && over2)) (sym g)
 
 -- all that were due are closed
@@ -123,7 +123,7 @@ other_mark plan plan2 p q c same counts open_mark at was =
     ∙ ap (λ b. not (is_stage (stage p (producer plan c)) Idle && b)) (sym over)
     ∙ ap (λ (x : Stage). not (is_stage x Idle && is_over plan2 q (producer plan2 c))) (sym (ap (stage q) maker ∙ at))
 
-or_both : (b c : Bool) → b ≡ false → c ≡ false → (b || c) ≡ false
+pub or_both : (b c : Bool) → b ≡ false → c ≡ false → (b || c) ≡ false
 or_both true c e f = absurd (cc)
 or_both false c e f = f
 
@@ -168,12 +168,12 @@ between_taken old new a k between may taken =
 -- ---- a delivery
 
 -- whether an actor makes no firing more is told by its own count
-over_at : (plan plan2 : Plan) (p q : Present) (a : ℕ) → plan2 ≡ plan → count q a ≡ count p a → is_over plan2 q a ≡ is_over plan p a
+pub over_at : (plan plan2 : Plan) (p q : Present) (a : ℕ) → plan2 ≡ plan → count q a ≡ count p a → is_over plan2 q a ≡ is_over plan p a
 over_at plan plan2 p q a same counts =
     ap (λ (u : Plan). is_over u q a) same
     ∙ ap (λ n. nat_le (slice_index plan.limits a) n || (is_source plan a && nat_lt (slice_index plan.supplies a) (given plan a (suc n)))) counts
 
-and_true : (b : Bool) → (b && true) ≡ b
+pub and_true : (b : Bool) → (b && true) ≡ b
 and_true true = refl
 and_true false = refl
 

@@ -72,7 +72,7 @@ honest_from w s kept (a ∷ actors) len ok =
     (honest_cons w s3 kept2 (Finish a) ms (record { accepted = o4.0; just = tt })
     (honest_from w (fired w s a) kept2 actors (length-set kept a read ∙ len) o4.1))))
 
-get_length : (feeds : List (List ℤ)) (i : ℕ) → get_or (map length feeds) i 0 ≡ length (get_or feeds i [])
+pub get_length : (feeds : List (List ℤ)) (i : ℕ) → get_or (map length feeds) i 0 ≡ length (get_or feeds i [])
 get_length [] i = refl
 get_length (x ∷ feeds) zero = refl
 get_length (x ∷ feeds) (suc i) = get_length feeds i

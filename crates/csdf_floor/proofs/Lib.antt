@@ -24,3 +24,5 @@ pub mod Sames
 pub mod Reports
 pub mod Settles
 pub mod Honestly
+pub mod Makings
+pub mod MadeFloors

@@ -8,3 +8,4 @@ pub mod Inside
 pub mod Outcome
 pub mod Report
 pub mod Periods
+pub mod Making

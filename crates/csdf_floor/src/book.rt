@@ -1,34 +1,38 @@
 //! A core, and the moves that brought it where it is.
 
-ghost use Rattle.std.specs.Prelude.{ℕ, ◌≡◌, ◌≢◌, ◌↔◌, IsTrue, All, ◌+◌, ◌<◌, ◌≤◌, [], ◌∷◌, None, true, false, pos, IfOk, OnOk, IsOk, length, map};
-ghost use Rattle.std.specs.Prelude.{replicate, slice_range, suc, slice_index, slice_index_or};
+ghost use Rattle.std.specs.Prelude.{ℕ, ◌≡◌, ◌≢◌, ◌↔◌, IsTrue, All, ◌+◌, ◌<◌, ◌≤◌, [], ◌∷◌, None, true, false, pos, IfOk, OnOk, OnErr, IsOk, length, map};
+ghost use Rattle.std.specs.Prelude.{replicate, slice_range, suc, slice_index, slice_index_or, ◌*◌};
 ghost use Rattle.std.specs.List.{range_with_len};
 ghost use Rattle.csdf_model.specs.declared.parts.Kernel.TheVariants.{Sink};
 ghost use Rattle.csdf_core.specs.declared.stage.Stage.TheVariants.{Idle, Begun, Fetched, Written};
+ghost use Rattle.csdf_core.specs.Blocks.{CanFire, AreReadEach, needs_of};
 ghost use Rattle.csdf_core.specs.Moves.{Begin, Read, Write, Finish, Close};
+ghost use Rattle.csdf_core.specs.Phases.{HasPhases};
 ghost use Rattle.csdf_core.specs.Plan.{Channel as ChannelModel};
 ghost use Rattle.csdf_core.specs.Ports.{outputs_at};
-ghost use Rattle.csdf_core.specs.Rows.{need};
+ghost use Rattle.csdf_core.specs.Rows.{need, gift};
 ghost use Rattle.csdf_core.specs.Shows.{Shows};
 ghost use Rattle.csdf_core.specs.State.{opening, present};
-ghost use Rattle.csdf_core.specs.Step.{count, given, stage, refusal, is_over, producer};
+ghost use Rattle.csdf_core.specs.Step.{count, given, is_source, stage, refusal, is_over, producer};
 ghost use Rattle.csdf_journal.specs.View.{is_kept};
 ghost use Rattle.csdf_kernel.specs.Value.{HasFilterInRange};
 ghost use Rattle.csdf_floor.specs.Journal.{IsHonest, inputs, output_counts, value, reads_of, state_of};
 ghost use Rattle.csdf_floor.specs.Work.{IsWork, program, feed_of, feeds_in, is_sink_kernel};
 ghost use Rattle.csdf_floor.specs.Floor.{IsUnderWay, task_of};
 ghost use Rattle.csdf_floor.specs.Outcome.{report_of, report_on};
+ghost use Rattle.csdf_floor.specs.Making.{HasMade, made_moves, made_value};
 ghost use Rattle.csdf_floor.specs.Inside.{AreClosed, HasGiven, HasRoom, HasTaken, IsBook, IsNext, is_due};
 
 use crate::certain;
 use crate::jobs::{blank, refill};
 use crate::lists::Lists;
+use crate::making::note_firings;
 use crate::outcome::ChannelReport;
 use crate::same::{are_same_tokens, is_same_kernel};
 use crate::work::Work;
-use csdf_core::{Core, Stage};
+use csdf_core::{Block, Core, Stage};
 use csdf_journal::{Journal, Keeping};
-use csdf_kernel::{Counts, Inputs, Job};
+use csdf_kernel::{Counts, Inputs, Job, Outputs, eval_block};
 use csdf_model::Kernel;
 use std::alloc::{AllocError, Global};
 use std::marker::Model;
@@ -169,6 +173,8 @@ impl Book {
     /// Makes room for a copy of so many tokens, those of the next move where it is a write.
     fn reserve_copy(&mut self, alloc: Global, tokens: usize) -> Result<(), AllocError>
         ensures shown { self.new.shown ≡ self.old.shown }
+        ensures rooms { self.new.rooms ≡ self.old.rooms }
+        ensures reads { self.new.reads ≡ self.old.reads }
         ensures width { OnOk result (tokens ≤ self.new.width) }
         ensures takes_nothing { self.old.shown.keeps ≡ false → IsOk result }
     {
@@ -312,6 +318,219 @@ impl Book {
         let _ = &self.work;
         self.write(actor, tokens);
         self.finish(actor);
+    }
+
+    /// Makes the buffer of the actor, which is idle, this long.
+    fn fit_length(&mut self, actor: u32, needed: usize) -> Result<(), AllocError>
+        requires exists { actor < length self.old.shown.core.plan.sources }
+        requires idle { stage self.old.shown.core.now actor ≡ Idle }
+        ensures shown { self.new.shown ≡ self.old.shown }
+        ensures rooms { self.new.rooms ≡ self.old.rooms }
+        ensures room { self.new.room ≡ self.old.room }
+        ensures buffer { OnOk result (length (slice_index_or self.new.reads actor []) ≡ needed) }
+    {
+        self.reads[actor as usize].resize(needed, 0)
+    }
+
+    /// Makes room in the actor's list, where it is a sink, for so many tokens.
+    fn reserve_taken(&mut self, actor: u32, needed: usize) -> Result<(), AllocError>
+        requires { actor < length self.old.shown.core.plan.sources }
+        ensures shown { self.new.shown ≡ self.old.shown }
+        ensures reads { self.new.reads ≡ self.old.reads }
+        ensures room { self.new.room ≡ self.old.room }
+        ensures sink { OnOk result (is_sink_kernel (slice_index_or (program self.old.shown.work).kernels actor Sink) ≡ true
+            → needed ≤ slice_index self.new.rooms actor) }
+    {
+        if !self.work.is_sink(actor) {
+            return Ok(());
+        }
+        self.sinks.reserve(actor, needed)
+    }
+
+    /// Copies what the actor's next n firings read into its buffer, which is as long.
+    fn peek(&mut self, actor: u32, n: u32)
+        requires can { CanFire self.old.shown.core.plan self.old.shown.core.now actor n }
+        requires buffer { length (slice_index_or self.old.reads actor [])
+            ≡ needs_of self.old.shown.core.plan.channels actor (count self.old.shown.core.now actor) n }
+        ensures shown { self.new.shown ≡ self.old.shown }
+        ensures rooms { self.new.rooms ≡ self.old.rooms }
+        ensures room { self.new.room ≡ self.old.room }
+        ensures width { self.new.width ≡ self.old.width }
+        ensures buffer { length (slice_index_or self.new.reads actor []) ≡ length (slice_index_or self.old.reads actor []) }
+        ensures read { AreReadEach self.old.shown.core.plan self.old.shown.core.now actor (count self.old.shown.core.now actor) n
+            (slice_index_or self.new.reads actor []) }
+    {
+        let buffer = &mut self.reads[actor as usize];
+        self.core.peek(actor, n, buffer.as_mut_slice());
+    }
+
+    /// The kernel's values of the actor's next n firings, which read what is in its buffer, in the
+    /// place of what the outputs hold. The actor is no source.
+    fn values_into(
+        &self,
+        actor: u32,
+        n: u32,
+        counts: &mut Counts,
+        outputs: &mut Outputs,
+    ) -> Result<(), AllocError>
+        requires exists { actor < length self.now.shown.core.plan.sources }
+        requires other { is_source (program self.now.shown.work).plan actor ≡ false }
+        requires phases { HasPhases self.now.shown.core.plan.channels actor 1 }
+        requires buffer { length (slice_index_or self.now.reads actor [])
+            ≡ needs_of self.now.shown.core.plan.channels actor (count self.now.shown.core.now actor) n }
+        ensures { OnOk result (outputs.new.items ≡ made_value (program self.now.shown.work) actor (count self.now.shown.core.now actor) n
+            (slice_index_or self.now.reads actor [])) }
+    {
+        self.work
+            .counts_into(actor, self.core.fired(actor), counts)?;
+        let kernel = self.work.kernel(actor);
+        let need = self.core.need(actor);
+        let buffer = &self.reads[actor as usize];
+        eval_block(&kernel, counts.as_slice(), need, n, buffer, outputs)
+    }
+
+    /// The kernel's values of the next n firings of a source, which are there in its file, in the place
+    /// of what the outputs hold.
+    fn feed_values_into(
+        &self,
+        actor: u32,
+        n: u32,
+        counts: &mut Counts,
+        outputs: &mut Outputs,
+    ) -> Result<(), AllocError>
+        requires can { CanFire self.now.shown.core.plan self.now.shown.core.now actor n }
+        requires source { is_source (program self.now.shown.work).plan actor ≡ true }
+        requires phases { HasPhases self.now.shown.core.plan.channels actor 1 }
+        ensures { OnOk result (outputs.new.items ≡ made_value (program self.now.shown.work) actor (count self.now.shown.core.now actor) n
+            (slice_index_or self.now.reads actor [])) }
+    {
+        self.work
+            .counts_into(actor, self.core.fired(actor), counts)?;
+        let kernel = self.work.kernel(actor);
+        let each = self.core.gives(actor);
+        let used = self.core.written(actor) as usize;
+        let feed = self.work.part(actor, used, n as usize * each);
+        eval_block(&kernel, counts.as_slice(), each, n, feed, outputs)
+    }
+
+    /// The kernel's values of the actor's next n firings, whose tokens are in its buffer.
+    fn block_values_into(
+        &self,
+        actor: u32,
+        n: u32,
+        counts: &mut Counts,
+        outputs: &mut Outputs,
+    ) -> Result<(), AllocError>
+        requires can { CanFire self.now.shown.core.plan self.now.shown.core.now actor n }
+        requires phases { HasPhases self.now.shown.core.plan.channels actor 1 }
+        requires buffer { length (slice_index_or self.now.reads actor [])
+            ≡ needs_of self.now.shown.core.plan.channels actor (count self.now.shown.core.now actor) n }
+        ensures { OnOk result (outputs.new.items ≡ made_value (program self.now.shown.work) actor (count self.now.shown.core.now actor) n
+            (slice_index_or self.now.reads actor [])) }
+    {
+        if self.work.is_source(actor) {
+            return self.feed_values_into(actor, n, counts, outputs);
+        }
+        self.values_into(actor, n, counts, outputs)
+    }
+
+    /// Makes the actor's next n firings, each of which writes so many tokens: the kernel's values of
+    /// what is in the actor's buffer, which is what they read.
+    fn fire(&mut self, actor: u32, n: u32, each: usize, tokens: &[i32])
+        requires can { CanFire self.old.shown.core.plan self.old.shown.core.now actor n }
+        requires phases { HasPhases self.old.shown.core.plan.channels actor 1 }
+        requires each { each ≡ gift actor (count self.old.shown.core.now actor) self.old.shown.core.plan.channels }
+        requires keeps { self.old.shown.keeps ≡ false }
+        requires room { 4 * n ≤ self.old.room }
+        requires width { each ≤ self.old.width }
+        requires buffer { length (slice_index_or self.old.reads actor [])
+            ≡ needs_of self.old.shown.core.plan.channels actor (count self.old.shown.core.now actor) n }
+        requires read { AreReadEach self.old.shown.core.plan self.old.shown.core.now actor (count self.old.shown.core.now actor) n
+            (slice_index_or self.old.reads actor []) }
+        requires sink { is_sink_kernel (slice_index_or (program self.old.shown.work).kernels actor Sink) ≡ true
+            → needs_of self.old.shown.core.plan.channels actor (count self.old.shown.core.now actor) n ≤ slice_index self.old.rooms actor }
+        requires just { tokens.now ≡ made_value (program self.old.shown.work) actor (count self.old.shown.core.now actor) n
+            (slice_index_or self.old.reads actor []) }
+        ensures made { HasMade self.old.shown self.new.shown actor n (made_moves self.old.shown actor n) }
+        ensures room { self.old.room ≤ self.new.room + 4 * n }
+    {
+        self.core.fire(actor, n, tokens);
+        let is_sink = self.work.is_sink(actor);
+        let buffer = &self.reads[actor as usize];
+        self.sinks.append_where(is_sink, actor, buffer);
+        note_firings(&mut self.journal, actor, n, each, tokens);
+    }
+
+    /// How many of its next firings the actor can make at once, at most so many: 0 where the journal
+    /// is kept, and for an actor of several phases, inputs or outputs.
+    pub(crate) fn block(&self, actor: u32, most: u32) -> Block
+        requires { actor < length self.now.shown.core.plan.sources }
+        ensures most { result.firings ≤ most }
+        ensures can { 0 < result.firings → CanFire self.now.shown.core.plan self.now.shown.core.now actor result.firings }
+        ensures needed { 0 < result.firings → result.needed
+            ≡ needs_of self.now.shown.core.plan.channels actor (count self.now.shown.core.now actor) result.firings }
+        ensures keeps { 0 < result.firings → self.now.shown.keeps ≡ false }
+        ensures phases { 0 < result.firings → HasPhases self.now.shown.core.plan.channels actor 1 }
+    {
+        if self.journal.keeps() || !self.core.has_one_phase(actor) {
+            return Block {
+                firings: 0,
+                needed: 0,
+                given: 0,
+            };
+        }
+        self.core.block(actor, most)
+    }
+
+    /// Makes room for the actor's next n firings, which read so many tokens, and the closing of its
+    /// outputs. The journal is not kept.
+    fn make_room_for(
+        &mut self,
+        alloc: Global,
+        actor: u32,
+        n: u32,
+        needed: usize,
+    ) -> Result<(), AllocError>
+        requires exists { actor < length self.old.shown.core.plan.sources }
+        requires idle { stage self.old.shown.core.now actor ≡ Idle }
+        ensures shown { self.new.shown ≡ self.old.shown }
+        ensures buffer { OnOk result (length (slice_index_or self.new.reads actor []) ≡ needed) }
+        ensures sink { OnOk result (is_sink_kernel (slice_index_or (program self.old.shown.work).kernels actor Sink) ≡ true
+            → needed ≤ slice_index self.new.rooms actor) }
+        ensures width { OnOk result (gift actor (count self.old.shown.core.now actor) self.old.shown.core.plan.channels ≤ self.new.width) }
+        ensures room { OnOk result (4 * n + length (outputs_at self.old.shown.core.plan.channels actor) ≤ self.new.room) }
+    {
+        self.fit_length(actor, needed)?;
+        self.reserve_taken(actor, needed)?;
+        let each = self.core.gives(actor);
+        let closes = self.output_count(actor);
+        self.reserve_copy(alloc, each)?;
+        self.reserve(4 * n as usize + closes)
+    }
+
+    /// Makes the actor's next n firings at once, which read so many tokens.
+    pub(crate) fn make(
+        &mut self,
+        actor: u32,
+        n: u32,
+        needed: usize,
+        counts: &mut Counts,
+        outputs: &mut Outputs,
+    ) -> Result<(), AllocError>
+        requires can { CanFire self.old.shown.core.plan self.old.shown.core.now actor n }
+        requires needed { needed ≡ needs_of self.old.shown.core.plan.channels actor (count self.old.shown.core.now actor) n }
+        requires keeps { self.old.shown.keeps ≡ false }
+        requires phases { HasPhases self.old.shown.core.plan.channels actor 1 }
+        ensures made { OnOk result (HasMade self.old.shown self.new.shown actor n (made_moves self.old.shown actor n)) }
+        ensures room { OnOk result (length (outputs_at self.old.shown.core.plan.channels actor) ≤ self.new.room) }
+        ensures unchanged { OnErr result (self.new.shown ≡ self.old.shown) }
+    {
+        self.make_room_for(*outputs.allocator(), actor, n, needed)?;
+        self.peek(actor, n);
+        self.block_values_into(actor, n, counts, outputs)?;
+        let each = self.core.gives(actor);
+        self.fire(actor, n, each, outputs.as_slice());
+        Ok(())
     }
 
     /// Closes the channel, whose producer is idle and makes no firing more.

@@ -12,6 +12,7 @@ ghost use Rattle.csdf_kernel.specs.Value.{HasFilterInRange, value_of};
 ghost use Rattle.csdf_floor.specs.declared.fault.DeliverFault.TheVariants.{Memory};
 ghost use Rattle.csdf_floor.specs.Journal.{IsHonest};
 ghost use Rattle.csdf_floor.specs.Work.{AreFeeds, feeds_in, program};
+ghost use Rattle.csdf_floor.specs.Making.{made_moves, closes_made};
 ghost use Rattle.csdf_floor.specs.Outcome.{HasTotals, IsEndOf, IsOutcome, journal_in};
 ghost use Rattle.csdf_floor.specs.Floor.{HasGone, IsFloor, IsReady, IsStartAnswer, IsUnderWay, IsDeliverAnswer, closes, closes_after, ending_of};
 ghost use Rattle.csdf_floor.specs.Floor.{present_task, start_refusal, task_of};
@@ -24,7 +25,7 @@ use crate::work::Work;
 use csdf_analysis::Accepted;
 use csdf_core::{Core, Move};
 use csdf_journal::Keeping;
-use csdf_kernel::{Done, Job};
+use csdf_kernel::{Counts, Done, Job, Outputs};
 use std::alloc::{AllocError, Global};
 use std::marker::Model;
 
@@ -214,6 +215,41 @@ impl Floor {
         job.actor = actor;
         job.firing = firing;
         Ok(())
+    }
+
+    /// Makes some of the actor's next firings at once, at most so many, where it stands at this
+    /// firing, and closes its outputs where it makes no firing more. It answers how many they are: 0
+    /// where the journal is kept, and for an actor of several phases, inputs or outputs, whose firings
+    /// are to be started and delivered one by one.
+    ///
+    /// The refusals are those of [`Floor::start`]. The lists are only worked in.
+    pub fn make(
+        &mut self,
+        actor: u32,
+        firing: u32,
+        most: u32,
+        counts: &mut Counts,
+        outputs: &mut Outputs,
+    ) -> Result<u32, StartFault>
+        ensures answer { IsStartAnswer (start_refusal self.old actor firing) result }
+        ensures most { IfOk result (λ n. n ≤ most) }
+        ensures gone { IfOk result (λ n. 0 < n → HasGone self.old self.new (made_moves self.old actor n ++ closes_made self.old actor n)) }
+        ensures none { IfOk result (λ n. n ≡ 0 → self.new ≡ self.old) }
+        ensures unchanged { OnErr result (self.new ≡ self.old) }
+    {
+        if let Some(refused) = self.start_refusal(actor, firing) {
+            return Err(refused);
+        }
+        let block = self.book.block(actor, most);
+        let n = block.firings;
+        if n == 0 {
+            return Ok(0);
+        }
+        self.book
+            .make(actor, n, block.needed as usize, counts, outputs)?;
+        let producer = actor;
+        self.book.close_outputs(producer);
+        Ok(n)
     }
 
     /// Takes the result of a firing that is under way: its tokens are written, the firing ends, and

@@ -10,6 +10,7 @@ mod floor;
 mod jobs;
 mod laws;
 mod lists;
+mod making;
 mod outcome;
 mod printed;
 mod same;

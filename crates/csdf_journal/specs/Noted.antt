@@ -1,5 +1,5 @@
 -- The move that a note is of.
-use Rattle.std.specs.Prelude.{List, [], ℤ}
+use Rattle.std.specs.Prelude.{Bool, true, false, List, [], ℤ}
 use Rattle.csdf_core.specs.Moves.{Move}
 use Rattle.csdf_core.specs.Moves.{Begin, Read, Write, Finish, Close}
 use Rattle.csdf_journal.specs.declared.note.Note.{Note}
@@ -19,3 +19,10 @@ tokens_in (Read a) = []
 tokens_in (Write a v) = v
 tokens_in (Finish a) = []
 tokens_in (Close c) = []
+
+abbrev pub is_write : Move → Bool
+is_write (Begin a) = false
+is_write (Read a) = false
+is_write (Write a v) = true
+is_write (Finish a) = false
+is_write (Close c) = false

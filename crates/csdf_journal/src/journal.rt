@@ -44,7 +44,7 @@ impl Model for Journal {
 }
 
 impl Journal {
-    ghost use Rattle.csdf_journal.specs.Noted.{noted, tokens_in};
+    ghost use Rattle.csdf_journal.specs.Noted.{noted, tokens_in, is_write};
 
     /// A journal of no moves, which keeps them or does not.
     pub fn new(alloc: Global, keeping: Keeping) -> Journal
@@ -124,6 +124,8 @@ impl Journal {
         ensures moves { self.new.moves ≡ self.old.moves ++ noted note.now ∷ [] }
         ensures keeps { self.new.keeps ≡ self.old.keeps }
         ensures room { self.old.room ≤ self.new.room + 1 }
+        ensures width { is_write (noted note.now) ≡ false → self.new.width ≡ self.old.width }
+        ensures width_stays { self.old.keeps ≡ false → self.new.width ≡ self.old.width }
     {
         if self.keeps() {
             self.moves.push_reserved(note.to_move(&mut self.spare));
@@ -138,6 +140,7 @@ impl Journal {
         ensures moves { self.new.moves ≡ self.old.moves ++ Begin actor ∷ [] }
         ensures keeps { self.new.keeps ≡ self.old.keeps }
         ensures room { self.old.room ≤ self.new.room + 1 }
+        ensures width { self.new.width ≡ self.old.width }
     {
         self.note(&Note::Begin(actor));
     }
@@ -149,6 +152,7 @@ impl Journal {
         ensures moves { self.new.moves ≡ self.old.moves ++ Read actor ∷ [] }
         ensures keeps { self.new.keeps ≡ self.old.keeps }
         ensures room { self.old.room ≤ self.new.room + 1 }
+        ensures width { self.new.width ≡ self.old.width }
     {
         self.note(&Note::Read(actor));
     }
@@ -161,6 +165,7 @@ impl Journal {
         ensures moves { self.new.moves ≡ self.old.moves ++ Write actor tokens.now ∷ [] }
         ensures keeps { self.new.keeps ≡ self.old.keeps }
         ensures room { self.old.room ≤ self.new.room + 1 }
+        ensures width_stays { self.old.keeps ≡ false → self.new.width ≡ self.old.width }
     {
         self.note(&Note::Write(actor, tokens));
     }
@@ -172,6 +177,7 @@ impl Journal {
         ensures moves { self.new.moves ≡ self.old.moves ++ Finish actor ∷ [] }
         ensures keeps { self.new.keeps ≡ self.old.keeps }
         ensures room { self.old.room ≤ self.new.room + 1 }
+        ensures width { self.new.width ≡ self.old.width }
     {
         self.note(&Note::Finish(actor));
     }
@@ -183,6 +189,7 @@ impl Journal {
         ensures moves { self.new.moves ≡ self.old.moves ++ Close channel ∷ [] }
         ensures keeps { self.new.keeps ≡ self.old.keeps }
         ensures room { self.old.room ≤ self.new.room + 1 }
+        ensures width { self.new.width ≡ self.old.width }
     {
         self.note(&Note::Close(channel));
     }

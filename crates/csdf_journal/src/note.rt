@@ -1,9 +1,9 @@
 //! A move, with its tokens where they lie.
 
-ghost use Rattle.std.specs.Prelude.{◌≡◌, ◌++◌, ◌≤◌, [], length};
+ghost use Rattle.std.specs.Prelude.{◌≡◌, ◌++◌, ◌≤◌, [], false, length};
 ghost use Rattle.std.specs.Vec.{vec_capacity};
 ghost use Rattle.csdf_core.specs.Moves.{move_of};
-ghost use Rattle.csdf_journal.specs.Noted.{noted, tokens_in};
+ghost use Rattle.csdf_journal.specs.Noted.{noted, tokens_in, is_write};
 
 use csdf_core::Move;
 use std::mem;
@@ -51,6 +51,7 @@ impl Note<'_> {
         requires room { length (tokens_in (noted self.now)) ≤ vec_capacity spare.old }
         ensures value { move_of result ≡ noted self.now }
         ensures empty { spare.new.items ≡ [] }
+        ensures stays { is_write (noted self.now) ≡ false → spare.new ≡ spare.old }
     {
         match *self {
             Note::Begin(actor) => Move::Begin(actor),

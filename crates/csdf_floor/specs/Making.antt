@@ -1,0 +1,39 @@
+-- Several firings of one actor, made at once.
+use Rattle.std.specs.Prelude.{ℕ, zero, suc, ◌≡◌, ◌+◌, List, [], ◌∷◌, ◌++◌, ℤ, take, drop, slice_set, replicate}
+use Rattle.csdf_core.specs.Moves.{Move}
+use Rattle.csdf_core.specs.Moves.{Begin, Read, Write, Finish}
+use Rattle.csdf_core.specs.Rows.{need}
+use Rattle.csdf_core.specs.Step.{count}
+use Rattle.csdf_core.specs.Ports.{outputs_at}
+use Rattle.csdf_core.specs.State.{present}
+use Rattle.csdf_floor.specs.Floor.{FloorView, HasGone, closes}
+use Rattle.csdf_floor.specs.Journal.{Program, value, state_of}
+use Rattle.csdf_floor.specs.Sequential.{moves_from}
+use Rattle.csdf_floor.specs.Work.{program}
+
+-- the kernel's values of n firings from number k on, end to end, where these are the tokens that they read, end to end
+abbrev pub made_value : Program → ℕ → ℕ → ℕ → List ℤ → List ℤ
+made_value w a k zero tokens = []
+made_value w a k (suc n) tokens =
+    value w a k (take (need a k w.plan.channels) tokens) ++ made_value w a (suc k) n (drop (need a k w.plan.channels) tokens)
+
+-- the moves of n firings that each write so many of the tokens
+abbrev pub alike_of : ℕ → ℕ → ℕ → List ℤ → List Move
+alike_of a each zero v = []
+alike_of a each (suc n) v = Begin a ∷ Read a ∷ Write a (take each v) ∷ Finish a ∷ alike_of a each n (drop each v)
+
+-- the actor has made n firings more, of these moves, and nothing else has changed
+pub record HasMade (old new : FloorView) (a n : ℕ) (moves : List Move) : Type 0 where
+  pub gone : HasGone old new moves
+  pub plan : new.core.plan ≡ old.core.plan
+  pub counts : new.core.now.counts ≡ slice_set old.core.now.counts a (count old.core.now a + n)
+  pub stages : new.core.now.stages ≡ old.core.now.stages
+  pub opens : new.core.now.opens ≡ old.core.now.opens
+
+-- the moves of the actor's next n firings, each whole before the next begins, with the kernel's own values
+abbrev pub made_moves : FloorView → ℕ → ℕ → List Move
+made_moves f a n = moves_from (program f.work) (state_of (program f.work) f.journal) (replicate n a)
+
+-- the closes that follow them
+abbrev pub closes_made : FloorView → ℕ → ℕ → List Move
+closes_made f a n = closes f.core.plan (present (state_of (program f.work) (f.journal ++ made_moves f a n))) (outputs_at f.core.plan.channels a)
