@@ -1,5 +1,5 @@
 -- What the program tells of a graph file in answer to `csdf explain`: why it is refused, or that it is accepted.
-use Rattle.std.specs.Prelude.{◌≡◌, ◌⊎◌, ℕ, List, [], ◌++◌, Option, Some, None, Result, Ok, Err, MatchResult, codes, slice_get, slice_index, slice_index_or}
+use Rattle.std.specs.Prelude.{◌≡◌, ◌⊎◌, ℕ, List, [], ◌++◌, Option, Some, None, Result, Ok, Err, MatchResult, codes, if◌then◌else◌, nat_lt, slice_get, slice_index, slice_index_or, sum}
 use Rattle.std.specs.List.{enumerate_from, flat_map}
 use Rattle.std.specs.Fmt.{decimal}
 use Rattle.csdf_graph.specs.declared.fault.GraphFault.{GraphFault}
@@ -25,8 +25,19 @@ use Rattle.csdf_answers.specs.Printed.{newline, names_of, name_at}
 
 -- ---- texts
 
-abbrev pub accepted_text : List ℕ
-accepted_text = codes "accepted: a period completes, and can be repeated for ever\n"
+abbrev pub accepted_line : List ℕ
+accepted_line = codes "accepted: a period completes, and can be repeated for ever\n"
+
+-- that it is so with the cells that the capacities add up to, of which the file gives too few
+abbrev pub few_cells_text : ℕ → ℕ → List ℕ
+few_cells_text needed given =
+    codes "accepted: a period completes, and can be repeated for ever, with as many cells as the capacities add up to, "
+    ++ (decimal needed ++ (codes "\nthe file gives " ++ (decimal given ++ codes ": a run may end starved, for want of cells\n")))
+
+-- that a graph is accepted, by the cells that its capacities add up to and those that its file gives
+abbrev pub accepted_text : ℕ → Option ℕ → List ℕ
+accepted_text needed None = accepted_line
+accepted_text needed (Some given) = if nat_lt given needed then few_cells_text needed given else accepted_line
 
 -- so many cycles of the one to so many of the other
 abbrev pub asked_text : List ℕ → List ℕ → Ratio → List ℕ
@@ -103,7 +114,7 @@ TellsRefusal g accept.Memory text = ⊥
 -- what is told of a graph: that it is accepted, or why it is not
 abbrev pub ExplainsGraph : Graph → List ℕ → Type 0
 ExplainsGraph g text =
-    ((a : Accepted) × IsAccepted a × (a.graph ≡ g) × (text ≡ accepted_text))
+    ((a : Accepted) × IsAccepted a × (a.graph ≡ g) × (text ≡ accepted_text (sum a.capacities) g.cells))
     ⊎ ((refusal : AcceptFault) × IsNotAccepted g refusal × TellsRefusal g refusal text)
 
 -- what is told of a graph file that is refused: the line of its fault, and then what else there is to say of it

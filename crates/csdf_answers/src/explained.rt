@@ -1,6 +1,6 @@
 //! Why a graph file is refused, or that it is accepted: from its bytes to the explanation.
 
-ghost use Rattle.std.specs.Prelude.{◌≡◌, ◌≢◌, ◌⊎◌, ◌<◌, ◌++◌, ℕ, List, true, length, Ok, Err, string_bytes, IfErr, IfOk, OnOk};
+ghost use Rattle.std.specs.Prelude.{◌≡◌, ◌≢◌, ◌⊎◌, ◌<◌, ◌^◌, ◌++◌, ℕ, List, true, length, sum, Ok, Err, string_bytes, IfErr, IfOk, OnOk};
 ghost use Rattle.std.specs.Io.KnownBytes.{Appends};
 ghost use Rattle.csdf_analysis.specs.Acceptance.{IsNotAccepted};
 ghost use Rattle.csdf_analysis.specs.Demands.{IsDemand};
@@ -9,12 +9,14 @@ ghost use Rattle.csdf_answers.specs.Faults.{fault_of, fault_text};
 ghost use Rattle.csdf_answers.specs.Printed.{newline};
 ghost use Rattle.csdf_answers.specs.declared.fault.Stream.{Stream};
 
-use crate::explanation::{heading, push_waits, too_large_text, unbalanced_text};
+use crate::explanation::{accepted_text, heading, push_waits, too_large_text, unbalanced_text};
 use crate::fault::ToolFault;
 use crate::printed::name_at;
 use crate::question::actor_name;
 use crate::sending::send;
-use csdf_analysis::{AcceptFault, Bounds, Demand, accept, demand_of, repetition, stall_of};
+use csdf_analysis::{
+    AcceptFault, Accepted, Bounds, Demand, accept, demand_of, repetition, stall_of,
+};
 use csdf_graph::{Graph, GraphFault, Outlet, read_graph};
 use csdf_misfits::explain_fault;
 use std::alloc::{AllocError, Global};
@@ -83,17 +85,30 @@ fn tell_refusal(alloc: Global, graph: &Graph, fault: AcceptFault) -> Result<Stri
     }
 }
 
+/// The sum of the numbers.
+fn sum_of(numbers: &[u32]) -> u32
+    requires { sum numbers.now < 2 ^ 32 }
+    ensures { result ≡ sum numbers.now }
+{
+    numbers.iter().sum()
+}
+
+/// That the graph is accepted, and with how many cells where its file gives fewer.
+fn tell_accepted(alloc: Global, accepted: &Accepted) -> Result<String, AllocError>
+    ensures { IfOk result (λ text. string_bytes text ≡ accepted_text (sum accepted.now.capacities) accepted.now.graph.cells) }
+{
+    let needed = sum_of(accepted.capacities());
+    accepted_text(alloc, needed, accepted.graph().cells())
+}
+
 /// That the graph is accepted, or why not.
 fn tell_graph(alloc: Global, graph: Graph) -> Result<String, ToolFault>
     ensures told { IfOk result (λ text. ExplainsGraph graph (string_bytes text)) }
     ensures memory { IfErr result (λ fault. fault ≡ ToolFault.Memory) }
 {
     match accept(alloc, graph) {
-        Ok(_) => {
-            let text = String::from_str(
-                alloc,
-                "accepted: a period completes, and can be repeated for ever\n",
-            )?;
+        Ok(accepted) => {
+            let text = tell_accepted(alloc, &accepted)?;
             Ok(text)
         }
         Err((graph, fault)) => tell_refusal(alloc, &graph, fault),

@@ -1,10 +1,10 @@
 //! The text of an explanation: what is the matter with a graph.
 
-ghost use Rattle.std.specs.Prelude.{◌≡◌, ◌++◌, length, map, slice_index, string_bytes, IfOk, OnOk};
+ghost use Rattle.std.specs.Prelude.{◌≡◌, ◌++◌, Some, length, map, slice_index, string_bytes, IfOk, OnOk};
 ghost use Rattle.std.specs.List.{enumerate_from};
 ghost use Rattle.csdf_model.specs.Graph.{actor_view, channel_view};
 ghost use Rattle.csdf_answers.specs.Described.{actor_names};
-ghost use Rattle.csdf_answers.specs.Explained.{asked_text, before_text, heading, ratio_text, room_line, tokens_line, too_large_text, unbalanced_text};
+ghost use Rattle.csdf_answers.specs.Explained.{accepted_line, accepted_text, asked_text, before_text, few_cells_text, heading, ratio_text, room_line, tokens_line, too_large_text, unbalanced_text};
 ghost use Rattle.csdf_answers.specs.Explained.{wait_line, wait_lines, wait_text};
 ghost use Rattle.csdf_answers.specs.Printed.{names_of};
 
@@ -12,6 +12,52 @@ use crate::printed::name_at;
 use csdf_analysis::{Bounds, Demand, Ratio, Stall, Wait};
 use csdf_graph::{Actor, Channel};
 use std::alloc::{AllocError, Global};
+
+/// That a graph is accepted.
+fn accepted_line() -> &'static str
+    ensures { result.now ≡ accepted_line }
+{
+    "accepted: a period completes, and can be repeated for ever\n"
+}
+
+/// That a graph is accepted with the cells that its capacities add up to, and that the file gives
+/// too few.
+fn few_cells_text(alloc: Global, needed: u32, given: u32) -> Result<String, AllocError>
+    ensures { IfOk result (λ text. string_bytes text ≡ few_cells_text needed given) }
+{
+    let mut text = String::new(alloc);
+    write!(
+        text,
+        "accepted: a period completes, and can be repeated for ever, with as many cells as the capacities add up to, {needed}\nthe file gives {given}: a run may end starved, for want of cells\n"
+    )?;
+    Ok(text)
+}
+
+/// That a graph is accepted, where its file gives so many cells.
+fn accepted_with(alloc: Global, needed: u32, given: u32) -> Result<String, AllocError>
+    ensures { IfOk result (λ text. string_bytes text ≡ accepted_text needed (Some given)) }
+{
+    if given < needed {
+        few_cells_text(alloc, needed, given)
+    } else {
+        String::from_str(alloc, accepted_line())
+    }
+}
+
+/// That a graph is accepted, by the cells that its capacities add up to and those that its file
+/// gives.
+pub(crate) fn accepted_text(
+    alloc: Global,
+    needed: u32,
+    given: Option<u32>,
+) -> Result<String, AllocError>
+    ensures { IfOk result (λ text. string_bytes text ≡ accepted_text needed given) }
+{
+    match given {
+        Some(given) => accepted_with(alloc, needed, given),
+        None => String::from_str(alloc, accepted_line()),
+    }
+}
 
 /// Appends what a channel asks of its two actors.
 fn push_asked(text: &mut String, from: &str, to: &str, ratio: Ratio) -> Result<(), AllocError>

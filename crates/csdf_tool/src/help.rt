@@ -60,7 +60,8 @@ prints 'src 2 4' where the source src has two phases and makes four firings in a
 
 pub(crate) const SCHEDULE: &str = "\
 Prints an actor on each line, firing after firing: at each place the first one in file order that
-is able to fire under the least capacities and has firings of the period left.
+is able to fire under the least capacities and has firings of the period left. There are as many
+cells as these capacities add up to: with fewer, a run may end starved.
 
 Exit status: 0 answered, 1 the graph or its file was refused, as by csdf capacity, 2 these words
 were, 3 a file or memory failed.
@@ -70,8 +71,9 @@ counts how often an actor fires in a row.";
 
 pub(crate) const CAPACITY: &str = "\
 Answers whether the graph can run for ever in bounded channels, period after period, given as many
-cells as the capacities add up to. 'deadlock' says that no capacities let it, 'too tight' that none
-do which agree with those that the file gives.
+cells as the capacities add up to: where the file gives fewer, a run may end starved, and csdf
+explain says so. 'deadlock' says that no capacities let it, 'too tight' that none do which agree
+with those that the file gives.
 
 Least is lexicographically, in file order: the first channel gets the least capacity that it can
 have, then the second one, and so on. The total need not be the least: with the channels in another
@@ -102,4 +104,5 @@ Exit status: 0 explained, of a refused file too, 1 the file is too long, 2 these
 file or memory failed.
 
 Example: csdf explain graph.toml
-prints 'accepted: ..' where there is nothing to explain.";
+prints 'accepted: ..' where there is nothing to explain, and for how many cells that is so where
+the file gives fewer.";
