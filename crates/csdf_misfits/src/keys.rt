@@ -198,6 +198,16 @@ fn listed_keys(at: At) -> &'static str {
     }
 }
 
+/// What is wanted of a key that a table has not: a key of the file stands above all tables.
+fn wanted_for(at: At, key: &str) -> Wanted<'static> {
+    let is_of_file = FILE_KEYS.iter().any(|listed| listed.name == key);
+    if is_of_file && at != At::File {
+        Wanted::Words("it at the top of the file, above all tables")
+    } else {
+        Wanted::Words(listed_keys(at))
+    }
+}
+
 /// The first key of a table that is none of these.
 fn unlisted<'a>(table: &'a Table, keys: &[Key]) -> Option<&'a str> {
     for key in table.keys() {
@@ -284,7 +294,7 @@ pub(crate) fn shape_misfit(file: &Table, at: At) -> Option<Misfit<'_>> {
         return Some(Misfit {
             key,
             found: Found::Unlisted,
-            wanted: Wanted::Words(listed_keys(at)),
+            wanted: wanted_for(at, key),
         });
     }
     match unfit(table, keys_of(at)) {

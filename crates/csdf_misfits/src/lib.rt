@@ -11,7 +11,7 @@ mod rates;
 
 use crate::joined::push_unjoined;
 use crate::keys::shape_misfit;
-use crate::misfit::{Misfit, table_at};
+use crate::misfit::{Misfit, entries_at, listed, table_at};
 use crate::names::{end_misfit, name_misfit, name_of};
 use crate::numbers::range_misfit;
 use crate::ports::ports_misfit;
@@ -46,22 +46,86 @@ fn misfit_of(file: &Table, fault: GraphFault) -> Option<Misfit<'_>> {
     }
 }
 
-/// Appends the name of the actor or channel at a fault's place, where it has one.
-fn push_name(text: &mut String, file: &Table, place: At) -> Result<(), AllocError> {
-    let is_named = matches!(place, At::Actor(_) | At::Channel(_));
+/// Appends where a table without a name stands among those of its list.
+fn push_number(
+    text: &mut String,
+    file: &Table,
+    place: At,
+    list: &str,
+    number: u32,
+) -> Result<(), AllocError> {
+    let entries = entries_at(file, list);
+    let (nth, all) = (u64::from(number) + 1, entries.len());
+    write!(text, "{place} is number {nth} of {all}")?;
+    let before = entries.get((number as usize).wrapping_sub(1));
+    match before.and_then(|entry| name_of(entry.as_table())) {
+        Some(name) if is_name(name) => write!(text, ", after {name}\n"),
+        _ => text.push_str("\n"),
+    }
+}
+
+/// Appends which actor or channel a fault is at, where it is at one: its name, or its place where
+/// it has none.
+fn push_table(text: &mut String, file: &Table, place: At) -> Result<(), AllocError> {
+    let Some((list, number)) = listed(place) else {
+        return Ok(());
+    };
     match name_of(table_at(file, place)) {
-        Some(name) if is_named && is_name(name) => write!(text, "{place} is {name}\n"),
-        _ => Ok(()),
+        Some(name) if is_name(name) => write!(text, "{place} is {name}\n"),
+        _ => push_number(text, file, place, list, number),
     }
 }
 
 /// Appends what is wrong at the place of a fault.
 fn push_place(text: &mut String, file: &Table, fault: GraphFault) -> Result<(), AllocError> {
-    push_name(text, file, place_of(fault))?;
+    push_table(text, file, place_of(fault))?;
     match misfit_of(file, fault) {
         Some(misfit) => write!(text, "{misfit}\n"),
         None => Ok(()),
     }
+}
+
+/// The fault of the same check at another place, where it looks at such.
+fn moved(fault: GraphFault, place: At) -> Option<GraphFault> {
+    match (fault, place) {
+        (GraphFault::Shape(_), _) => Some(GraphFault::Shape(place)),
+        (GraphFault::Name(_), _) => Some(GraphFault::Name(place)),
+        (GraphFault::Range(_), _) => Some(GraphFault::Range(place)),
+        (GraphFault::UnknownActor(_), At::Channel(number)) => Some(GraphFault::UnknownActor(
+            number,
+        )),
+        (GraphFault::PhaseLength(_), At::Channel(number)) => Some(GraphFault::PhaseLength(number)),
+        (GraphFault::ZeroRate(_), At::Channel(number)) => Some(GraphFault::ZeroRate(number)),
+        (GraphFault::KernelPorts(_), At::Actor(number)) => Some(GraphFault::KernelPorts(number)),
+        _ => None,
+    }
+}
+
+/// Appends what the check of a fault finds at another place, where it finds something.
+fn push_other(
+    text: &mut String,
+    file: &Table,
+    fault: GraphFault,
+    place: At,
+) -> Result<(), AllocError> {
+    match moved(fault, place) {
+        Some(other) if other != fault && misfit_of(file, other).is_some() => {
+            push_place(text, file, other)
+        }
+        _ => Ok(()),
+    }
+}
+
+/// Appends what the check of a fault finds elsewhere, in the actors and channels that a graph may
+/// have.
+fn push_others(text: &mut String, file: &Table, fault: GraphFault) -> Result<(), AllocError> {
+    for number in 0..64 {
+        push_other(text, file, fault, At::Actor(number))?;
+    }
+    for number in 0..128 {
+        push_other(text, file, fault, At::Channel(number))?;
+    }
+    Ok(())
 }
 
 /// The bytes of the line in which this place is.
@@ -94,9 +158,10 @@ fn not_toml(alloc: Global, bytes: &[u8], error: &toml::de::Error) -> Result<Stri
 }
 
 /// What there is to say of a fault with which [`read_graph`](csdf_graph::read_graph) or
-/// [`read_script`](csdf_graph::read_script) refuses a graph file: the name of the table, the key,
-/// what was found there and what is wanted; for a text that is not TOML its line and column, and the
-/// line itself.
+/// [`read_script`](csdf_graph::read_script) refuses a graph file: the name of the table or its
+/// place, the key, what was found there and what is wanted, and the same of each other actor and
+/// channel at which the check fails; for a text that is not TOML its line and column, and the line
+/// itself.
 ///
 /// The error is want of memory.
 pub fn explain_fault(alloc: Global, bytes: &[u8], fault: GraphFault) -> Result<String, AllocError> {
@@ -104,6 +169,7 @@ pub fn explain_fault(alloc: Global, bytes: &[u8], fault: GraphFault) -> Result<S
         Ok(file) => {
             let mut text = String::new(alloc);
             push_place(&mut text, &file, fault)?;
+            push_others(&mut text, &file, fault)?;
             if fault == GraphFault::NotConnected {
                 push_unjoined(alloc, &mut text, &file)?;
             }

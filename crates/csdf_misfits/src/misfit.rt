@@ -4,6 +4,33 @@ use csdf_graph::At;
 use std::fmt;
 use toml::{Table, Value};
 
+/// A number of things, with the words for one and for several.
+#[derive(Drop)]
+struct Counted(usize, &'static str, &'static str);
+
+impl fmt::Display for Counted {
+    fn fmt<W: fmt::Write>(&self, f: &mut fmt::Formatter<W>) -> fmt::Result {
+        if self.0 == 1 {
+            write!(f, "{} {}", self.0, self.1)
+        } else {
+            write!(f, "{} {}", self.0, self.2)
+        }
+    }
+}
+
+/// Writes how many inputs and outputs there are.
+fn write_ports<W: fmt::Write>(
+    f: &mut fmt::Formatter<W>,
+    inputs: usize,
+    outputs: usize,
+) -> fmt::Result {
+    let (inputs, outputs) = (
+        Counted(inputs, "input", "inputs"),
+        Counted(outputs, "output", "outputs"),
+    );
+    write!(f, "{inputs} and {outputs}")
+}
+
 /// What stands at a key.
 #[derive(Clone, Copy)]
 pub(crate) enum Found<'a> {
@@ -15,6 +42,8 @@ pub(crate) enum Found<'a> {
     Entry(&'static str),
     Number(i64),
     Text(&'a str),
+    /// A name that the table at this place has.
+    Taken(&'a str, At),
     /// An array of so many entries.
     Entries(usize),
     Zeros,
@@ -31,9 +60,10 @@ impl fmt::Display for Found<'_> {
             Found::Entry(kind) => write!(f, "an entry of kind {kind}"),
             Found::Number(number) => write!(f, "{number}"),
             Found::Text(text) => write!(f, "{text:?}"),
-            Found::Entries(count) => write!(f, "{count} entries"),
+            Found::Taken(name, at) => write!(f, "{name:?}, the name of {at}"),
+            Found::Entries(count) => write!(f, "{}", Counted(*count, "entry", "entries")),
             Found::Zeros => f.write_str("zeros alone"),
-            Found::Ports(inputs, outputs) => { write!(f, "{inputs} inputs and {outputs} outputs") }
+            Found::Ports(inputs, outputs) => write_ports(f, *inputs, *outputs),
         }
     }
 }
@@ -79,6 +109,15 @@ impl fmt::Display for Misfit<'_> {
 /// The table of a list with this number.
 fn listed_at<'a>(file: &'a Table, list: &str, number: u32) -> Option<&'a Table> {
     file.get(list)?.as_array()?.get(number as usize)?.as_table()
+}
+
+/// The list that the table at a place is in, and its number there.
+pub(crate) fn listed(at: At) -> Option<(&'static str, u32)> {
+    match at {
+        At::Actor(number) => Some(("actor", number)),
+        At::Channel(number) => Some(("channel", number)),
+        At::File | At::Script => None,
+    }
 }
 
 /// The table at a place.

@@ -1,6 +1,6 @@
 //! Names of a wrong form, names that stand twice, and ends that name no actor.
 
-use crate::misfit::{Found, Misfit, Wanted, entries_at, table_at};
+use crate::misfit::{Found, Misfit, Wanted, entries_at, listed, table_at};
 use csdf_graph::{At, is_name};
 use toml::Table;
 
@@ -9,17 +9,42 @@ pub(crate) fn name_of(table: Option<&Table>) -> Option<&str> {
     table?.get("name")?.as_str()
 }
 
+/// A table of the same list.
+fn beside(at: At, number: u32) -> At {
+    match at {
+        At::Actor(_) => At::Actor(number),
+        At::Channel(_) => At::Channel(number),
+        At::File | At::Script => at,
+    }
+}
+
+/// The earlier table of the same list that has this name.
+fn earlier(file: &Table, at: At, name: &str) -> Option<At> {
+    let (list, number) = listed(at)?;
+    let place = entries_at(file, list)
+        .iter()
+        .position(|entry| name_of(entry.as_table()) == Some(name))?;
+    let first = u32::try_from(place).ok()?;
+    if first < number {
+        Some(beside(at, first))
+    } else {
+        None
+    }
+}
+
 /// Why a name is refused: its form, or that an earlier table has it.
 pub(crate) fn name_misfit(file: &Table, at: At) -> Option<Misfit<'_>> {
     let name = name_of(table_at(file, at))?;
-    let words = if is_name(name) {
-        "a name that no earlier table has"
+    let (found, words) = if is_name(name) {
+        let taken = Found::Taken(name, earlier(file, at, name)?);
+        (taken, "a name that no earlier table has")
     } else {
-        "a letter, then at most 31 letters, digits or underscores"
+        let words = "a letter, then at most 31 letters, digits or underscores";
+        (Found::Text(name), words)
     };
     Some(Misfit {
         key: "name",
-        found: Found::Text(name),
+        found,
         wanted: Wanted::Words(words),
     })
 }

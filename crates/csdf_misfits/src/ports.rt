@@ -21,6 +21,15 @@ fn count_at(file: &Table, end: &str, actor: &str) -> usize {
         .count()
 }
 
+/// Whether these are the channels that a kernel asks.
+fn are_fit(kernel: &str, inputs: usize, outputs: usize) -> bool {
+    match kernel {
+        "source" => inputs == 0 && outputs >= 1,
+        "sink" => inputs >= 1 && outputs == 0,
+        _ => inputs >= 1 && outputs >= 1,
+    }
+}
+
 /// What a kernel asks, in words.
 fn asked_of(kernel: &str) -> &'static str {
     match kernel {
@@ -35,9 +44,13 @@ pub(crate) fn ports_misfit(file: &Table, number: u32) -> Option<Misfit<'_>> {
     let actor = table_at(file, At::Actor(number))?;
     let name = name_of(Some(actor))?;
     let kernel = actor.get("kernel")?.as_str()?;
+    let (inputs, outputs) = (count_at(file, "to", name), count_at(file, "from", name));
+    if are_fit(kernel, inputs, outputs) {
+        return None;
+    }
     Some(Misfit {
         key: "kernel",
-        found: Found::Ports(count_at(file, "to", name), count_at(file, "from", name)),
+        found: Found::Ports(inputs, outputs),
         wanted: Wanted::Words(asked_of(kernel)),
     })
 }

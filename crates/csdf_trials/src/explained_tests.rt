@@ -73,12 +73,12 @@ const CASES: [Case; 20] = [
     Case {
         old: "name = \"snk\"",
         new: "name = \"s-k\"",
-        told: "name: found \"s-k\", wanted a letter, then at most 31 letters, digits or underscores\n",
+        told: "actor 1 is number 2 of 2, after src\nname: found \"s-k\", wanted a letter, then at most 31 letters, digits or underscores\n",
     },
     Case {
         old: "name = \"snk\"",
         new: "name = \"src\"",
-        told: "actor 1 is src\nname: found \"src\", wanted a name that no earlier table has\n",
+        told: "actor 1 is src\nname: found \"src\", the name of actor 0, wanted a name that no earlier table has\n",
     },
     Case {
         old: "phases = 2",
@@ -108,7 +108,7 @@ const CASES: [Case; 20] = [
     Case {
         old: "[2, 1]",
         new: "[3]",
-        told: "channel 0 is x\nproduce: found 1 entries, wanted 2, one for each phase of src\n",
+        told: "channel 0 is x\nproduce: found 1 entry, wanted 2, one for each phase of src\n",
     },
     Case {
         old: "[3]",
@@ -118,7 +118,7 @@ const CASES: [Case; 20] = [
     Case {
         old: "\"sink\"",
         new: "\"source\"",
-        told: "actor 1 is snk\nkernel: found 1 inputs and 0 outputs, wanted no input and at least one output, as a source has\n",
+        told: "actor 1 is snk\nkernel: found 1 input and 0 outputs, wanted no input and at least one output, as a source has\n",
     },
     Case {
         old: "{ name = \"snk\", kernel = \"sink\" },",
