@@ -446,15 +446,6 @@ impl Core {
         self.layout.phases(actor) == 1
     }
 
-    /// Whether each firing of the actor moves as much as any other: each of its lists of rates has
-    /// one entry.
-    pub fn has_one_phase(&self, actor: u32) -> bool
-        requires { actor < length self.now.plan.sources }
-        ensures { IsTrue result → HasPhases self.now.plan.channels actor 1 }
-    {
-        self.layout.phases(actor) == 1
-    }
-
     /// The tests that move on with n.
     fn finds_all(&self, actor: u32, n: u32) -> bool
         requires actor { actor < length self.now.plan.sources }
