@@ -2,7 +2,6 @@
 use Rattle.std.proofs.Common.{◌≡◌, ℕ, ◌<◌, ◌++◌, List, length, get_or, map, refl, ap, sym, ◌∙◌, arith}
 use Rattle.std.proofs.lemmas.List.{get_or-map, length-map}
 use Rattle.std.proofs.lemmas.Option.{slice_get_read}
-use Rattle.std.specs.List.{enumerate_from}
 use Rattle.csdf_model.specs.declared.parts.Actor.{Actor as ActorCode}
 use Rattle.csdf_model.specs.declared.parts.Channel.{Channel as ChannelCode}
 use Rattle.csdf_model.specs.Graph.{Actor, Channel, Graph, actor_view, channel_view}
@@ -10,17 +9,25 @@ use Rattle.csdf_analysis.specs.declared.demand.Demand.{Demand}
 use Rattle.csdf_analysis.specs.declared.stall.Bounds.{Bounds}
 use Rattle.csdf_analysis.specs.declared.stall.Stall.{Stall}
 use Rattle.csdf_analysis.specs.Demands.{IsDemand}
+use Rattle.csdf_answers.specs.Circle.{circle, waiting_but}
 use Rattle.csdf_answers.specs.Described.{actor_names}
-use Rattle.csdf_answers.specs.Explained.{TellsUnbalanced, heading, stall_text, unbalanced_text, wait_lines}
+use Rattle.csdf_answers.specs.Explained.{TellsUnbalanced, circle_text, heading, others_text, stall_text, unbalanced_text, waits_text}
 use Rattle.csdf_answers.specs.Printed.{names_of, name_at}
 
+pub waits_told : (actors : List Actor) (channels : List Channel) (s : Stall) (these others : List ℕ)
+    → these ≡ circle channels s.waits.items → others ≡ waiting_but these 0 s.waits.items
+    → circle_text actors channels s these ++ others_text actors channels s others ≡ waits_text actors channels s
+waits_told actors channels s these others these_is others_is =
+    ap (λ them. circle_text actors channels s these ++ others_text actors channels s them) others_is
+    ∙ ap (λ them. circle_text actors channels s them ++ others_text actors channels s (waiting_but them 0 s.waits.items)) these_is
+
 pub stall_told : (g : Graph) (actors : List ActorCode) (channels : List ChannelCode) (bounds : Bounds) (s : Stall) (text head : List ℕ)
-    → text ≡ head ++ wait_lines (names_of (map channel_view channels)) s (enumerate_from 0 (actor_names (map actor_view actors))) → head ≡ heading bounds
+    → text ≡ head ++ waits_text (map actor_view actors) (map channel_view channels) s → head ≡ heading bounds
     → map actor_view actors ≡ g.actors → map channel_view channels ≡ g.channels → text ≡ stall_text g bounds s
 stall_told g actors channels bounds s text head told head_is seen_actors seen_channels =
-    told ∙ ap (λ h. h ++ wait_lines (names_of (map channel_view channels)) s (enumerate_from 0 (actor_names (map actor_view actors)))) head_is
-    ∙ ap (λ (cs : List Channel). heading bounds ++ wait_lines (names_of cs) s (enumerate_from 0 (actor_names (map actor_view actors)))) seen_channels
-    ∙ ap (λ (them : List Actor). heading bounds ++ wait_lines (names_of g.channels) s (enumerate_from 0 (actor_names them))) seen_actors
+    told ∙ ap (λ h. h ++ waits_text (map actor_view actors) (map channel_view channels) s) head_is
+    ∙ ap (λ (cs : List Channel). heading bounds ++ waits_text (map actor_view actors) cs s) seen_channels
+    ∙ ap (λ (them : List Actor). heading bounds ++ waits_text them g.channels s) seen_actors
 
 pub unbalanced_told : (g : Graph) (actors : List ActorCode) (channels : List ChannelCode) (c : ℕ) (channel : ChannelCode) (d : Demand)
     (text name from to : List ℕ)

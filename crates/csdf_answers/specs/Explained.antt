@@ -1,9 +1,9 @@
 -- What the program tells of a graph file in answer to `csdf explain`: why it is refused, or that it is accepted.
-use Rattle.std.specs.Prelude.{◌≡◌, ◌⊎◌, ℕ, List, [], ◌++◌, Option, Some, None, Result, Ok, Err, MatchResult, codes, if◌then◌else◌, nat_lt, slice_get, slice_index, slice_index_or, sum}
-use Rattle.std.specs.List.{enumerate_from, flat_map}
+use Rattle.std.specs.Prelude.{◌≡◌, ◌⊎◌, ℕ, List, [], ◌++◌, Option, Some, None, Result, Ok, Err, MatchResult, codes, if◌then◌else◌, nat_lt, ◌==◌, ◌-◌, length, take, slice_get, slice_index, slice_index_or, sum}
+use Rattle.std.specs.List.{flat_map}
 use Rattle.std.specs.Fmt.{decimal}
 use Rattle.csdf_graph.specs.declared.fault.GraphFault.{GraphFault}
-use Rattle.csdf_model.specs.Graph.{Channel, Graph}
+use Rattle.csdf_model.specs.Graph.{Actor, Channel, Graph}
 use Rattle.csdf_graph.specs.GraphText.{IsGraphOf}
 use Rattle.csdf_analysis.specs.declared.demand.Demand.{Demand}
 use Rattle.csdf_analysis.specs.declared.demand.Ratio.{Ratio}
@@ -19,6 +19,7 @@ use Rattle.csdf_analysis.specs.Demands.{IsDemand}
 use Rattle.csdf_analysis.specs.Repetition.{IsRepetition}
 use Rattle.csdf_analysis.specs.Stalling.{IsStall, bounds_for}
 use Rattle.csdf_answers.specs.declared.fault.ToolFault.{ToolFault}
+use Rattle.csdf_answers.specs.Circle.{circle, waiting_but}
 use Rattle.csdf_answers.specs.Described.{actor_names}
 use Rattle.csdf_answers.specs.Faults.{fault_of, fault_text}
 use Rattle.csdf_answers.specs.Printed.{newline, names_of, name_at}
@@ -81,13 +82,40 @@ abbrev pub wait_text : List (List ℕ) → List ℕ → List ℕ → List ℕ �
 wait_text names held bounds actor None = []
 wait_text names held bounds actor (Some w) = wait_line names held bounds actor w
 
--- the lines of all actors in order
-abbrev pub wait_lines : List (List ℕ) → Stall → List (ℕ × List ℕ) → List ℕ
-wait_lines names s rows =
-    flat_map (λ row. wait_text names s.held.items s.bounds.items row.1 (slice_index_or s.waits.items row.0 None)) rows
+-- the lines of the actors with these numbers
+abbrev pub wait_lines : List Actor → List Channel → Stall → List ℕ → List ℕ
+wait_lines actors channels s numbers = flat_map (λ a. wait_text (names_of channels) s.held.items s.bounds.items
+    (name_at (actor_names actors) a) (slice_index_or s.waits.items a None)) numbers
+
+-- how many more there are
+abbrev pub more_line : ℕ → List ℕ
+more_line count = codes "and " ++ (decimal count ++ codes " more\n")
+
+-- the lines of the first ten, and how many more there are
+abbrev pub some_lines : List Actor → List Channel → Stall → List ℕ → List ℕ
+some_lines actors channels s numbers =
+    if nat_lt 10 (length numbers) then wait_lines actors channels s (take 10 numbers) ++ more_line (length numbers - 10)
+    else wait_lines actors channels s numbers
+
+abbrev pub beside_text : List Actor → List Channel → Stall → List ℕ → List ℕ
+beside_text actors channels s numbers = codes "so these wait too:\n" ++ some_lines actors channels s numbers
+
+-- those that wait beside the circle, where some do
+abbrev pub others_text : List Actor → List Channel → Stall → List ℕ → List ℕ
+others_text actors channels s numbers = if length numbers == 0 then [] else beside_text actors channels s numbers
+
+abbrev pub circle_text : List Actor → List Channel → Stall → List ℕ → List ℕ
+circle_text actors channels s numbers =
+    codes "each of these waits for the next one, and the last for the first:\n" ++ wait_lines actors channels s numbers
+
+-- the circle that keeps the others waiting, and then these
+abbrev pub waits_text : List Actor → List Channel → Stall → List ℕ
+waits_text actors channels s =
+    let these = circle channels s.waits.items in
+    circle_text actors channels s these ++ others_text actors channels s (waiting_but these 0 s.waits.items)
 
 abbrev pub stall_text : Graph → Bounds → Stall → List ℕ
-stall_text g bounds s = heading bounds ++ wait_lines (names_of g.channels) s (enumerate_from 0 (actor_names g.actors))
+stall_text g bounds s = heading bounds ++ waits_text g.actors g.channels s
 
 -- ---- explanations
 

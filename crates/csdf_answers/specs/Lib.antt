@@ -1,3 +1,4 @@
+pub mod Circle
 pub mod Described
 pub mod Drawing
 pub mod Explained

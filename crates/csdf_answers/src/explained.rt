@@ -9,7 +9,7 @@ ghost use Rattle.csdf_answers.specs.Faults.{fault_of, fault_text};
 ghost use Rattle.csdf_answers.specs.Printed.{newline};
 ghost use Rattle.csdf_answers.specs.declared.fault.Stream.{Stream};
 
-use crate::explanation::{accepted_text, heading, push_waits, too_large_text, unbalanced_text};
+use crate::explanation::{accepted_text, heading, push_stall, too_large_text, unbalanced_text};
 use crate::fault::ToolFault;
 use crate::printed::name_at;
 use crate::question::actor_name;
@@ -63,7 +63,7 @@ fn tell_stall(alloc: Global, graph: &Graph, bounds: Bounds) -> Result<String, To
     };
     let stall = stall_of(alloc, graph, &vector, bounds)?;
     let mut text = String::from_str(alloc, heading(bounds))?;
-    push_waits(&mut text, graph.actors(), graph.channels(), &stall)?;
+    push_stall(alloc, &mut text, graph.actors(), graph.channels(), &stall)?;
     Ok(text)
 }
 

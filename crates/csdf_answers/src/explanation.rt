@@ -1,13 +1,13 @@
 //! The text of an explanation: what is the matter with a graph.
 
 ghost use Rattle.std.specs.Prelude.{◌≡◌, ◌++◌, Some, length, map, slice_index, string_bytes, IfOk, OnOk};
-ghost use Rattle.std.specs.List.{enumerate_from};
 ghost use Rattle.csdf_model.specs.Graph.{actor_view, channel_view};
 ghost use Rattle.csdf_answers.specs.Described.{actor_names};
 ghost use Rattle.csdf_answers.specs.Explained.{accepted_line, accepted_text, asked_text, before_text, few_cells_text, heading, ratio_text, room_line, tokens_line, too_large_text, unbalanced_text};
-ghost use Rattle.csdf_answers.specs.Explained.{wait_line, wait_lines, wait_text};
-ghost use Rattle.csdf_answers.specs.Printed.{names_of};
+ghost use Rattle.csdf_answers.specs.Explained.{beside_text, circle_text, more_line, others_text, some_lines, wait_line, wait_lines, wait_text, waits_text};
+ghost use Rattle.csdf_answers.specs.Printed.{name_at, names_of};
 
+use crate::circle::{circle_of, wait_at, waiting_but};
 use crate::printed::name_at;
 use csdf_analysis::{Bounds, Demand, Ratio, Stall, Wait};
 use csdf_graph::{Actor, Channel};
@@ -209,20 +209,138 @@ fn push_wait(
     }
 }
 
-/// Appends a line for each actor that waits.
-pub(crate) fn push_waits(
+/// The name of the actor with this number; the empty text where there is none.
+fn name_of(actors: &[Actor], number: usize) -> &str
+    ensures { result.now ≡ name_at (actor_names (map actor_view actors.now)) number }
+{
+    match actors.get(number) {
+        Some(actor) => actor.name.as_str(),
+        None => "",
+    }
+}
+
+/// Appends the lines of the actors with these numbers.
+fn push_waits(
+    text: &mut String,
+    actors: &[Actor],
+    channels: &[Channel],
+    stall: &Stall,
+    numbers: &[usize],
+) -> Result<(), AllocError>
+    ensures { OnOk result (string_bytes text.new ≡ string_bytes text.old
+        ++ wait_lines (map actor_view actors.now) (map channel_view channels.now) stall.now numbers.now) }
+{
+    for number in numbers {
+        let wait = wait_at(&stall.waits, *number);
+        push_wait(text, channels, stall, name_of(actors, *number), wait)?;
+    }
+    Ok(())
+}
+
+/// Appends how many more there are.
+fn push_more(text: &mut String, count: usize) -> Result<(), AllocError>
+    ensures { OnOk result (string_bytes text.new ≡ string_bytes text.old ++ more_line count) }
+{
+    write!(text, "and {count} more\n")
+}
+
+/// Appends the lines of the first ten of the actors with these numbers, and how many more there are.
+fn push_some(
+    text: &mut String,
+    actors: &[Actor],
+    channels: &[Channel],
+    stall: &Stall,
+    numbers: &[usize],
+) -> Result<(), AllocError>
+    ensures { OnOk result (string_bytes text.new ≡ string_bytes text.old
+        ++ some_lines (map actor_view actors.now) (map channel_view channels.now) stall.now numbers.now) }
+{
+    let count = numbers.len();
+    if count > 10 {
+        push_waits(text, actors, channels, stall, &numbers[..10])?;
+        push_more(text, count - 10)
+    } else {
+        push_waits(text, actors, channels, stall, numbers)
+    }
+}
+
+/// Appends the lines of actors that wait beside the circle.
+fn push_beside(
+    text: &mut String,
+    actors: &[Actor],
+    channels: &[Channel],
+    stall: &Stall,
+    numbers: &[usize],
+) -> Result<(), AllocError>
+    ensures { OnOk result (string_bytes text.new ≡ string_bytes text.old
+        ++ beside_text (map actor_view actors.now) (map channel_view channels.now) stall.now numbers.now) }
+{
+    text.push_str("so these wait too:\n")?;
+    push_some(text, actors, channels, stall, numbers)
+}
+
+/// Appends the lines of those that wait beside the circle, where some do.
+fn push_others(
+    text: &mut String,
+    actors: &[Actor],
+    channels: &[Channel],
+    stall: &Stall,
+    numbers: &[usize],
+) -> Result<(), AllocError>
+    ensures { OnOk result (string_bytes text.new ≡ string_bytes text.old
+        ++ others_text (map actor_view actors.now) (map channel_view channels.now) stall.now numbers.now) }
+{
+    if numbers.len() == 0 {
+        Ok(())
+    } else {
+        push_beside(text, actors, channels, stall, numbers)
+    }
+}
+
+/// Appends the lines of the circle.
+fn push_circle(
+    text: &mut String,
+    actors: &[Actor],
+    channels: &[Channel],
+    stall: &Stall,
+    numbers: &[usize],
+) -> Result<(), AllocError>
+    ensures { OnOk result (string_bytes text.new ≡ string_bytes text.old
+        ++ circle_text (map actor_view actors.now) (map channel_view channels.now) stall.now numbers.now) }
+{
+    text.push_str("each of these waits for the next one, and the last for the first:\n")?;
+    push_waits(text, actors, channels, stall, numbers)
+}
+
+/// Appends the lines of the circle, and of those that wait beside it.
+fn push_both(
+    text: &mut String,
+    actors: &[Actor],
+    channels: &[Channel],
+    stall: &Stall,
+    these: &[usize],
+    others: &[usize],
+) -> Result<(), AllocError>
+    ensures { OnOk result (string_bytes text.new ≡ string_bytes text.old
+        ++ (circle_text (map actor_view actors.now) (map channel_view channels.now) stall.now these.now
+        ++ others_text (map actor_view actors.now) (map channel_view channels.now) stall.now others.now)) }
+{
+    push_circle(text, actors, channels, stall, these)?;
+    push_others(text, actors, channels, stall, others)
+}
+
+/// Appends the circle that keeps the others waiting, and then these.
+pub(crate) fn push_stall(
+    alloc: Global,
     text: &mut String,
     actors: &[Actor],
     channels: &[Channel],
     stall: &Stall,
 ) -> Result<(), AllocError>
-    requires { length stall.now.waits.items ≡ length actors.now }
-    ensures { OnOk result (string_bytes text.new ≡ string_bytes text.old ++ wait_lines (names_of (map channel_view channels.now)) stall.now
-        (enumerate_from 0 (actor_names (map actor_view actors.now)))) }
+    ensures { OnOk result (string_bytes text.new ≡ string_bytes text.old
+        ++ waits_text (map actor_view actors.now) (map channel_view channels.now) stall.now) }
 {
-    for (number, actor) in actors.iter().enumerate() {
-        let wait = stall.waits[number];
-        push_wait(text, channels, stall, actor.name.as_str(), wait)?;
-    }
-    Ok(())
+    let these = circle_of(alloc, channels, &stall.waits)?;
+    let others = waiting_but(alloc, &these, &stall.waits)?;
+    push_both(text, actors, channels, stall, &these, &others)
 }

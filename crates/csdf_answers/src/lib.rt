@@ -2,6 +2,7 @@
 //! moves of a script, the answers to questions about the graph, and why a graph file is refused.
 #![tactic(auto)]
 
+mod circle;
 mod described;
 mod drawing;
 mod explained;

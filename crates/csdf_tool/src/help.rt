@@ -98,7 +98,8 @@ makes a picture of the graph, where Graphviz is installed.";
 pub(crate) const EXPLAIN: &str = "\
 Prints more than the fault line of a graph file that another command refuses: the key, what was
 found there and what is wanted; what an unbalanced channel asks of its actors, and what those before
-it ask; which actors wait where a run stands still, for the tokens of a channel or for room in it.
+it ask; which actors wait for one another where a run stands still, each for the tokens of a channel
+or for room in it.
 
 Exit status: 0 explained, of a refused file too, 1 the file is too long, 2 these words were, 3 a
 file or memory failed.

@@ -9,6 +9,6 @@ returns-clause-told c = (
   c.in_ok-stall.stall,
   c.in-Ok.ensures.vector,
   c.in_ok-stall.ensures,
-  stall_told c.args.graph.now _ _ c.args.bounds c.in_ok-stall.stall _ _ c.in_ok-push_waits.ensures (c.in_ok-text.ensures.ok ∙ c.heading.ensures)
+  stall_told c.args.graph.now _ _ c.args.bounds c.in_ok-stall.stall _ _ c.in_ok-push_stall.ensures (c.in_ok-text.ensures.ok ∙ c.heading.ensures)
       c.actors.ensures.value c.channels.ensures.value,
 )

@@ -1,0 +1,13 @@
+use Rattle.std.proofs.Common.{map}
+use Rattle.csdf_model.specs.Graph.{channel_view}
+use Rattle.csdf_answers.proofs.CircleLemmas.{round_ends, round_on}
+use Rattle.csdf_answers.proofs.circle.circle_at.Goals as goal
+
+pub loop-preserved : goal.loop-preserved
+loop-preserved c = round_on (map channel_view c.args.channels.now) c.args.waits.now c.loop.index c.args.first c.loop.actor c.awaited-actor.result
+    c.loop.found.items _ _ c.loop-test.true c.awaited-actor.ensures c.if-actor-first.false c.in_ok-push.ensures.items c.loop.invariant
+
+pub returns-then-actor-first : goal.returns-then-actor-first
+returns-then-actor-first c =
+    round_ends (map channel_view c.args.channels.now) c.args.waits.now c.loop.index c.args.first c.loop.actor c.awaited-actor.result
+    c.loop.found.items _ _ c.loop-test.true c.awaited-actor.ensures c.if-actor-first.true c.in_ok-push.ensures.items c.loop.invariant
