@@ -386,7 +386,7 @@ impl Book {
         let kernel = self.work.kernel(actor);
         let need = self.core.need(actor);
         let buffer = &self.reads[actor as usize];
-        eval_block(&kernel, counts.as_slice(), need, n, buffer, outputs)
+        eval_block(kernel, counts.as_slice(), need, n, buffer, outputs)
     }
 
     /// The kernel's values of the next n firings of a source, which are there in its file, in the place
@@ -410,7 +410,7 @@ impl Book {
         let each = self.core.gives(actor);
         let used = self.core.written(actor) as usize;
         let feed = self.work.part(actor, used, n as usize * each);
-        eval_block(&kernel, counts.as_slice(), each, n, feed, outputs)
+        eval_block(kernel, counts.as_slice(), each, n, feed, outputs)
     }
 
     /// The kernel's values of the actor's next n firings, whose tokens are in its buffer.

@@ -66,7 +66,7 @@ returns c =
     let counts : c.as_slice.result.now ≡ output_counts w c.args.actor (k at) = c.as_slice.ensures ∙ c.in_ok-counts_into.ensures.value
     ∙ ap (output_counts w c.args.actor) c.fired.ensures.value in
     let tokens : List ℤ = get_or (feeds_in c.self.inside.reads.items) c.args.actor [] in
-    let whole : values_of c.kernel-kernel.result c.as_slice.result.now c.gives-each.result c.args.n c.part-feed.result.now
+    let whole : values_of c.kernel-kernel.result.now c.as_slice.result.now c.gives-each.result c.args.n c.part-feed.result.now
     ≡ made_value w c.args.actor (k at) c.args.n tokens =
     ap (λ (x : Kernel). values_of x c.as_slice.result.now c.gives-each.result c.args.n c.part-feed.result.now) c.kernel-kernel.ensures.value
     ∙ ap₂ (λ (ns : List ℕ) (m : ℕ). values_of (get_or w.kernels c.args.actor Sink) ns m c.args.n c.part-feed.result.now) counts (each at)

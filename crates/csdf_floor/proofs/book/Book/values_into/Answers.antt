@@ -53,7 +53,7 @@ returns c =
     ∙ ap (λ (u : Plan). need c.args.actor k u.channels) c.self.invariant.kept.plan in
     let phases : HasPhases (program c.self.inside.work).plan.channels c.args.actor 1 =
     subst (λ (u : Plan). HasPhases u.channels c.args.actor 1) c.self.invariant.kept.plan (has at) in
-    let whole : values_of c.kernel-kernel.result c.as_slice.result.now c.need-need.result c.args.n c.deref.result.now
+    let whole : values_of c.kernel-kernel.result.now c.as_slice.result.now c.need-need.result c.args.n c.deref.result.now
     ≡ made_value (program c.self.inside.work) c.args.actor k c.args.n tokens =
     ap (λ (x : Kernel). values_of x c.as_slice.result.now c.need-need.result c.args.n c.deref.result.now) c.kernel-kernel.ensures.value
     ∙ ap₂ (λ (ns : List ℕ) (m : ℕ). values_of (get_or (program c.self.inside.work).kernels c.args.actor Sink) ns m c.args.n c.deref.result.now) counts needed
