@@ -26,3 +26,4 @@ pub mod Settles
 pub mod Honestly
 pub mod Makings
 pub mod MadeFloors
+pub mod OneFirings

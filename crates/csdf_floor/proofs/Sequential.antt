@@ -32,7 +32,7 @@ kept_if true x a k c cs is rest = omega (
 )
 kept_if false x a k c cs is rest = let none : gives_of a k c ≡ 0 = ap (λ b. cond b (rate c.produce k) 0) is in omega arith
 
-sum_of_counts : (a k : ℕ) (cs : List Channel) → sum (map (gives_of a k) (filter (λ (d : Channel). d.from == a) cs)) ≡ gift a k cs
+pub sum_of_counts : (a k : ℕ) (cs : List Channel) → sum (map (gives_of a k) (filter (λ (d : Channel). d.from == a) cs)) ≡ gift a k cs
 sum_of_counts a k [] = refl
 sum_of_counts a k (c ∷ cs) = kept_if (c.from == a) 0 a k c cs refl (sum_of_counts a k cs) ∙ sym (sum_by-cons (gives_of a k) c cs)
 

@@ -245,7 +245,9 @@ impl Book {
     pub(crate) fn take(&mut self, actor: u32)
         requires room { HasRoom self.old actor }
         requires accepted { refusal self.old.shown.core.plan self.old.shown.core.now (Begin actor) ≡ None }
-        ensures { HasTaken self.old self.new actor }
+        ensures taken { HasTaken self.old self.new actor }
+        ensures room { self.old.room ≤ self.new.room + 2 }
+        ensures width { self.new.width ≡ self.old.width }
     {
         let _ = &self.work;
         self.begin(actor);
@@ -257,6 +259,7 @@ impl Book {
         requires room { 0 < self.old.room }
         requires accepted { refusal self.old.shown.core.plan self.old.shown.core.now (Begin actor) ≡ None }
         ensures next { IsNext self.old self.new (Begin actor) }
+        ensures width { self.new.width ≡ self.old.width }
         ensures rooms { self.new.rooms ≡ self.old.rooms }
         ensures reads { self.new.reads ≡ self.old.reads }
     {
@@ -272,6 +275,7 @@ impl Book {
         requires sink { is_sink_kernel (slice_index_or (program self.old.shown.work).kernels actor Sink) ≡ true
             → need actor (count self.old.shown.core.now actor) self.old.shown.core.plan.channels ≤ slice_index self.old.rooms actor }
         ensures next { IsNext self.old self.new (Read actor) }
+        ensures width { self.new.width ≡ self.old.width }
         ensures buffer { length (slice_index_or self.new.reads actor []) ≡ length (slice_index_or self.old.reads actor []) }
         ensures tokens { slice_index_or self.new.reads actor [] ≡ slice_index_or (reads_of (program self.new.shown.work) self.new.shown.journal) actor [] }
     {
@@ -531,6 +535,120 @@ impl Book {
         let each = self.core.gives(actor);
         self.fire(actor, n, each, outputs.as_slice());
         Ok(())
+    }
+
+    /// What the actor's present firing computes from.
+    fn firing_inputs(&self, actor: u32) -> &[i32]
+        requires exists { actor < length self.now.shown.core.plan.sources }
+        requires few { length (slice_index_or self.now.reads actor []) ≤ 8192 }
+        ensures value { result.now ≡ inputs (program self.now.shown.work) actor (count self.now.shown.core.now actor)
+            (slice_index_or self.now.reads actor []) }
+        ensures few { length result.now ≤ 8192 }
+    {
+        if self.work.is_source(actor) {
+            return self.feed_part(actor);
+        }
+        &self.reads[actor as usize]
+    }
+
+    /// The kernel's value of the actor's present firing, which has read what is in its buffer, in the
+    /// place of what the outputs hold: they have room for it.
+    fn value_into(&self, actor: u32, counts: &Counts, outputs: &mut Outputs)
+        requires exists { actor < length self.now.shown.core.plan.sources }
+        requires counts { counts.now.items ≡ output_counts (program self.now.shown.work) actor (count self.now.shown.core.now actor) }
+        requires few_counts { length counts.now.items ≤ 128 }
+        requires small_counts { All (λ n. n ≤ 64) counts.now.items }
+        requires few { length (slice_index_or self.now.reads actor []) ≤ 8192 }
+        requires room { gift actor (count self.now.shown.core.now actor) self.now.shown.core.plan.channels ≤ outputs.old.capacity }
+        ensures { outputs.new.items ≡ value (program self.now.shown.work) actor (count self.now.shown.core.now actor)
+            (slice_index_or self.now.reads actor []) }
+    {
+        let kernel = self.work.kernel(actor);
+        let inputs = self.firing_inputs(actor);
+        let need = inputs.len();
+        match eval_block(&kernel, counts.as_slice(), need, 1, inputs, outputs) {
+            Ok(()) => {}
+            Err(_error) => unreachable!(),
+        }
+    }
+
+    /// All that the actor's next firing asks for: its counts, and room for its value, its moves and the
+    /// closing of its outputs.
+    fn prepare_one(
+        &mut self,
+        actor: u32,
+        counts: &mut Counts,
+        outputs: &mut Outputs,
+    ) -> Result<(), AllocError>
+        requires exists { actor < length self.old.shown.core.plan.sources }
+        requires idle { stage self.old.shown.core.now actor ≡ Idle }
+        ensures shown { self.new.shown ≡ self.old.shown }
+        ensures room { OnOk result (HasRoom self.new actor) }
+        ensures need { OnOk result (length (slice_index_or self.new.reads actor []) ≤ 8192) }
+        ensures moves { OnOk result (4 + length (outputs_at self.old.shown.core.plan.channels actor) ≤ self.new.room) }
+        ensures width { OnOk result (gift actor (count self.old.shown.core.now actor) self.old.shown.core.plan.channels ≤ self.new.width) }
+        ensures counts { OnOk result (counts.new.items ≡ output_counts (program self.old.shown.work) actor (count self.old.shown.core.now actor)) }
+        ensures few_counts { OnOk result (length counts.new.items ≤ 128) }
+        ensures small_counts { OnOk result (All (λ n. n ≤ 64) counts.new.items) }
+        ensures outputs { OnOk result (gift actor (count self.old.shown.core.now actor) self.old.shown.core.plan.channels ≤ outputs.new.capacity) }
+    {
+        self.counts_into(actor, counts)?;
+        let each = self.core.gives(actor);
+        outputs.clear();
+        outputs.reserve(each)?;
+        let needed = self.core.need(actor);
+        self.make_room_for(*outputs.allocator(), actor, 1, needed)
+    }
+
+    /// Makes the actor's next firing, which may begin: the four moves one by one.
+    pub(crate) fn make_one(
+        &mut self,
+        actor: u32,
+        counts: &mut Counts,
+        outputs: &mut Outputs,
+    ) -> Result<(), AllocError>
+        requires exists { actor < length self.old.shown.core.plan.sources }
+        requires idle { stage self.old.shown.core.now actor ≡ Idle }
+        requires accepted { refusal self.old.shown.core.plan self.old.shown.core.now (Begin actor) ≡ None }
+        ensures made { OnOk result (HasMade self.old.shown self.new.shown actor 1 (made_moves self.old.shown actor 1)) }
+        ensures room { OnOk result (length (outputs_at self.old.shown.core.plan.channels actor) ≤ self.new.room) }
+        ensures unchanged { OnErr result (self.new.shown ≡ self.old.shown) }
+    {
+        let _ = &self.work;
+        self.prepare_one(actor, counts, outputs)?;
+        self.take(actor);
+        self.value_into(actor, counts, outputs);
+        self.give(actor, outputs.as_slice());
+        Ok(())
+    }
+
+    /// Makes some of the actor's next firings, of which the first may begin: at least one, and at most
+    /// so many. It makes one where no block can be had.
+    pub(crate) fn make_some(
+        &mut self,
+        actor: u32,
+        most: u32,
+        counts: &mut Counts,
+        outputs: &mut Outputs,
+    ) -> Result<u32, AllocError>
+        requires exists { actor < length self.old.shown.core.plan.sources }
+        requires idle { stage self.old.shown.core.now actor ≡ Idle }
+        requires accepted { refusal self.old.shown.core.plan self.old.shown.core.now (Begin actor) ≡ None }
+        requires some { 0 < most }
+        ensures some { IfOk result (λ n. 0 < n) }
+        ensures most { IfOk result (λ n. n ≤ most) }
+        ensures made { IfOk result (λ n. HasMade self.old.shown self.new.shown actor n (made_moves self.old.shown actor n)) }
+        ensures room { OnOk result (length (outputs_at self.old.shown.core.plan.channels actor) ≤ self.new.room) }
+        ensures unchanged { OnErr result (self.new.shown ≡ self.old.shown) }
+    {
+        let block = self.block(actor, most);
+        let n = block.firings;
+        if n == 0 {
+            self.make_one(actor, counts, outputs)?;
+            return Ok(1);
+        }
+        self.make(actor, n, block.needed as usize, counts, outputs)?;
+        Ok(n)
     }
 
     /// Closes the channel, whose producer is idle and makes no firing more.

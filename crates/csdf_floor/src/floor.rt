@@ -217,12 +217,13 @@ impl Floor {
         Ok(())
     }
 
-    /// Makes some of the actor's next firings at once, at most so many, where it stands at this
-    /// firing, and closes its outputs where it makes no firing more. It answers how many they are: 0
-    /// where the journal is kept, and for an actor of several phases, inputs or outputs, whose firings
-    /// are to be started and delivered one by one.
+    /// Makes some of the actor's next firings at once, where it stands at this firing, and closes its
+    /// outputs where it makes no firing more. It answers how many they are: at most so many, and at
+    /// least one where `most` is. A block of several is made where the journal is not kept and the
+    /// actor has one phase, at most one input and at most one output; else it is one firing.
     ///
-    /// The refusals are those of [`Floor::start`]. The lists are only worked in.
+    /// The refusals are those of [`Floor::start`], and a refusal changes nothing that a reader shows.
+    /// The lists are only worked in.
     pub fn make(
         &mut self,
         actor: u32,
@@ -233,6 +234,7 @@ impl Floor {
     ) -> Result<u32, StartFault>
         ensures answer { IsStartAnswer (start_refusal self.old actor firing) result }
         ensures most { IfOk result (λ n. n ≤ most) }
+        ensures some { IfOk result (λ n. 0 < most → 0 < n) }
         ensures gone { IfOk result (λ n. 0 < n → HasGone self.old self.new (made_moves self.old actor n ++ closes_made self.old actor n)) }
         ensures none { IfOk result (λ n. n ≡ 0 → self.new ≡ self.old) }
         ensures unchanged { OnErr result (self.new ≡ self.old) }
@@ -240,13 +242,10 @@ impl Floor {
         if let Some(refused) = self.start_refusal(actor, firing) {
             return Err(refused);
         }
-        let block = self.book.block(actor, most);
-        let n = block.firings;
-        if n == 0 {
+        if most == 0 {
             return Ok(0);
         }
-        self.book
-            .make(actor, n, block.needed as usize, counts, outputs)?;
+        let n = self.book.make_some(actor, most, counts, outputs)?;
         let producer = actor;
         self.book.close_outputs(producer);
         Ok(n)

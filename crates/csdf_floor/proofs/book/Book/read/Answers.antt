@@ -36,6 +36,7 @@ returns c =
     record {
       next = rw (← c.self.view_is) (next_is _ _ _ c.self.inside.journal c.note_read.new.self (Read c.args.actor) _ _ _ _ _ c.self.invariant
           c.read.ensures.step c.note_read.ensures.moves c.note_read.ensures.room c.note_read.ensures.keeps);
+      width = rw (← c.self.view_is) c.note_read.ensures.width;
       buffer = rw (← c.self.view_is) (fetch_length c.self.inside.reads.items c.index_mut-buffer.result.now c.read.new.into c.args.actor lt
           c.index_mut-buffer.ensures.value c.read.ensures.whole);
       tokens = fetch_tokens c.self.inside.work c.self.inside.core c.read.new.core c.self.inside.journal.moves c.note_read.new.self.moves

@@ -9,8 +9,8 @@ read-requires-clause-accepted c =
     (staged _ _ c.self.invariant) (rw (← c.self.view_is) at c.requires.accepted) (rw (← c.self.view_is) at c.begin.ensures.next.plan)
     (rw (← c.self.view_is) at c.begin.ensures.next.now)
 
-pub returns : goal.returns
-returns c =
+pub returns-clause-taken : goal.returns-clause-taken
+returns-clause-taken c =
     let book : IsBook c.args.self.now.shown c.args.self.now.reads = subst (λ (b : BookView). IsBook b.shown b.reads) c.self.view_is c.self.invariant in
     has_taken c.args.self.now c.begin.new.self c.read.new.self c.args.actor book c.requires.accepted c.begin.ensures.next c.begin.ensures.reads
     c.read.ensures.next c.read.ensures.buffer c.read.ensures.tokens

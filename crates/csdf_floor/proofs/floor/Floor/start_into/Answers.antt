@@ -18,7 +18,7 @@ pub invariant_of-self-2 : goal.invariant_of-self-2
 invariant_of-self-2 c =
     let at : goal.In_ok-make_room = (goal.at.invariant_of-self-2 c).In_ok-make_room in
     between_taken c.make_room.new.self c.take.new.self c.args.actor c.args.firing
-    (subst (λ (f : FloorView). IsBetween f.core.plan f.core.now) (sym c.in_ok-make_room.ensures.shown) c.self.invariant) (may at) c.take.ensures
+    (subst (λ (f : FloorView). IsBetween f.core.plan f.core.now) (sym c.in_ok-make_room.ensures.shown) c.self.invariant) (may at) c.take.ensures.taken
 
 pub returns-clause-ready : goal.returns-clause-ready
 returns-clause-ready c = record {
