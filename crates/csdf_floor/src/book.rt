@@ -566,7 +566,7 @@ impl Book {
         let kernel = self.work.kernel(actor);
         let inputs = self.firing_inputs(actor);
         let need = inputs.len();
-        match eval_block(&kernel, counts.as_slice(), need, 1, inputs, outputs) {
+        match eval_block(kernel, counts.as_slice(), need, 1, inputs, outputs) {
             Ok(()) => {}
             Err(_error) => unreachable!(),
         }
