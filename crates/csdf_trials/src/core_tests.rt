@@ -293,7 +293,12 @@ fn state_of(
 }
 
 /// What the core of the file's graph shows after the script.
-fn state_after(alloc: Global, text: &str, limits: &Limits, script: &str) -> Result<String, Fail> {
+pub(crate) fn state_after(
+    alloc: Global,
+    text: &str,
+    limits: &Limits,
+    script: &str,
+) -> Result<String, Fail> {
     let accepted = accepted_in(alloc, text)?;
     state_of(alloc, &accepted, limits, script)
 }

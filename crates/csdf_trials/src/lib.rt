@@ -7,6 +7,8 @@ mod accept_tests;
 #[cfg(test)]
 mod analysis_tests;
 #[cfg(test)]
+mod block_tests;
+#[cfg(test)]
 mod byte_tests;
 #[cfg(test)]
 mod core_tests;
