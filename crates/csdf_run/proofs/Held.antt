@@ -1,13 +1,14 @@
 -- What a place holds after a claim, after a refused start, and after a firing.
-use Rattle.std.proofs.Common.{◌≡◌, ◌≢◌, ℕ, zero, suc, ◌+◌, ◌*◌, ◌<◌, List, [], ◌∷◌, ◌++◌, Option, Some, None, get_or, set, length, refl, sym, ap, subst, ◌∙◌, arith, eq-eqb}
+use Rattle.std.proofs.Common.{◌≡◌, ◌≢◌, ℕ, zero, suc, ◌+◌, ◌*◌, ◌<◌, ◌≤◌, List, [], ◌∷◌, ◌++◌, Option, Some, None, get_or, set, length, refl, sym, ap, subst, ◌∙◌, arith, eq-eqb}
+use Rattle.std.specs.List.{range_with_len}
 use Rattle.csdf_claims.specs.declared.rule.Track.{Track}
 use Rattle.csdf_claims.specs.declared.rule.View.{View}
-use Rattle.csdf_claims.specs.Board.{blank, track_of, times, one_if, Holds, Finds, HasFinished, KeepsAll, KeepsJust, claimed, finished_view, handed_back}
+use Rattle.csdf_claims.specs.Board.{blank, track_of, times, one_if, Holds, Finds, HasFinished, IsHolding, KeepsAll, KeepsJust, claimed, finished_block, finished_view, handed_back}
 use Rattle.csdf_claims.specs.Board.{newcomer_view, opening_view}
 use Rattle.csdf_claims.proofs.Found.{found_held}
 use Rattle.csdf_claims.proofs.Tracks.{track_of-newcomer, track_of-opening}
 use Rattle.csdf_run.specs.declared.claims.Claim.{Claim}
-use Rattle.csdf_run.specs.Workers.{HoldsNothing, HasClaim, AreApart, HoldsJust, HasMade}
+use Rattle.csdf_run.specs.Workers.{HoldsNothing, HasClaim, AreApart, HoldsJust, HasMade, CanEnd}
 
 -- another track was changed
 set_held : (ts : List Track) (a b : ℕ) (t : Track) → b ≢ a → (get_or (set ts a t) b blank).held ≡ (get_or ts b blank).held
@@ -143,3 +144,33 @@ newcomer_nothing v w is = subst HoldsNothing (sym is) (λ a. ap (λ (t : Track).
 
 pub opening_nothing : (n : ℕ) (w : View) → w ≡ opening_view n → HoldsNothing w
 opening_nothing n w is = subst HoldsNothing (sym is) (λ a. ap (λ (t : Track). t.held) (track_of-opening n a))
+
+-- one number is held at most
+held_once : (v : View) (a j k : ℕ) → Holds v a j → Holds v a k → j ≡ k
+held_once v a j k one other = cc
+
+-- d is the claim that is held, and n firings from it on are finished
+module _ (v : View) (c d : Claim) (n m : ℕ) (h : HoldsJust v None (Some c)) (same : d ≡ c) (as_many : m ≡ n) where
+  held_first : Holds v d.actor c.firing
+  held_first = subst (λ (x : Claim). Holds v x.actor c.firing) (sym same) h.second
+
+  pub block_held : IsHolding v d.actor
+  block_held = (c.firing, held_first)
+
+  pub block_fits : CanEnd c n → (k : ℕ) → 1 < m → Holds v d.actor k → k + m ≤ 16384001
+  block_fits ends k several held =
+      let one = held_once v d.actor k c.firing held held_first in
+      let within = ends (subst (λ (x : ℕ). 1 < x) as_many several) in omega arith
+
+  module _ (w : View) (is : (k : ℕ) → Holds v d.actor k → w ≡ finished_block v d.actor k m) where
+    pub block_just : HoldsJust w None None
+    block_just =
+        let t : Track = record { held = []; finished = (track_of v d.actor).finished ++ range_with_len c.firing m; seen = c.firing + m } in
+        nothing_just w (λ b. ap (λ (z : View). (track_of z b).held) (is c.firing held_first)
+        ∙ cleared v.tracks d.actor b t refl (λ ne. h.no_more b tt (λ e. ne (e ∙ ap (λ (x : Claim). x.actor) (sym same)))))
+
+  pub block_made : (w : View) → ((k x : ℕ) → Holds v d.actor k → k ≤ x → x < k + m → times x (track_of w d.actor).finished ≡ 1)
+      → (x : ℕ) → c.firing ≤ x → x < c.firing + n → HasFinished w c.actor x
+  block_made w each x from to =
+      let once = each c.firing x held_first from (subst (λ (y : ℕ). x < c.firing + y) (sym as_many) to) in
+      subst (λ (y : Claim). 0 < times x (track_of w y.actor).finished) same (omega arith)

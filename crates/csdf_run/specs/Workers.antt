@@ -1,5 +1,5 @@
 -- What a worker's place holds while it makes firings, and how the ends of workers come together.
-use Rattle.std.specs.Prelude.{◌≡◌, ◌≢◌, ◌<◌, ℕ, Bool, true, false, List, [], ◌∷◌, ◌++◌, length, map}
+use Rattle.std.specs.Prelude.{◌≡◌, ◌≢◌, ◌<◌, ◌≤◌, ◌+◌, ℕ, Bool, true, false, List, [], ◌∷◌, ◌++◌, length, map}
 use Rattle.std.specs.Prelude.{Option, Some, None, Result, Ok, Err, All, IfErr, IfOk, IfSome}
 use Rattle.std.specs.List.{Contains}
 use Rattle.std.specs.Result.{IsOk}
@@ -50,6 +50,25 @@ HasMade v (Some c) = HasFinished v c.actor c.firing
 abbrev pub HasTaken : Bool → Job → FloorView → FloorView → Type 0
 HasTaken true job f g = HasGone f g (ending_of (task_of job) ++ closes_after f (task_of job))
 HasTaken false job f g = g ≡ f
+
+-- firings of an actor one after another: the claim of the first one, and how many they are
+pub record Block : Type 0 where
+  pub claim : Claim
+  pub count : ℕ
+
+-- the block begins with the claimed firing, and has some firings and at most so many
+pub record IsBlockOf (c : Claim) (most : ℕ) (b : Block) : Type 0 where
+  pub claim : b.claim ≡ c
+  pub some : 0 < b.count
+  pub enough : b.count ≤ most
+
+-- after several firings from this one on an actor still has a number that can be claimed
+abbrev pub CanEnd : Claim → ℕ → Type 0
+CanEnd c count = 1 < count → c.firing + count ≤ 16384001
+
+-- every firing of the block is finished
+abbrev pub HasMadeAll : View → Block → Type 0
+HasMadeAll v b = (x : ℕ) → b.claim.firing ≤ x → x < b.claim.firing + b.count → HasFinished v b.claim.actor x
 
 -- where a firing was started it is the claim's: the job is ready, and it is that of the claim
 abbrev pub IsStartOf : Option Claim → Bool → Job → Type 0

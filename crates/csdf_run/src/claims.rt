@@ -1,14 +1,17 @@
 //! How a worker claims firings, and how its claims end.
 
-ghost use Rattle.std.specs.Prelude.{◌≡◌, ◌<◌, ℕ};
+ghost use Rattle.std.specs.Prelude.{◌≡◌, ◌<◌, ◌≤◌, ◌+◌, ℕ, None, Some};
 ghost use Rattle.csdf_claims.specs.Board.{HasFinished};
-ghost use Rattle.csdf_run.specs.Workers.{HoldsJust, HasMade, IsActor, IsClaimBeside};
+ghost use Rattle.csdf_run.specs.Workers.{CanEnd, HasMade, HasMadeAll, HoldsJust, IsActor, IsClaimBeside};
 
-use crate::run_floor::Delivered;
+use crate::run_floor::{Delivered, Made};
 use csdf_claims::{Board, Place};
 
 /// The greatest firing number that may be claimed.
 const LAST_FIRING: u32 = 16_384_000;
+
+/// The most firings that are made in one go: some thousand tokens of each channel stay in the cache.
+const BLOCK: u32 = 1_024;
 
 /// A firing of an actor that a place holds.
 #[derive(Clone, Copy)]
@@ -96,6 +99,32 @@ pub(crate) fn finish(
     if let Some(delivered) = delivered {
         mark_done(board, place, delivered.claim(), beside);
     }
+}
+
+/// How many firings may be made in one go, this one first.
+pub(crate) fn most_from(firing: u32) -> u32
+    ensures some { 0 < result }
+    ensures fits { 1 < result → firing + result ≤ 16384001 }
+{
+    if firing < LAST_FIRING {
+        BLOCK.min(LAST_FIRING - firing)
+    } else {
+        1
+    }
+}
+
+/// Marks the firings done that the floor has made, of which the first is the claimed one.
+pub(crate) fn finish_block(board: &Board, place: &mut Place, made: Made)
+    requires place { place.old.board ≡ board.now.id }
+    requires actor { made.claim.actor < board.now.actors }
+    requires holds { HoldsJust place.old.view None (Some made.claim) }
+    requires some { 0 < made.count }
+    requires fits { CanEnd made.claim made.count }
+    ensures board { place.new.board ≡ board.now.id }
+    ensures holds { HoldsJust place.new.view None None }
+    ensures made { HasMadeAll place.new.view made }
+{
+    board.done_many(place, made.claim().actor, made.count());
 }
 
 /// The claim is given up: nothing is held any more.

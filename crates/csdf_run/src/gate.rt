@@ -1,6 +1,6 @@
 //! What a worker passes between the start of a firing and its evaluation.
 
-ghost use Rattle.std.specs.Prelude.{◌≡◌, ℕ, ⊤};
+ghost use Rattle.std.specs.Prelude.{◌≡◌, ℕ, ⊤, IsTrue};
 ghost use Rattle.csdf_claims.specs.Board.{Holds, KeepsJust};
 
 use csdf_claims::{Board, Place};
@@ -22,6 +22,14 @@ pub trait Gate: Sync {
     /// Whether a worker may have to wait in [`Gate::enter`]. Where it never does, workers that sleep are
     /// not woken for firings that take less time than to wake them.
     fn may_wait(&self) -> bool;
+
+    /// Whether every firing passes at once. Where it does, a worker may make several firings of an actor
+    /// in one go, and enters the gate with none of them. A gate that does not say is entered with each.
+    fn is_open(&self) -> bool
+        ensures { IsTrue result → (a k : ℕ) → passed self.now a k }
+    {
+        false
+    }
 }
 
 /// The gate that does nothing.
@@ -33,5 +41,9 @@ impl Gate for Open {
 
     fn may_wait(&self) -> bool {
         false
+    }
+
+    fn is_open(&self) -> bool {
+        true
     }
 }

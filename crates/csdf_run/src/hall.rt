@@ -1,14 +1,16 @@
 //! The floor behind its lock, and how the workers meet there.
 
-ghost use Rattle.std.specs.Prelude.{◌≡◌, IfOk, false};
+ghost use Rattle.std.specs.Prelude.{◌≡◌, ◌<◌, ℕ, IfOk, Some, false};
 ghost use Rattle.csdf_run.specs.Hand.{claim_in};
-ghost use Rattle.csdf_run.specs.Workers.{HasClaim, IsStartOf};
+ghost use Rattle.csdf_run.specs.Workers.{CanEnd, HasClaim, IsStartOf};
 
+use crate::actors::bit_of;
 use crate::claims::Claim;
+use crate::gate::Gate;
 use crate::hand::Hand;
 use crate::hints::Hints;
 use crate::policy::{Crew, Policy, Teller};
-use crate::run_floor::{Asked, Delivered, RunFloor};
+use crate::run_floor::{Asked, Delivered, Made, RunFloor};
 use crate::watched::{Stand, Watched};
 use csdf_claims::Place;
 use csdf_floor::{DeliverFault, Floor, StartFault};
@@ -41,6 +43,14 @@ pub(crate) struct Hall<K: Asked> {
 pub(crate) struct Turn {
     pub(crate) delivered: Result<Option<Delivered>, DeliverFault>,
     pub(crate) started: Result<bool, StartFault>,
+    pub(crate) wakes: bool,
+}
+
+/// What came of a look for several firings of an actor: those that were made, and whether another worker
+/// is to be woken.
+#[derive(Drop)]
+pub(crate) struct BlockTurn {
+    pub(crate) made: Result<Made, StartFault>,
     pub(crate) wakes: bool,
 }
 
@@ -98,6 +108,7 @@ impl<K: Asked> Hall<K> {
             tends: false,
             ready: self.ready.load(SeqCst),
             next: 0,
+            light: if self.is_alone { u64::MAX } else { 0 },
         }
     }
 
@@ -115,6 +126,11 @@ impl<K: Asked> Hall<K> {
         } else {
             self.spare.load(SeqCst)
         }
+    }
+
+    /// Whether this worker makes the actor's firings one after another under the lock.
+    pub(crate) fn makes_blocks(&self, stand: &Stand, actor: u32) -> bool {
+        (self.is_alone || stand.tends) && stand.light & bit_of(actor) != 0
     }
 
     /// Tells where to look, under the lock. True where the teller is to wake a worker.
@@ -163,6 +179,33 @@ impl<K: Asked> Hall<K> {
             started,
             wakes,
         }
+    }
+
+    /// Makes firings of an actor one after another, the claimed one first, in one hold of the lock. All
+    /// of them pass the gate. Nothing is in hand then.
+    pub(crate) fn make<R: Wait, G: Gate>(
+        &self,
+        rt: &R,
+        gate: &G,
+        place: &Place,
+        stand: &mut Stand,
+        hand: &mut Hand,
+        claim: Claim,
+    ) -> BlockTurn
+        requires open { (a k : ℕ) → G.passed gate.now a k }
+        requires claim { HasClaim place.now.view (Some claim) }
+        ensures idle { hand.new.is_made ≡ false }
+        ensures claim { IfOk result.made (λ made. made.claim ≡ claim) }
+        ensures some { IfOk result.made (λ made. 0 < made.count) }
+        ensures fits { IfOk result.made (λ made. CanEnd claim made.count) }
+    {
+        let _ = place;
+        let mut guard = self.watched.lock(rt);
+        let watched = &mut *guard;
+        let made = watched.make(gate, claim, hand);
+        *stand = watched.stand(stand.tends, None);
+        let wakes = self.tell(watched, Teller::Looks);
+        BlockTurn { made, wakes }
     }
 
     /// Wakes a worker.

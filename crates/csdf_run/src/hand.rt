@@ -1,8 +1,9 @@
 //! What a worker has in hand: one job and one list of outputs, which it uses again and again.
 
-ghost use Rattle.std.specs.Prelude.{◌≡◌, MatchOption, OnOk, false, true};
+ghost use Rattle.std.specs.Prelude.{◌≡◌, ◌<◌, ◌≤◌, ◌++◌, ℕ, IfOk, MatchOption, OnOk, false, true};
 ghost use Rattle.csdf_kernel.specs.Value.{value_of};
-ghost use Rattle.csdf_floor.specs.Floor.{IsReady};
+ghost use Rattle.csdf_floor.specs.Floor.{HasGone, IsReady};
+ghost use Rattle.csdf_floor.specs.Making.{closes_made, made_moves};
 ghost use Rattle.csdf_run.specs.Hand.{claim_in};
 
 use crate::claims::Claim;
@@ -102,6 +103,31 @@ impl Hand {
             Ok(()) => Ok(()),
             Err(fault) => Err(fault),
         }
+    }
+
+    /// Makes firings of an actor on the floor, the claimed one first: at most so many, all of which
+    /// pass the gate. Nothing is in hand then.
+    pub(crate) fn make<G: Gate>(
+        &mut self,
+        floor: &mut Floor,
+        gate: &G,
+        claim: Claim,
+        most: u32,
+    ) -> Result<u32, StartFault>
+        requires open { (k : ℕ) → claim.firing ≤ k → G.passed gate.now claim.actor k }
+        requires some { 0 < most }
+        ensures idle { self.new.is_made ≡ false }
+        ensures some { IfOk result (λ n. 0 < n) }
+        ensures most { IfOk result (λ n. n ≤ most) }
+        ensures gone { IfOk result (λ n. HasGone floor.old floor.new
+            (made_moves floor.old claim.actor n ++ closes_made floor.old claim.actor n)) }
+        ensures keeps { floor.new.keeps ≡ floor.old.keeps }
+    {
+        let _ = gate;
+        self.is_made = false;
+        let counts = &mut self.job.counts;
+        let outputs = &mut self.outputs;
+        floor.make(claim.actor, claim.firing, most, counts, outputs)
     }
 
     /// Evaluates the job, whose worker has passed the gate.

@@ -177,6 +177,22 @@ impl Hints {
         self.look(core, enabled);
     }
 
+    /// The actor has made firings and is idle: its inputs have room again, and its outputs tokens.
+    pub(crate) fn made(&mut self, core: &Core, actor: u32)
+        ensures producers { actor < length self.old.producers.items → HasAble core.now (slice_index self.old.producers.items actor) self.new.ready }
+        ensures consumers { actor < length self.old.consumers.items → HasAble core.now (slice_index self.old.consumers.items actor) self.new.ready }
+        ensures own { actor < 64 → CanBegin core.now actor → IsIn self.new.ready actor }
+        ensures others { (a : ℕ) → IsIn self.old.ready a → (a ≡ actor) ⊎ IsIn self.new.ready a }
+    {
+        let bit = bit_of(actor);
+        self.ready = apart(self.ready, bit);
+        self.apt = joined(self.apt, bit);
+        let givers = joined(mask_at(&self.producers, actor), bit);
+        let near = joined(givers, mask_at(&self.consumers, actor));
+        let enabled = self.enabled(near);
+        self.look(core, enabled);
+    }
+
     /// The actors that may be able to begin once this one has delivered: its consumers, but for those
     /// whose last start was refused.
     pub(crate) fn after(&self, actor: u32) -> u64 {

@@ -50,11 +50,14 @@ pub(crate) enum Teller {
 /// No wake-up is lost: what is spare changes under the lock alone, and whoever changes it tells: it wakes a
 /// worker where more is spare than there are workers who look, or were woken to look. Each of those sees
 /// under the lock that nothing is spare before it sleeps, or starts a firing and tells in its turn.
+/// Firings of a light actor are made one after another under the lock by the one who tends, or by the one
+/// worker that there is, which makes those of all. An actor is light once it is seen to be so.
 /// None is woken in vain: it is woken for an actor that nobody else looks for, once the claims of the one
 /// who wakes it have ended, and finds it unless another was faster or its start is refused.
 #[derive(Drop)]
 pub(crate) struct Policy {
     heavy: u64,
+    light: u64,
     is_tended: bool,
     sleeping: u32,
     woken: u32,
@@ -79,6 +82,7 @@ impl Policy {
     pub(crate) fn new(crew: Crew) -> Policy {
         Policy {
             heavy: if crew.may_wait { u64::MAX } else { 0 },
+            light: if crew.is_alone() { u64::MAX } else { 0 },
             is_tended: false,
             sleeping: 0,
             woken: 0,
@@ -93,9 +97,16 @@ impl Policy {
         } else {
             weight_of(job)
         };
+        let bit = bit_of(job.actor);
         match weight {
-            Weight::Heavy => self.heavy |= bit_of(job.actor),
-            Weight::Light => self.heavy &= !bit_of(job.actor),
+            Weight::Heavy => {
+                self.heavy |= bit;
+                self.light &= !bit;
+            }
+            Weight::Light => {
+                self.heavy &= !bit;
+                self.light |= bit;
+            }
         }
         weight
     }
@@ -111,6 +122,11 @@ impl Policy {
         let tends = weight == Weight::Light && !another_tends;
         self.is_tended = tends || another_tends;
         tends
+    }
+
+    /// The actors that are light.
+    pub(crate) fn light(&self) -> u64 {
+        self.light
     }
 
     /// A worker that finds nothing to start tends no longer.

@@ -1,11 +1,13 @@
 //! The floor of a run, and what says that it took a result.
 
-ghost use Rattle.std.specs.Prelude.{◌≡◌, Bool, IfOk, OnOk, false, true};
-ghost use Rattle.csdf_floor.specs.Floor.{IsReady};
+ghost use Rattle.std.specs.Prelude.{◌≡◌, ◌<◌, ◌≤◌, ◌++◌, ℕ, Bool, IfOk, OnOk, false, true};
+ghost use Rattle.csdf_floor.specs.Floor.{HasGone, IsReady};
+ghost use Rattle.csdf_floor.specs.Making.{closes_made, made_moves};
 ghost use Rattle.csdf_run.specs.Hand.{claim_in};
-ghost use Rattle.csdf_run.specs.Workers.{HasTaken};
+ghost use Rattle.csdf_run.specs.Workers.{HasTaken, IsBlockOf};
 
 use crate::claims::Claim;
+use crate::gate::Gate;
 use crate::hand::Hand;
 use csdf_core::Core;
 use csdf_floor::{DeliverFault, Floor, StartFault};
@@ -54,6 +56,38 @@ impl Delivered {
     }
 }
 
+/// That the floor has made firings of an actor one after another, the claimed one first: which it was,
+/// and how many they are. Only [`RunFloor::make`] makes one, and no such claim is marked done without.
+#[derive(Drop)]
+pub(crate) struct Made {
+    claim: Claim,
+    count: u32,
+}
+
+impl Model for Made {
+    ghost use Rattle.csdf_run.specs.Workers.{Block};
+
+    ghost Value = { Block };
+
+    ghost view = { λ m. record { claim = m.claim; count = m.count } };
+}
+
+impl Made {
+    /// The claim of the first firing.
+    pub(crate) fn claim(&self) -> Claim
+        ensures { result ≡ self.now.claim }
+    {
+        self.claim
+    }
+
+    /// How many firings.
+    pub(crate) fn count(&self) -> u32
+        ensures { result ≡ self.now.count }
+    {
+        self.count
+    }
+}
+
 impl<K: Asked> RunFloor<K> {
     pub(crate) fn new(floor: Floor) -> RunFloor<K>
         requires { floor.keeps ≡ K.keeps }
@@ -91,6 +125,26 @@ impl<K: Asked> RunFloor<K> {
         ensures ready { OnOk result (IsReady hand.new.job) }
     {
         hand.start(&mut self.floor, actor, firing)
+    }
+
+    /// Makes firings of an actor one after another, the claimed one first: at most so many, all of
+    /// which pass the gate. Nothing is in hand then.
+    pub(crate) fn make<G: Gate>(
+        &mut self,
+        gate: &G,
+        claim: Claim,
+        most: u32,
+        hand: &mut Hand,
+    ) -> Result<Made, StartFault>
+        requires open { (k : ℕ) → claim.firing ≤ k → G.passed gate.now claim.actor k }
+        requires some { 0 < most }
+        ensures idle { hand.new.is_made ≡ false }
+        ensures made { IfOk result (IsBlockOf claim most) }
+        ensures gone { IfOk result (λ made. HasGone self.old.floor self.new.floor
+            (made_moves self.old.floor claim.actor made.count ++ closes_made self.old.floor claim.actor made.count)) }
+    {
+        let count = hand.make(&mut self.floor, gate, claim, most)?;
+        Ok(Made { claim, count })
     }
 
     /// Gives the floor what is in hand, where something is.

@@ -6,13 +6,14 @@ ghost use Rattle.csdf_core.specs.Step.{IsQuiet};
 ghost use Rattle.csdf_floor.specs.Floor.{IsReady};
 ghost use Rattle.csdf_run.specs.Hand.{claim_in};
 ghost use Rattle.csdf_run.specs.Looking.{CanBegin};
-ghost use Rattle.csdf_run.specs.Workers.{IsStartOf};
+ghost use Rattle.csdf_run.specs.Workers.{CanEnd, IsBlockOf, IsStartOf};
 
-use crate::claims::Claim;
+use crate::claims::{Claim, most_from};
+use crate::gate::Gate;
 use crate::hand::Hand;
 use crate::hints::Hints;
 use crate::policy::Policy;
-use crate::run_floor::{Asked, Delivered, RunFloor};
+use crate::run_floor::{Asked, Delivered, Made, RunFloor};
 use csdf_floor::{DeliverFault, StartFault};
 use csdf_kernel::Job;
 use std::alloc::Global;
@@ -26,6 +27,8 @@ pub(crate) struct Stand {
     pub(crate) ready: u64,
     /// The actors that may be able to begin once what is in hand is delivered.
     pub(crate) next: u64,
+    /// The actors of whom the worker makes firings under the lock.
+    pub(crate) light: u64,
 }
 
 /// The floor, where to look for the next firing, how many firings are under way, and what the policy goes
@@ -93,6 +96,30 @@ impl<K: Asked> Watched<K> {
         Ok(delivered)
     }
 
+    /// Makes firings of an actor one after another, the claimed one first, all of which pass the gate.
+    /// Nothing is in hand then.
+    pub(crate) fn make<G: Gate>(
+        &mut self,
+        gate: &G,
+        claim: Claim,
+        hand: &mut Hand,
+    ) -> Result<Made, StartFault>
+        requires open { (a k : ℕ) → G.passed gate.now a k }
+        ensures idle { hand.new.is_made ≡ false }
+        ensures claim { IfOk result (λ made. made.claim ≡ claim) }
+        ensures some { IfOk result (λ made. 0 < made.count) }
+        ensures fits { IfOk result (λ made. CanEnd claim made.count) }
+    {
+        let actor = claim.actor;
+        let answer = self.floor.make(gate, claim, most_from(claim.firing), hand);
+        if answer.is_ok() {
+            self.hints.made(self.floor.core(), actor);
+        } else {
+            self.hints.refused(actor);
+        }
+        answer
+    }
+
     /// Where a worker stands that has started this job, or none.
     pub(crate) fn stand(&mut self, tended: bool, started: Option<&Job>) -> Stand {
         Stand {
@@ -102,6 +129,7 @@ impl<K: Asked> Watched<K> {
                 Some(job) => self.hints.after(job.actor),
                 None => 0,
             },
+            light: self.policy.light(),
         }
     }
 

@@ -1,14 +1,14 @@
 //! What one worker does.
 
-ghost use Rattle.std.specs.Prelude.{◌≡◌, ℕ, None, Some, IfOk, IsTrue, OnOk, false, true};
+ghost use Rattle.std.specs.Prelude.{◌≡◌, ◌<◌, ℕ, None, Some, IfOk, IsTrue, OnOk, false, true};
 ghost use Rattle.csdf_claims.specs.Board.{HasFinished};
 ghost use Rattle.csdf_floor.specs.Floor.{IsReady};
 ghost use Rattle.csdf_run.specs.Hand.{claim_for, claim_if, claim_in};
 ghost use Rattle.csdf_run.specs.Workers.{HasMade, HoldsJust, HoldsNothing, IsActor, IsStartOf};
 
-use crate::claims::{Claim, claim_among, finish, give_back};
+use crate::claims::{Claim, claim_among, finish, finish_block, give_back};
 use crate::gate::Gate;
-use crate::hall::{Hall, Turn};
+use crate::hall::{BlockTurn, Hall, Turn};
 use crate::hand::Hand;
 use crate::run_floor::Asked;
 use crate::watched::Stand;
@@ -157,7 +157,55 @@ fn fire<G: Gate>(
     }
 }
 
-/// Delivers what is in hand, and makes the next firing, up to its delivery, where one can be had.
+/// What a worker whose start was refused goes on with: nothing is made, or it gives up.
+fn refused(fault: StartFault) -> Result<bool, RunFault> {
+    match fault {
+        StartFault::Refused(_) => Ok(false),
+        StartFault::Memory => Err(RunFault::Memory),
+        StartFault::Unknown | StartFault::Moved(_) => Err(RunFault::Mixed),
+    }
+}
+
+/// Makes firings of an actor one after another, the claimed one first, in one hold of the lock. Behind it
+/// the claim ends: what was made is finished, and a claim that was refused is given up. Only then another
+/// worker is woken. True where some were made.
+fn make<K: Asked, R: Wait, G: Gate>(
+    rt: &R,
+    hall: &Hall<K>,
+    board: &Board,
+    gate: &G,
+    place: &mut Place,
+    stand: &mut Stand,
+    hand: &mut Hand,
+    claim: Claim,
+) -> Result<bool, RunFault>
+    requires place { place.old.board ≡ board.now.id }
+    requires actor { claim.actor < board.now.actors }
+    requires holds { HoldsJust place.old.view None (Some claim) }
+    requires open { (a k : ℕ) → G.passed gate.now a k }
+    ensures board { place.new.board ≡ board.now.id }
+    ensures idle { hand.new.is_made ≡ false }
+    ensures holds { HoldsJust place.new.view None None }
+{
+    let BlockTurn { made, wakes } = hall.make(rt, gate, place, stand, hand, claim);
+    let answer = match made {
+        Ok(made) => {
+            finish_block(board, place, made);
+            Ok(true)
+        }
+        Err(fault) => {
+            give_back(board, place, Some(claim));
+            refused(fault)
+        }
+    };
+    if wakes {
+        hall.wake();
+    }
+    answer
+}
+
+/// Delivers what is in hand, and makes the next firing, up to its delivery, or some firings one after
+/// another, where one can be had. True where some firing was started or made.
 fn advance<K: Asked, R: Wait, G: Gate>(
     rt: &R,
     alloc: Global,
@@ -167,25 +215,31 @@ fn advance<K: Asked, R: Wait, G: Gate>(
     place: &mut Place,
     stand: &mut Stand,
     hand: &mut Hand,
-) -> Result<(), RunFault>
+) -> Result<bool, RunFault>
     requires place { place.old.board ≡ board.now.id }
     requires actor { IsActor board.now.actors (claim_in hand.old) }
     requires holds { HoldsJust place.old.view (claim_in hand.old) None }
     ensures board { place.new.board ≡ board.now.id }
+    ensures rests { IfOk result (λ gets_on. gets_on ≡ false → hand.new.is_made ≡ false) }
     ensures actor { OnOk result (IsActor board.now.actors (claim_in hand.new)) }
     ensures holds { OnOk result (HoldsJust place.new.view (claim_in hand.new) None) }
     ensures made { OnOk result (HasMade place.new.view (claim_in hand.old)) }
 {
     let given = hand.claim();
     let next = claim_next(hall, board, place, stand, given);
-    if next.is_none() && given.is_none() {
-        return Ok(());
+    if given.is_none() {
+        let Some(claim) = next else {
+            return Ok(false);
+        };
+        if gate.is_open() && hall.makes_blocks(stand, claim.actor) {
+            return make(rt, hall, board, gate, place, stand, hand, claim);
+        }
     }
-    match turn(rt, alloc, hall, board, place, stand, hand, next) {
-        Ok(true) => fire(board, gate, place, hand),
-        Ok(false) => Ok(()),
-        Err(fault) => Err(fault),
+    let is_started = turn(rt, alloc, hall, board, place, stand, hand, next)?;
+    if is_started {
+        fire(board, gate, place, hand)?;
     }
+    Ok(is_started)
 }
 
 /// Makes firings until the floor is quiet or a worker has given up.
@@ -210,8 +264,8 @@ pub(crate) fn work<K: Asked, R: Wait, G: Gate>(
         match advance(
             rt, alloc, hall, board, gate, &mut place, &mut stand, &mut hand,
         ) {
-            Ok(()) => {
-                if is_idle && hand.claim().is_none() && hall.wait(rt, &mut stand) {
+            Ok(gets_on) => {
+                if is_idle && !gets_on && hall.wait(rt, &mut stand) {
                     break;
                 }
             }

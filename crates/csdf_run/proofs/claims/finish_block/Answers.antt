@@ -1,0 +1,21 @@
+use Rattle.csdf_run.proofs.Held.{block_fits, block_held, block_just, block_made}
+use Rattle.csdf_run.proofs.claims.finish_block.Goals as goal
+
+pub done_many-requires-clause-held : goal.done_many-requires-clause-held
+done_many-requires-clause-held c =
+    block_held c.args.place.now.view c.args.made.claim c.claim.result c.args.made.count c.count.result c.requires.holds c.claim.ensures c.count.ensures
+
+pub done_many-requires-clause-fits : goal.done_many-requires-clause-fits
+done_many-requires-clause-fits c =
+    block_fits c.args.place.now.view c.args.made.claim c.claim.result c.args.made.count c.count.result c.requires.holds c.claim.ensures c.count.ensures
+    c.requires.fits
+
+pub returns-clause-holds : goal.returns-clause-holds
+returns-clause-holds c =
+    block_just c.args.place.now.view c.args.made.claim c.claim.result c.args.made.count c.count.result c.requires.holds c.claim.ensures c.count.ensures
+    c.done_many.new.place.view c.done_many.ensures.view
+
+pub returns-clause-made : goal.returns-clause-made
+returns-clause-made c =
+    block_made c.args.place.now.view c.args.made.claim c.claim.result c.args.made.count c.count.result c.requires.holds c.claim.ensures c.count.ensures
+    c.done_many.new.place.view c.done_many.ensures.each
