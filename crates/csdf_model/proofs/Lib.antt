@@ -1,4 +1,5 @@
 pub mod LinkLemmas
 pub mod CopyLemmas
+pub mod CapacityLemmas
 pub mod PortLemmas
 pub mod RateLemmas

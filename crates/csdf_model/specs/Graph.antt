@@ -1,5 +1,5 @@
 -- A cyclo-static dataflow graph, without where it lies in memory (Bilsen et al. 1996).
-use Rattle.std.specs.Prelude.{ℕ, suc, Bool, ◌==◌, if◌then◌else◌, List, [], ◌∷◌, ℤ, Option, None, string_bytes, count_by, map, slice_get, option_map, unwrap_or}
+use Rattle.std.specs.Prelude.{ℕ, zero, suc, Bool, ◌==◌, if◌then◌else◌, List, [], ◌∷◌, ℤ, Option, Some, None, string_bytes, count_by, map, slice_get, option_map, unwrap_or}
 use Rattle.csdf_model.specs.declared.parts.Kernel.{Kernel}
 use Rattle.csdf_model.specs.declared.parts.Actor.{Actor as ActorCode}
 use Rattle.csdf_model.specs.declared.parts.Channel.{Channel as ChannelCode}
@@ -47,6 +47,20 @@ graph_view actors channels cells = record { actors = map actor_view actors; chan
 -- the same graph, where no number of cells is given
 abbrev pub without_cells : Graph → Graph
 without_cells g = record { actors = g.actors; channels = g.channels; cells = None }
+
+-- the channel, given this capacity
+abbrev pub with_capacity : ℕ → Channel → Channel
+with_capacity capacity c = record c { capacity = Some capacity }
+
+-- the channels, where the one of this number is given this capacity
+abbrev pub channels_with : ℕ → ℕ → List Channel → List Channel
+channels_with n capacity [] = []
+channels_with zero capacity (c ∷ cs) = with_capacity capacity c ∷ cs
+channels_with (suc n) capacity (c ∷ cs) = c ∷ channels_with n capacity cs
+
+-- the same graph, where this channel is given this capacity
+abbrev pub with_capacity_at : ℕ → ℕ → Graph → Graph
+with_capacity_at n capacity g = record { actors = g.actors; channels = channels_with n capacity g.channels; cells = g.cells }
 
 -- the numbers of the elements that pass a test, in order, where the first element has this number
 abbrev pub numbers_from : {A : Type 0} → ℕ → (A → Bool) → List A → List ℕ

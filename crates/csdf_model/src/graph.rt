@@ -1,8 +1,8 @@
 //! The type of a graph that has passed each check.
 
-ghost use Rattle.std.specs.Prelude.{◌≡◌, ◌<◌, ◌≤◌, map, length, string_bytes, All, IfOk};
-ghost use Rattle.csdf_model.specs.Graph.{actor_view, channel_view, graph_view, inputs_of, outputs_of, ports_of, ports_view, without_cells};
-ghost use Rattle.csdf_model.specs.WellFormed.{IsWellFormed};
+ghost use Rattle.std.specs.Prelude.{◌≡◌, ◌<◌, ◌≤◌, map, length, string_bytes, slice_get, All, IfOk, IfSome};
+ghost use Rattle.csdf_model.specs.Graph.{actor_view, channel_view, graph_view, inputs_of, outputs_of, ports_of, ports_view, with_capacity_at, without_cells};
+ghost use Rattle.csdf_model.specs.WellFormed.{IsCapacity, IsWellFormed};
 ghost use Rattle.csdf_model.specs.Names.{number_in};
 
 use crate::numbers::number_in;
@@ -166,6 +166,16 @@ impl Graph {
         let cells = self.cells;
         Graph::new(alloc, actors, channels, cells, actor_names, channel_names)
     }
+
+    /// Gives the channel this capacity, in the place of the one that it was given, if any.
+    pub fn give_capacity(&mut self, channel: u32, capacity: u32)
+        requires exists { channel < length self.old.channels }
+        requires fits { IfSome (slice_get self.old.channels channel) (λ c. IsCapacity c capacity) }
+        ensures { self.new ≡ with_capacity_at channel capacity self.old }
+    {
+        self.channels[channel as usize].capacity = Some(capacity);
+    }
+
     /// The same graph where no number of cells is given.
     #[tactic(auto, using(crate::proofs::CopyLemmas::kept_without_cells))]
     pub fn without_cells(self) -> Graph
