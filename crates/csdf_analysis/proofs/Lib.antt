@@ -14,3 +14,6 @@ pub mod SearchLemmas
 pub mod StallLemmas
 pub mod LowerLemmas
 pub mod WakeLemmas
+pub mod GrantLemmas
+pub mod RoomyLemmas
+mod RoomExamples

@@ -23,7 +23,7 @@ use Rattle.csdf_analysis.proofs.LeastLemmas.{channel_at}
 use Rattle.csdf_analysis.proofs.RoomLemmas.{enough_complete}
 
 -- an entry for each channel
-bound_at : (f : Channel → ℕ) (channels : List Channel) (i : ℕ) (c : Channel) → slice_get channels i ≡ Some c → get_or (map f channels) i 0 ≡ f c
+pub bound_at : (f : Channel → ℕ) (channels : List Channel) (i : ℕ) (c : Channel) → slice_get channels i ≡ Some c → get_or (map f channels) i 0 ≡ f c
 bound_at f [] i c is = absurd (let lt = slice_get_within [] i c is in omega arith)
 bound_at f (d ∷ channels) zero c is = ap f (let same : d ≡ c = cc in same)
 bound_at f (d ∷ channels) (suc i) c is = bound_at f channels i c is

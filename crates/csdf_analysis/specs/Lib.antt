@@ -11,3 +11,4 @@ pub mod Repetition
 pub mod Running
 pub mod Stalling
 pub mod Waking
+pub mod Room

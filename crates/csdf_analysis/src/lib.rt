@@ -13,6 +13,7 @@ pub mod mask;
 mod members;
 mod neighbours;
 mod net;
+mod room;
 mod run;
 mod stall;
 mod vector;
@@ -27,7 +28,11 @@ pub use calls::schedule::schedule;
 pub use calls::stall::stall_of;
 pub use demand::{Demand, Ratio};
 pub use fault::AcceptFault;
-pub use laws::{every_schedule_goes_on, full_capacity_suffices, greater_capacities_complete};
+pub use laws::{
+    every_schedule_goes_on, full_capacity_suffices, greater_capacities_complete,
+    room_holds_periods, room_is_accepted, room_is_refused,
+};
 pub use neighbours::{consumers_of, producers_of};
+pub use room::{accept_with_room, give_room};
 pub use stall::{Bounds, Stall, Wait};
 pub use vector::Vector;
