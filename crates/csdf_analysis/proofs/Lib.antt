@@ -16,4 +16,5 @@ pub mod LowerLemmas
 pub mod WakeLemmas
 pub mod GrantLemmas
 pub mod RoomyLemmas
+pub mod AutoLemmas
 mod RoomExamples

@@ -1,5 +1,5 @@
 -- Graphs whose channels have room for the tokens of several periods.
-use Rattle.std.specs.Prelude.{◌≡◌, ℕ, ◌+◌, ◌*◌, ◌<◌, ◌≤◌, min, List, length, map, slice_index, slice_get, unwrap_or, Some}
+use Rattle.std.specs.Prelude.{◌≡◌, ◌≢◌, ◌⊎◌, ℕ, ◌+◌, ◌*◌, ◌<◌, ◌≤◌, min, max, List, [], ◌∷◌, length, map, slice_index, slice_get, unwrap_or, Option, Some, None, All}
 use Rattle.csdf_model.specs.Graph.{Channel, Graph, with_capacity}
 use Rattle.csdf_model.specs.Rates.{produced}
 use Rattle.csdf_analysis.specs.declared.fault.AcceptFault.{AcceptFault}
@@ -60,3 +60,32 @@ abbrev pub RoomHoldsPeriods : Type 0
 RoomHoldsPeriods =
     (g : Graph) (r q n : List ℕ) (periods i : ℕ) (c : Channel) → IsWellFormed g → IsRepetition g.actors g.channels r q → slice_get g.channels i ≡ Some c
     → room_for q periods c < 65535 → slice_index n c.from < periods * slice_index q c.from → held_after c.from n c ≤ room_for q periods c
+
+-- a channel that was given a capacity
+abbrev pub IsGiven : Channel → Type 0
+IsGiven c = c.capacity ≢ None
+
+-- in so many periods a channel that was given no capacity carries at most 4,096 tokens
+abbrev pub CarriesFew : List ℕ → ℕ → Channel → Type 0
+CarriesFew q periods c = c.capacity ≡ None → periods * produced c (slice_index q c.from) ≤ 4096
+
+-- the greatest number of periods in which no such channel carries more, and at least 1; it is 1 where each channel was given a capacity
+pub record IsAutoRoom (q : List ℕ) (channels : List Channel) (periods : ℕ) : Type 0 where
+  pub some : 1 ≤ periods
+  pub within : periods ≤ 4096
+  pub few : (periods ≡ 1) ⊎ All (CarriesFew q periods) channels
+  pub greatest : (more : ℕ) → periods < more → All (CarriesFew q more) channels → All IsGiven channels
+  pub given : All IsGiven channels → periods ≡ 1
+
+-- how many tokens a period puts into a channel that was given no capacity, and 0 for another
+abbrev pub unless_given : Option ℕ → ℕ → ℕ
+unless_given None tokens = tokens
+unless_given (Some capacity) tokens = 0
+
+abbrev pub carried : List ℕ → Channel → ℕ
+carried q c = unless_given c.capacity (produced c (slice_index q c.from))
+
+-- the most of these
+abbrev pub most_carried : List ℕ → List Channel → ℕ
+most_carried q [] = 0
+most_carried q (c ∷ cs) = max (carried q c) (most_carried q cs)

@@ -1,10 +1,10 @@
 //! Room for the tokens of several periods.
 
-ghost use Rattle.std.specs.Prelude.{◌≡◌, ◌≤◌, IfErr, IfOk, length};
+ghost use Rattle.std.specs.Prelude.{◌≡◌, ◌≤◌, All, IfErr, IfOk, length, map};
 ghost use Rattle.csdf_model.specs.Graph.{channel_view};
 ghost use Rattle.csdf_analysis.specs.Acceptance.{IsAccepted, IsNotAccepted};
-ghost use Rattle.csdf_analysis.specs.Repetition.{IsRepetition, IsWithin, full_capacity};
-ghost use Rattle.csdf_analysis.specs.Room.{capacity_with_room, room_for, with_room};
+ghost use Rattle.csdf_analysis.specs.Repetition.{HaveRoom, IsRepetition, IsWithin, full_capacity};
+ghost use Rattle.csdf_analysis.specs.Room.{IsAutoRoom, capacity_with_room, carried, most_carried, room_for, with_room};
 
 use crate::accepted::{Accepted, accept};
 use crate::calls::repetition::repetition;
@@ -15,6 +15,10 @@ use std::alloc::Global;
 
 /// The greatest capacity of a channel.
 const GREATEST_CAPACITY: u64 = 65_535;
+
+/// The most tokens that a channel without a capacity of its own is to carry in the periods that
+/// [`auto_room`] answers.
+const MOST_CARRIED: u32 = 4_096;
 
 /// The initial tokens of the channel and all that its producer puts in within so many periods, and
 /// at most 65,535.
@@ -71,4 +75,45 @@ pub fn accept_with_room(alloc: Global, graph: Graph, periods: u32) -> Result<Acc
         Ok(accepted) => Ok(accepted),
         Err((_, fault)) => Err(fault),
     }
+}
+
+/// How many tokens a period puts into the channel, or 0 where it has a capacity of its own.
+fn carried(channel: &Channel, q: &[u32]) -> u32
+    requires channel { IsWithin (length q.now) (channel_view channel.now) }
+    requires full { full_capacity q.now (channel_view channel.now) ≤ 65535 }
+    ensures { result ≡ carried q.now (channel_view channel.now) }
+{
+    match channel.capacity {
+        Some(_) => 0,
+        None => channel.produced(q[channel.from as usize]) as u32,
+    }
+}
+
+/// The most tokens that a period puts into one of the channels that have no capacity of their own,
+/// or 0 where there is no such channel.
+fn most_carried(channels: &[Channel], q: &[u32]) -> u32
+    requires channels { All (IsWithin (length q.now)) (map channel_view channels.now) }
+    requires room { HaveRoom q.now (map channel_view channels.now) }
+    ensures { result ≡ most_carried q.now (map channel_view channels.now) }
+{
+    let mut most = 0;
+    for channel in channels {
+        most = most.max(carried(channel, q));
+    }
+    most
+}
+
+/// The greatest number of periods in which no channel without a capacity of its own carries more
+/// than 4,096 tokens, and at least 1.
+///
+/// It is 1 where every channel has a capacity of its own, since room changes none of these.
+pub fn auto_room(graph: &Graph, vector: &Vector) -> u32
+    requires { IsRepetition graph.now.actors graph.now.channels vector.now.r.items vector.now.q.items }
+    ensures { IsAutoRoom vector.now.q.items graph.now.channels result }
+{
+    let most = most_carried(graph.channels(), &vector.q);
+    if most == 0 {
+        return 1;
+    }
+    (MOST_CARRIED / most).max(1)
 }
