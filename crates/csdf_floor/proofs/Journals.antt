@@ -21,7 +21,7 @@ honest_push w s reads (n ∷ ms) m h one = (h.0, honest_push w (after w.plan s n
 pub goes_on : GoesOn
 goes_on w journal m h one = honest_push w (opening w.plan) (no_reads w.plan) journal m h one
 
-honest_split : (w : Program) (s : State) (reads : List (List ℤ)) (front rest : List Move) → IsHonestFrom w s reads (front ++ rest)
+pub honest_split : (w : Program) (s : State) (reads : List (List ℤ)) (front rest : List Move) → IsHonestFrom w s reads (front ++ rest)
     → IsHonestFrom w s reads front × IsHonestFrom w (state_after w.plan s front) (reads_from w.plan s reads front) rest
 honest_split w s reads [] rest h = (tt, h)
 honest_split w s reads (m ∷ front) rest h =

@@ -27,3 +27,4 @@ pub mod Honestly
 pub mod Makings
 pub mod MadeFloors
 pub mod OneFirings
+pub mod MoreFirings

@@ -164,6 +164,7 @@ impl Book {
         ensures rooms { self.new.rooms ≡ self.old.rooms }
         ensures reads { self.new.reads ≡ self.old.reads }
         ensures room { OnOk result (more ≤ self.new.room) }
+        ensures greater { self.old.room ≤ self.new.room }
         ensures width { self.new.width ≡ self.old.width }
         ensures takes_nothing { self.old.shown.keeps ≡ false → IsOk result }
     {
@@ -175,6 +176,7 @@ impl Book {
         ensures shown { self.new.shown ≡ self.old.shown }
         ensures rooms { self.new.rooms ≡ self.old.rooms }
         ensures reads { self.new.reads ≡ self.old.reads }
+        ensures room { self.new.room ≡ self.old.room }
         ensures width { OnOk result (tokens ≤ self.new.width) }
         ensures takes_nothing { self.old.shown.keeps ≡ false → IsOk result }
     {
@@ -503,6 +505,7 @@ impl Book {
             → needed ≤ slice_index self.new.rooms actor) }
         ensures width { OnOk result (gift actor (count self.old.shown.core.now actor) self.old.shown.core.plan.channels ≤ self.new.width) }
         ensures room { OnOk result (4 * n + length (outputs_at self.old.shown.core.plan.channels actor) ≤ self.new.room) }
+        ensures greater { self.old.room ≤ self.new.room }
     {
         self.fit_length(actor, needed)?;
         self.reserve_taken(actor, needed)?;
@@ -528,6 +531,7 @@ impl Book {
         ensures made { OnOk result (HasMade self.old.shown self.new.shown actor n (made_moves self.old.shown actor n)) }
         ensures room { OnOk result (length (outputs_at self.old.shown.core.plan.channels actor) ≤ self.new.room) }
         ensures unchanged { OnErr result (self.new.shown ≡ self.old.shown) }
+        ensures room_stays { OnErr result (self.old.room ≤ self.new.room) }
     {
         self.make_room_for(*outputs.allocator(), actor, n, needed)?;
         self.peek(actor, n);
@@ -586,6 +590,7 @@ impl Book {
         ensures room { OnOk result (HasRoom self.new actor) }
         ensures need { OnOk result (length (slice_index_or self.new.reads actor []) ≤ 8192) }
         ensures moves { OnOk result (4 + length (outputs_at self.old.shown.core.plan.channels actor) ≤ self.new.room) }
+        ensures greater { self.old.room ≤ self.new.room }
         ensures width { OnOk result (gift actor (count self.old.shown.core.now actor) self.old.shown.core.plan.channels ≤ self.new.width) }
         ensures counts { OnOk result (counts.new.items ≡ output_counts (program self.old.shown.work) actor (count self.old.shown.core.now actor)) }
         ensures few_counts { OnOk result (length counts.new.items ≤ 128) }
@@ -613,6 +618,7 @@ impl Book {
         ensures made { OnOk result (HasMade self.old.shown self.new.shown actor 1 (made_moves self.old.shown actor 1)) }
         ensures room { OnOk result (length (outputs_at self.old.shown.core.plan.channels actor) ≤ self.new.room) }
         ensures unchanged { OnErr result (self.new.shown ≡ self.old.shown) }
+        ensures room_stays { OnErr result (self.old.room ≤ self.new.room) }
     {
         let _ = &self.work;
         self.prepare_one(actor, counts, outputs)?;
@@ -640,6 +646,7 @@ impl Book {
         ensures made { IfOk result (λ n. HasMade self.old.shown self.new.shown actor n (made_moves self.old.shown actor n)) }
         ensures room { OnOk result (length (outputs_at self.old.shown.core.plan.channels actor) ≤ self.new.room) }
         ensures unchanged { OnErr result (self.new.shown ≡ self.old.shown) }
+        ensures room_stays { OnErr result (self.old.room ≤ self.new.room) }
     {
         let block = self.block(actor, most);
         let n = block.firings;
@@ -649,6 +656,72 @@ impl Book {
         }
         self.make(actor, n, block.needed as usize, counts, outputs)?;
         Ok(n)
+    }
+
+    /// Whether the actor's next firing may begin.
+    fn may_begin(&self, actor: u32) -> bool
+        ensures { IsTrue result ↔ (refusal self.now.shown.core.plan self.now.shown.core.now (Begin actor) ≡ None) }
+    {
+        let _ = &self.work;
+        self.core.can_begin(actor).is_ok()
+    }
+
+    /// Makes some of the actor's next firings, at most so many. It makes none where the next one may not
+    /// begin, or memory runs out.
+    fn make_more(
+        &mut self,
+        actor: u32,
+        most: u32,
+        counts: &mut Counts,
+        outputs: &mut Outputs,
+    ) -> u32
+        requires exists { actor < length self.old.shown.core.plan.sources }
+        requires idle { stage self.old.shown.core.now actor ≡ Idle }
+        requires room { length (outputs_at self.old.shown.core.plan.channels actor) ≤ self.old.room }
+        ensures most { result ≤ most }
+        ensures made { HasMade self.old.shown self.new.shown actor result (made_moves self.old.shown actor result) }
+        ensures room { length (outputs_at self.old.shown.core.plan.channels actor) ≤ self.new.room }
+        ensures before { IsHonest (program self.old.shown.work) self.old.shown.journal }
+    {
+        let _ = &self.work;
+        if most == 0 || !self.may_begin(actor) {
+            return 0;
+        }
+        match self.make_some(actor, most, counts, outputs) {
+            Ok(n) => n,
+            Err(_error) => 0,
+        }
+    }
+
+    /// Makes the actor's next firings, of which the first may begin, until so many are made or the next
+    /// one may not begin. It makes fewer where memory runs out after the first.
+    pub(crate) fn make_many(
+        &mut self,
+        actor: u32,
+        most: u32,
+        counts: &mut Counts,
+        outputs: &mut Outputs,
+    ) -> Result<u32, AllocError>
+        requires exists { actor < length self.old.shown.core.plan.sources }
+        requires idle { stage self.old.shown.core.now actor ≡ Idle }
+        requires accepted { refusal self.old.shown.core.plan self.old.shown.core.now (Begin actor) ≡ None }
+        requires some { 0 < most }
+        ensures some { IfOk result (λ n. 0 < n) }
+        ensures most { IfOk result (λ n. n ≤ most) }
+        ensures made { IfOk result (λ n. HasMade self.old.shown self.new.shown actor n (made_moves self.old.shown actor n)) }
+        ensures room { OnOk result (length (outputs_at self.old.shown.core.plan.channels actor) ≤ self.new.room) }
+        ensures unchanged { OnErr result (self.new.shown ≡ self.old.shown) }
+    {
+        let _ = &self.work;
+        let mut made = self.make_some(actor, most, counts, outputs)?;
+        for _firing in 1..most {
+            let more = self.make_more(actor, most - made, counts, outputs);
+            if more == 0 {
+                break;
+            }
+            made += more;
+        }
+        Ok(made)
     }
 
     /// Closes the channel, whose producer is idle and makes no firing more.

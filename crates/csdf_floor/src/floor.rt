@@ -217,10 +217,11 @@ impl Floor {
         Ok(())
     }
 
-    /// Makes some of the actor's next firings at once, where it stands at this firing, and closes its
-    /// outputs where it makes no firing more. It answers how many they are: at most so many, and at
-    /// least one where `most` is. A block of several is made where the journal is not kept and the
-    /// actor has one phase, at most one input and at most one output; else it is one firing.
+    /// Makes the actor's next firings, where it stands at this firing, and closes its outputs where it
+    /// makes no firing more. It answers how many they are: at most so many, and at least one where
+    /// `most` is. It goes on until so many are made, the next one is refused, or memory runs out after
+    /// the first. Firings are made in blocks where the journal is not kept and the actor has one phase,
+    /// at most one input and at most one output that is another channel; else one by one.
     ///
     /// The refusals are those of [`Floor::start`], and a refusal changes nothing that a reader shows.
     /// The lists are only worked in.
@@ -245,7 +246,7 @@ impl Floor {
         if most == 0 {
             return Ok(0);
         }
-        let n = self.book.make_some(actor, most, counts, outputs)?;
+        let n = self.book.make_many(actor, most, counts, outputs)?;
         let producer = actor;
         self.book.close_outputs(producer);
         Ok(n)

@@ -11,6 +11,6 @@ invariant_of-self-2 c =
     let may : MayStart c.self.inside.book.shown c.args.actor c.args.firing = subst (λ (f : FloorView). MayStart f c.args.actor c.args.firing)
     (sym c.self.view_is) (may_start c.args.self.now c.args.actor c.args.firing none) in
     let can = can_begin c.self.inside.book.shown.core.plan c.self.inside.book.shown.core.now c.args.actor may.accepted in
-    between_made c.self.inside.book.shown c.make_some.new.self.shown c.close_outputs.new.self.shown c.args.actor c.in_ok-n.n _
+    between_made c.self.inside.book.shown c.make_many.new.self.shown c.close_outputs.new.self.shown c.args.actor c.in_ok-n.n _
     c.self.invariant can.idle (not_over c.self.inside.book.shown.core.plan c.self.inside.book.shown.core.now c.args.actor may.accepted)
     c.in_ok-n.ensures.made c.close_outputs.ensures.closed
