@@ -4,6 +4,8 @@
 #![tactic(auto)]
 
 #[cfg(test)]
+mod block_tests;
+#[cfg(test)]
 mod claim_tests;
 #[cfg(test)]
 mod gate_tests;
