@@ -1,14 +1,16 @@
 -- How long the value of a kernel is, what it is with no input, and those of several firings.
-use Rattle.std.proofs.Common.{◌-◌, ◌*◌, ◌<◌, ◌≤◌, take, drop, append_assoc}
+use Rattle.std.proofs.Common.{rules, true, ◌==◌, ◌-◌, ◌*◌, ◌<◌, ◌≤◌, take, drop, append_assoc, length-drop, slice_index}
 use Rattle.std.proofs.Common.{◌≡◌, ℕ, zero, suc, ◌+◌, ◌^◌, List, [], ◌∷◌, ◌++◌, length, sum, flat_map, replicate, refl, sym, ◌∙◌, ap, subst, add-one, arith}
 use Rattle.std.proofs.Common.{ℤ, pos, ◌*ℤ◌}
-use Rattle.std.proofs.lemmas.List.{drop-drop, length-replicate, replicate_more, replicate-append-replicate}
+use Rattle.std.proofs.lemmas.List.{append-nil, drop-drop, ext_get_or, length-take-le, length-replicate, replicate_more, replicate-append-replicate}
 use Rattle.std.proofs.lemmas.List.Sums.{sum_by-cons}
 use Rattle.std.proofs.lemmas.Int.{ints}
-use Rattle.std.proofs.Math.Nat.{zero-div, suc-mul}
+use Rattle.std.proofs.Math.Nat.{mod-eq_of_lt, zero-div, suc-mul}
+use Rattle.std.proofs.Math.Seq.{take-add}
 use Rattle.csdf_model.specs.declared.parts.Kernel.{Kernel}
 use Rattle.csdf_model.specs.declared.parts.Kernel.TheVariants.{Source, Sink, Copy, Sum, Fir}
-use Rattle.csdf_kernel.specs.Value.{places, token_at, total, clamp, floor, copy_token, convolution, filter_token, value_of, values_of}
+use Rattle.csdf_kernel.specs.Value.{places, token_at, total, clamp, floor, copy_token, convolution, filter_token, value_of, values_of, GivesAsRead}
+use Rattle.std.proofs.lemmas.List.FromFn.{get_or-map-range_with_len}
 use Rattle.csdf_kernel.proofs.PlaceLemmas.{length_places, places_none, places_more, length_channels}
 
 pub length_of_value : (kernel : Kernel) (counts : List ℕ) (xs : List ℤ) → length (value_of kernel counts xs) ≡ sum counts
@@ -95,3 +97,73 @@ room_less need n i at most lt le =
 -- the next of them has room
 pub room_one : (n i at each most : ℕ) → i < n → at + (n - i) * each ≤ most → at + each ≤ most
 room_one n i at each most lt le = omega (arith, room_less each n i at most lt le)
+
+-- ---- firings that write what they read
+
+places_are : (f : ℕ → ℤ) (n : ℕ) (xs : List ℤ) → length xs ≡ n → ((i : ℕ) → i < n → f i ≡ token_at xs i) → places f n ≡ xs
+unfolding places
+places_are f n xs long each = ext_get_or (pos 0) (places f n) xs (length_places f n ∙ sym long)
+    (λ i lt. let within : i < n = omega (arith, lt, length_places f n) in get_or-map-range_with_len f 0 n i i (pos 0) within (omega arith) ∙ each i within)
+
+pub one_alone : (counts : List ℕ) (count : ℕ) → length counts ≡ 1 → slice_index counts 0 ≡ count → counts ≡ count ∷ []
+one_alone [] count one is = absurd (omega arith)
+one_alone (c ∷ []) count one is = ap (λ (k : ℕ). k ∷ []) is
+one_alone (c ∷ d ∷ cs) count one is = absurd (omega arith)
+
+pub one_sum : (counts : List ℕ) (need : ℕ) → counts ≡ need ∷ [] → sum counts ≡ need
+one_sum counts need just = ap sum just ∙ omega (arith, sum_by-cons (λ x. x) need [])
+
+source_of : (c need : ℕ) → c ≡ need → GivesAsRead Source (c ∷ []) need
+unfolding value_of
+source_of c need same xs long = places_are (token_at xs) (sum (c ∷ [])) xs (omega (arith, sum_by-cons (λ x. x) c [], same, long)) (λ i lt. refl)
+
+pub source_as_read : (counts : List ℕ) (need : ℕ) → counts ≡ need ∷ [] → GivesAsRead Source counts need
+source_as_read counts need just = subst (λ (cs : List ℕ). GivesAsRead Source cs need) (sym just) (source_of need need refl)
+
+copied_at_place : (xs : List ℤ) (i : ℕ) → i < length xs → copy_token xs i ≡ token_at xs i
+unfolding copy_token
+copied_at_place xs i lt = ap (token_at xs) (mod-eq_of_lt lt)
+
+copy_of : (c need : ℕ) → c ≡ need → GivesAsRead Copy (c ∷ []) need
+unfolding value_of
+copy_of c need same xs long =
+    append-nil (places (copy_token xs) c) ∙ places_are (copy_token xs) c xs (long ∙ sym same) (λ i lt. copied_at_place xs i (omega (arith, lt, same, long)))
+
+pub copy_as_read : (counts : List ℕ) (need : ℕ) → counts ≡ need ∷ [] → GivesAsRead Copy counts need
+copy_as_read counts need just = subst (λ (cs : List ℕ). GivesAsRead Copy cs need) (sym just) (copy_of need need refl)
+
+-- no channel, no token
+nothing_written : (kernel : Kernel) (xs : List ℤ) → value_of kernel [] xs ≡ []
+unfolding value_of
+nothing_written Source xs = places_none (token_at xs)
+nothing_written Sink xs = refl
+nothing_written Copy xs = refl
+nothing_written Sum xs = refl
+nothing_written (Fir weights taps shift) xs = refl
+
+values_none : (kernel : Kernel) (need n : ℕ) (xs : List ℤ) → values_of kernel [] need n xs ≡ []
+values_none kernel need zero xs = refl
+values_none kernel need (suc n) xs =
+    let none : value_of kernel [] (take need xs) ≡ [] = nothing_written kernel (take need xs) in
+    ap (λ (u : List ℤ). u ++ values_of kernel [] need n (drop need xs)) none ∙ values_none kernel need n (drop need xs)
+
+pub no_counts : (counts : List ℕ) → true ≡ (length counts == 0) → counts ≡ []
+no_counts [] none = refl
+no_counts (c ∷ cs) none = search (rules)
+
+pub values_unwritten : (kernel : Kernel) (counts : List ℕ) (need n : ℕ) (xs : List ℤ) → counts ≡ [] → values_of kernel counts need n xs ≡ []
+values_unwritten kernel counts need n xs none = subst (λ (cs : List ℕ). values_of kernel cs need n xs ≡ []) (sym none) (values_none kernel need n xs)
+
+pub values_as_read : (kernel : Kernel) (counts : List ℕ) (need n : ℕ) (xs : List ℤ) → GivesAsRead kernel counts need → n * need ≤ length xs
+    → values_of kernel counts need n xs ≡ take (n * need) xs
+values_as_read kernel counts need zero xs same le =
+    let e : 0 ≡ 0 * need = omega arith in
+    ap (λ (k : ℕ). take k xs) e
+values_as_read kernel counts need (suc n) xs same le =
+    let m = suc-mul n need in
+    let e : suc n * need ≡ need + n * need = omega (arith, m) in
+    let one : value_of kernel counts (take need xs) ≡ take need xs = same (take need xs) (length-take-le need xs (omega (arith, le, m))) in
+    let left : length (drop need xs) ≡ length xs - need = length-drop need xs in
+    let others = values_as_read kernel counts need n (drop need xs) same (omega (arith, le, m, left)) in
+    ap (λ (u : List ℤ). u ++ values_of kernel counts need n (drop need xs)) one ∙ ap (λ (u : List ℤ). take need xs ++ u) others
+    ∙ sym (take-add need (n * need) xs) ∙ ap (λ (k : ℕ). take k xs) (sym e)

@@ -1,7 +1,7 @@
 -- The value of a kernel: the tokens that one firing writes, from its counts and the tokens that it read alone.
 -- The kernels are nodes of synchronous dataflow graphs (Lee and Messerschmitt 1987), the filter is a finite impulse response by
 -- direct convolution (Oppenheim and Schafer, Discrete-Time Signal Processing).
-use Rattle.std.specs.Prelude.{ℕ, zero, suc, ◌+◌, ◌%◌, ◌^◌, ◌≤◌, List, [], ◌++◌, length, map, fold, sum, flat_map, replicate, take, drop, slice_index_or}
+use Rattle.std.specs.Prelude.{ℕ, zero, suc, ◌≡◌, ◌+◌, ◌%◌, ◌^◌, ◌≤◌, List, [], ◌++◌, length, map, fold, sum, flat_map, replicate, take, drop, slice_index_or}
 use Rattle.std.specs.Prelude.{ℤ, pos, ◌+ℤ◌, ◌*ℤ◌}
 use Rattle.std.specs.List.{range_with_len}
 use Rattle.std.specs.Int.{w32, saturate_signed, int_div_euclid}
@@ -52,6 +52,10 @@ value_of (Fir weights taps shift) counts xs = flat_map (places (filter_token wei
 abbrev pub values_of : Kernel → List ℕ → ℕ → ℕ → List ℤ → List ℤ
 values_of kernel counts need zero xs = []
 values_of kernel counts need (suc n) xs = value_of kernel counts (take need xs) ++ values_of kernel counts need n (drop need xs)
+
+-- a firing that reads so many tokens writes just these
+abbrev pub GivesAsRead : Kernel → List ℕ → ℕ → Type 0
+GivesAsRead kernel counts need = (xs : List ℤ) → length xs ≡ need → value_of kernel counts xs ≡ xs
 
 -- a filter has at most 16 taps, and shifts by at most 31
 abbrev pub HasFilterInRange : Kernel → Type 0

@@ -1,7 +1,7 @@
 //! The outputs of a job, in one list.
-ghost use Rattle.std.specs.Prelude.{◌≡◌, ◌≤◌, ◌<◌, ◌^◌, ◌*◌, ◌++◌, [], length, sum, All, IsOk, OnOk, OnErr};
+ghost use Rattle.std.specs.Prelude.{◌≡◌, ◌≤◌, ◌<◌, ◌^◌, ◌*◌, ◌++◌, ◌∷◌, [], length, sum, All, IsOk, IsTrue, OnOk, OnErr};
 ghost use Rattle.smallvec.specs.SmallVec.{HasRoomFor};
-ghost use Rattle.csdf_kernel.specs.Value.{value_of, values_of, HasFilterInRange};
+ghost use Rattle.csdf_kernel.specs.Value.{value_of, values_of, GivesAsRead, HasFilterInRange};
 
 use crate::channels::{push_copies, push_filtered, push_same, push_source};
 use crate::filter::Filter;
@@ -86,6 +86,66 @@ pub(crate) fn outputs_into(
     Ok(())
 }
 
+/// Whether there is one count, and it is this one.
+#[tactic(auto, using(crate::proofs::ValueLemmas::one_alone))]
+fn is_just(counts: &[u32], count: usize) -> bool
+    ensures { IsTrue result → counts.now ≡ count ∷ [] }
+{
+    if counts.len() != 1 {
+        return false;
+    }
+    counts[0] as usize == count
+}
+
+/// Whether a firing that reads so many tokens writes just these: to one channel, each of them once.
+#[tactic(auto, using(crate::proofs::ValueLemmas::source_as_read, crate::proofs::ValueLemmas::copy_as_read, crate::proofs::ValueLemmas::one_sum))]
+fn gives_as_read(kernel: &Kernel, counts: &[u32], need: usize) -> bool
+    ensures as_read { IsTrue result → GivesAsRead kernel.now counts.now need }
+    ensures many { IsTrue result → sum counts.now ≡ need }
+{
+    match kernel {
+        Kernel::Source => is_just(counts, need),
+        Kernel::Copy => is_just(counts, need),
+        Kernel::Sink | Kernel::Sum | Kernel::Fir { .. } => false,
+    }
+}
+
+/// Tokens, at the end of a list that has room for them.
+fn push_all(outputs: &mut Outputs, tokens: &[i32])
+    requires { HasRoomFor outputs.old (length tokens.now) }
+    ensures { outputs.new.items ≡ outputs.old.items ++ tokens.now }
+{
+    match outputs.extend_from_slice(tokens) {
+        Ok(()) => {}
+        Err(_error) => unreachable!(),
+    }
+}
+
+/// The kernel's values of so many firings of the same counts, end to end, at the end of a list that has
+/// room for them. Each firing has the next `need` of the inputs.
+fn push_values(
+    outputs: &mut Outputs,
+    kernel: &Kernel,
+    counts: &[u32],
+    need: usize,
+    firings: u32,
+    inputs: &[i32],
+)
+    requires few_counts { length counts.now ≤ 128 }
+    requires small_counts { All (λ count. count ≤ 64) counts.now }
+    requires few_inputs { need ≤ 8192 }
+    requires filter_in_range { HasFilterInRange kernel.now }
+    requires whole { firings * need ≤ length inputs.now }
+    requires room { HasRoomFor outputs.old (firings * sum counts.now) }
+    ensures { outputs.new.items ≡ outputs.old.items ++ values_of kernel.now counts.now need firings inputs.now }
+{
+    let mut at = 0;
+    for _firing in 0..firings {
+        push_value(outputs, kernel, counts, &inputs[at..at + need]);
+        at += need;
+    }
+}
+
 /// The kernel's values of so many firings of the same counts, end to end, in the place of what the
 /// list holds. Each firing has the next `need` of the inputs.
 ///
@@ -108,10 +168,13 @@ pub(crate) fn values_into(
     ensures room { firings * sum counts.now ≤ outputs.old.capacity → IsOk result }
 {
     make_room(outputs, firings as usize * total_of(counts))?;
-    let mut at = 0;
-    for _firing in 0..firings {
-        push_value(outputs, kernel, counts, &inputs[at..at + need]);
-        at += need;
+    if counts.is_empty() {
+        return Ok(());
+    }
+    if gives_as_read(kernel, counts, need) {
+        push_all(outputs, &inputs[..firings as usize * need]);
+    } else {
+        push_values(outputs, kernel, counts, need, firings, inputs);
     }
     Ok(())
 }

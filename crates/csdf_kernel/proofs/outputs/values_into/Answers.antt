@@ -1,8 +1,9 @@
-use Rattle.std.proofs.Common.{◌≡◌, ◌+◌, ◌<◌, length, length-append, sum, ap, ◌∙◌, arith}
+use Rattle.std.proofs.Common.{◌≡◌, ◌*◌, ◌++◌, length, sum, take, ap, refl, subst, sym, ◌∙◌, arith}
+use Rattle.smallvec.specs.SmallVec.{HasRoomFor}
+use Rattle.std.proofs.lemmas.List.{length-take-le}
+use Rattle.csdf_kernel.proofs.ValueLemmas.{no_counts, values_as_read, values_unwritten}
 use Rattle.std.proofs.lemmas.List.Sums.{sum_by-le}
 use Rattle.std.proofs.lemmas.Nat.{mul-le}
-use Rattle.csdf_kernel.specs.Value.{value_of}
-use Rattle.csdf_kernel.proofs.ValueLemmas.{length_of_value, one_firing_more, room_less}
 use Rattle.csdf_kernel.proofs.outputs.values_into.Goals as goal
 
 pub total_of-requires : goal.total_of-requires
@@ -17,18 +18,20 @@ overflow_mul-firings c =
     let most = mul-le c.args.firings c.total_of.result 4294967296 8192 (omega (arith, n)) (omega (arith, few, counts, total)) in
     omega (arith, most)
 
-pub loop-firing-preserved : goal.loop-firing-preserved
-loop-firing-preserved c =
-    let more : c.loop-firing._firing < c.args.firings = omega (arith, c.loop-firing-test.true) in
-    let longer : length c.push_value.new.outputs.items ≡ length c.loop-firing.outputs.items + sum c.args.counts.now =
-    ap length c.push_value.ensures.items ∙ length-append c.loop-firing.outputs.items (value_of c.args.kernel.now c.args.counts.now _)
-    ∙ ap (λ k. length c.loop-firing.outputs.items + k) (length_of_value c.args.kernel.now c.args.counts.now _) in
-    let left = room_less (sum c.args.counts.now) c.args.firings c.loop-firing._firing (length c.loop-firing.outputs.items) _ more
-    c.loop-firing.invariant.room in
-    record {
-      values = one_firing_more c.args.kernel.now c.args.counts.now c.args.need c.args.firings c.loop-firing._firing c.loop-firing.at
-          c.args.inputs.now c.loop-firing.outputs.items c.push_value.new.outputs.items _ more c.push_value.ensures.items
-          c.loop-firing.invariant.values;
-      inputs = room_less c.args.need c.args.firings c.loop-firing._firing c.loop-firing.at _ more c.loop-firing.invariant.inputs;
-      room = omega (arith, longer, left, c.push_value.ensures.capacity);
-    }
+pub returns-then-is_empty-clause-values : goal.returns-then-is_empty-clause-values
+returns-then-is_empty-clause-values c =
+    let none = no_counts c.args.counts.now c.if-is_empty.ensures in
+    c.in_ok-make_room.ensures.items ∙ sym (values_unwritten c.args.kernel.now c.args.counts.now c.args.need c.args.firings c.args.inputs.now none)
+
+pub push_all-requires : goal.push_all-requires
+push_all-requires c =
+    let n = c.args.firings * c.args.need in
+    let long = length-take-le n c.args.inputs.now c.requires.whole in
+    let many = ap (λ k. c.args.firings * k) (c.if-gives_as_read.ensures.many refl) in
+    let total = ap (λ k. c.args.firings * k) c.total_of.ensures in
+    subst (HasRoomFor c.make_room.new.outputs) (total ∙ many ∙ sym long) c.in_ok-make_room.ensures.room
+
+pub returns-then-gives_as_read-clause-values : goal.returns-then-gives_as_read-clause-values
+returns-then-gives_as_read-clause-values c =
+    c.push_all.ensures ∙ ap (λ xs. xs ++ take (c.args.firings * c.args.need) c.args.inputs.now) c.in_ok-make_room.ensures.items
+    ∙ sym (values_as_read c.args.kernel.now c.args.counts.now c.args.need c.args.firings c.args.inputs.now (c.if-gives_as_read.ensures.as_read refl) c.requires.whole)
