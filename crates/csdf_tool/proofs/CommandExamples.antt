@@ -79,8 +79,19 @@ unknown_command_is_refused = refl
 abbrev run_on : List Text → List Text
 run_on options = codes "run" ∷ codes "a.toml" ∷ codes "d" ∷ options
 
+abbrev run_into : Text → ℕ → ℕ → Option ℕ → Asked
+run_into sinks workers periods firings = Run (record {
+  graph = codes "a.toml";
+  folder = codes "d";
+  sink_folder = sinks;
+  workers = workers;
+  periods = periods;
+  firings = firings;
+})
+
+-- the sinks' files go to the folder of the sources' where no other is named
 abbrev run_of : ℕ → ℕ → Option ℕ → Asked
-run_of workers periods firings = Run (record { graph = codes "a.toml"; folder = codes "d"; workers = workers; periods = periods; firings = firings })
+run_of = run_into (codes "d")
 
 run_asks : words_ask (run_on []) ≡ run_of 1 1 None
 unfolding clap_on_literals asked_of
@@ -89,6 +100,14 @@ run_asks = refl
 options_ask : words_ask (run_on (codes "--firings" ∷ codes "9" ∷ codes "--periods=20" ∷ codes "--workers" ∷ codes "+3" ∷ [])) ≡ run_of 3 20 (Some 9)
 unfolding clap_on_literals asked_of
 options_ask = refl
+
+other_folder_asks : words_ask (run_on (codes "--out" ∷ codes "e" ∷ [])) ≡ run_into (codes "e") 1 1 None
+unfolding clap_on_literals asked_of
+other_folder_asks = refl
+
+empty_folder_asks : words_ask (run_on (codes "--out=" ∷ [])) ≡ run_into [] 1 1 None
+unfolding clap_on_literals asked_of
+empty_folder_asks = refl
 
 -- whether a run with this option is taken
 abbrev is_taken : Text → Text → Bool
@@ -109,6 +128,10 @@ past_the_ends_is_refused = refl
 twice_is_refused : takes program (run_on (codes "--workers" ∷ codes "2" ∷ codes "--workers" ∷ codes "2" ∷ [])) ≡ false
 unfolding clap_on_literals
 twice_is_refused = refl
+
+two_other_folders_are_refused : takes program (run_on (codes "--out" ∷ codes "e" ∷ codes "--out" ∷ codes "f" ∷ [])) ≡ false
+unfolding clap_on_literals
+two_other_folders_are_refused = refl
 
 no_folder_is_refused : takes program (codes "run" ∷ codes "a.toml" ∷ []) ≡ false
 unfolding clap_on_literals

@@ -15,7 +15,7 @@ use Rattle.csdf_tool.specs.declared.run_files.SinkFile.{SinkFile}
 use Rattle.csdf_tool.specs.CommandLine.{Order}
 use Rattle.csdf_tool.specs.Ends.{IsFaultOfFile}
 use Rattle.csdf_answers.specs.Faults.{status_of}
-use Rattle.csdf_tool.specs.Running.{IsRunTold, IsUnread, IsUnreadOf, IsUnwritten, IsUnwrittenOf, RefusesRun, file_view, out_file, sink_files}
+use Rattle.csdf_tool.specs.Running.{IsRunTold, IsUnread, IsUnreadOf, IsUnwritten, IsUnwrittenOf, RefusesRun, Written, file_view, out_file, sink_files}
 
 -- ---- sources
 
@@ -30,7 +30,7 @@ unread_here actors i d fault lt is source unread =
 -- ---- sinks
 
 -- the file at a place was not written
-pub unwritten_here : (files : List SinkFile) (all : List (List ℕ × List ℕ)) (i : ℕ) (d : SinkFile) (fault : ToolFault) → map file_view files ≡ all
+pub unwritten_here : (files : List SinkFile) (all : List Written) (i : ℕ) (d : SinkFile) (fault : ToolFault) → map file_view files ≡ all
     → i < length files → d ≡ get_or files i d → IsUnwritten d.name fault → IsUnwrittenOf all fault
 unwritten_here files all i d fault same lt is unwritten =
     let within : i < length (map file_view files) = omega (arith, lt, length-map files file_view) in
@@ -42,9 +42,12 @@ drop_one zero xs = refl
 drop_one (suc n) [] = refl
 drop_one (suc n) (x ∷ xs) = drop_one n xs
 
-module _ (n : ℕ) (actor : Actor) (actors : List Actor) (texts : List (List ℕ)) (front total : List (List ℕ × List ℕ)) where
-  abbrev of_sink : List (List ℕ × List ℕ)
-  of_sink = (out_file actor.name, get_or (drop n texts) 0 []) ∷ sink_files actors (drop 1 (drop n texts))
+module _ (folder : List ℕ) (n : ℕ) (actor : Actor) (actors : List Actor) (texts : List (List ℕ)) (front total : List Written) where
+  abbrev file_of : List ℕ → Written
+  file_of text = record { folder = folder; name = out_file actor.name; text = text }
+
+  abbrev of_sink : List Written
+  of_sink = file_of (get_or (drop n texts) 0 []) ∷ sink_files folder actors (drop 1 (drop n texts))
 
   here : get_or (drop n texts) 0 [] ≡ get_or texts n []
   here = get_or-drop n texts 0 [] ∙ ap (λ k. get_or texts k []) (let e : n + 0 ≡ n = omega arith in e)
@@ -52,18 +55,18 @@ module _ (n : ℕ) (actor : Actor) (actors : List Actor) (texts : List (List ℕ
   later : drop 1 (drop n texts) ≡ drop (n + 1) texts
   later = drop_one n texts ∙ ap (λ k. drop k texts) (let e : suc n ≡ n + 1 = omega arith in e)
 
-  pub sink_next : is_sink_kernel actor.kernel ≡ true → front ++ sink_files (actor ∷ actors) (drop n texts) ≡ total
-      → (front ++ (out_file actor.name, get_or texts n []) ∷ []) ++ sink_files actors (drop (n + 1) texts) ≡ total
+  pub sink_next : is_sink_kernel actor.kernel ≡ true → front ++ sink_files folder (actor ∷ actors) (drop n texts) ≡ total
+      → (front ++ file_of (get_or texts n []) ∷ []) ++ sink_files folder actors (drop (n + 1) texts) ≡ total
   sink_next is so_far =
-      append_assoc front ((out_file actor.name, get_or texts n []) ∷ []) (sink_files actors (drop (n + 1) texts))
-      ∙ ap (λ ts. front ++ (out_file actor.name, get_or texts n []) ∷ sink_files actors ts) (sym later)
-      ∙ ap (λ text. front ++ (out_file actor.name, text) ∷ sink_files actors (drop 1 (drop n texts))) (sym here)
-      ∙ ap (λ b. front ++ cond b of_sink (sink_files actors (drop n texts))) (sym is)
+      append_assoc front (file_of (get_or texts n []) ∷ []) (sink_files folder actors (drop (n + 1) texts))
+      ∙ ap (λ ts. front ++ file_of (get_or texts n []) ∷ sink_files folder actors ts) (sym later)
+      ∙ ap (λ text. front ++ file_of text ∷ sink_files folder actors (drop 1 (drop n texts))) (sym here)
+      ∙ ap (λ b. front ++ cond b of_sink (sink_files folder actors (drop n texts))) (sym is)
       ∙ so_far
 
-  pub other_next : is_sink_kernel actor.kernel ≡ false → front ++ sink_files (actor ∷ actors) (drop n texts) ≡ total
-      → front ++ sink_files actors (drop n texts) ≡ total
-  other_next is so_far = ap (λ b. front ++ cond b of_sink (sink_files actors (drop n texts))) (sym is) ∙ so_far
+  pub other_next : is_sink_kernel actor.kernel ≡ false → front ++ sink_files folder (actor ∷ actors) (drop n texts) ≡ total
+      → front ++ sink_files folder actors (drop n texts) ≡ total
+  other_next is so_far = ap (λ b. front ++ cond b of_sink (sink_files folder actors (drop n texts))) (sym is) ∙ so_far
 
 -- ---- faults
 
@@ -77,9 +80,9 @@ unwritten_ends : (file : List ℕ) (f : ToolFault) → IsUnwritten file f → (s
 unwritten_ends file f (inl memory) = (ap status_of memory, λ e. let no : fault.Memory ≡ fault.Device Output = sym memory ∙ e in cc)
 unwritten_ends file f (inr device) = (ap status_of device, λ e. let no : fault.Device (File file) ≡ fault.Device Output = sym device ∙ e in cc)
 
-pub unwritten_of_ends : (files : List (List ℕ × List ℕ)) (f : ToolFault) → IsUnwrittenOf files f → (status_of f ≡ 3) × (f ≢ fault.Device Output)
+pub unwritten_of_ends : (files : List Written) (f : ToolFault) → IsUnwrittenOf files f → (status_of f ≡ 3) × (f ≢ fault.Device Output)
 unwritten_of_ends files f (inl memory) = unwritten_ends [] f (inl memory)
-unwritten_of_ends files f (inr some) = unwritten_ends some.1.0 f some.4
+unwritten_of_ends files f (inr some) = unwritten_ends some.1.name f some.4
 
 -- why a graph file is not run
 module _ (order : Order) (bytes : List ℕ) (g : Graph) (f : ToolFault) (read : IsGraphOf bytes (Ok g)) where

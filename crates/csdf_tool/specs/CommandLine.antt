@@ -22,14 +22,19 @@ on_graph name = with_rule (new_app name) (record (new_rule (codes "GRAPH")) { re
 abbrev pub number_option : Text → ℕ → ℕ → Rule
 number_option name least most = record (new_rule name) { long = Some name; value_names = 1; parser = Some (Unsigned least most) }
 
--- the command that runs a graph asks for a folder too, and takes three numbers
+-- an option with a text
+abbrev pub text_option : Text → Rule
+text_option name = record (new_rule name) { long = Some name; value_names = 1 }
+
+-- the command that runs a graph asks for a folder too, and takes three numbers and another folder
 abbrev pub on_files : App
 on_files = with_rule (on_graph (codes "run")) (record (new_rule (codes "DIR")) { required = true })
 
 abbrev pub run_command : App
 run_command =
     let two = with_rule (with_rule on_files (number_option (codes "workers") 1 8)) (number_option (codes "periods") 1 1000) in
-    with_rule two (number_option (codes "firings") 0 1048576000)
+    let three = with_rule two (number_option (codes "firings") 0 1048576000) in
+    with_rule three (text_option (codes "out"))
 
 -- a program with a version, whose own name is not among the words
 abbrev pub no_commands : App
@@ -51,16 +56,24 @@ program = with_questions (with_subcommand no_commands run_command.top)
 
 -- ---- what they ask for
 
--- a run of the graph of a file over the token files of a folder
+-- a run of the graph of a file over the token files of a folder, and the folder that the sinks' files are written to
 pub record Order : Type 0 where
   pub graph : Text
   pub folder : Text
+  pub sink_folder : Text
   pub workers : ℕ
   pub periods : ℕ
   pub firings : Option ℕ
 
 abbrev pub order_view : RunOrder → Order
-order_view o = record { graph = o.graph.now; folder = o.folder.now; workers = o.workers; periods = o.periods; firings = o.firings }
+order_view o = record {
+  graph = o.graph.now;
+  folder = o.folder.now;
+  sink_folder = o.sink_folder.now;
+  workers = o.workers;
+  periods = o.periods;
+  firings = o.firings;
+}
 
 pub data Asked : Type 0 where
   Input : Asked
@@ -84,15 +97,20 @@ number_in least most text = if is_unsigned_in least most text then Some (digits_
 abbrev pub number_of : ℕ → ℕ → Text → List Row → Option ℕ
 number_of least most option rows = option_and_then (number_in least most) (first_of option rows)
 
+-- the word in a place, and another where none was given
+abbrev pub word_or : Text → List Row → Text → Text
+word_or place rows other = unwrap_or (first_of place rows) other
+
 -- the word in a place, which is there wherever the words are taken
 abbrev pub word_of : Text → List Row → Text
-word_of place rows = unwrap_or (first_of place rows) []
+word_of place rows = word_or place rows []
 
--- the run that the words after `run` ask for
+-- the run that the words after `run` ask for; the sinks' files go to the folder of the sources' where no other is named
 abbrev pub order_of : List Row → Order
 order_of rows = record {
   graph = word_of (codes "GRAPH") rows;
   folder = word_of (codes "DIR") rows;
+  sink_folder = word_or (codes "out") rows (word_of (codes "DIR") rows);
   workers = unwrap_or (number_of 1 8 (codes "workers") rows) 1;
   periods = unwrap_or (number_of 1 1000 (codes "periods") rows) 1;
   firings = number_of 0 1048576000 (codes "firings") rows;

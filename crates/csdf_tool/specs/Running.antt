@@ -32,17 +32,22 @@ in_file name = name ++ codes ".in"
 abbrev pub out_file : List ℕ → List ℕ
 out_file name = name ++ codes ".out"
 
--- a file and its text
-abbrev pub file_view : SinkFile → List ℕ × List ℕ
-file_view file = (file.name, file.text.now)
+-- a file that is written: its folder, its name there and its text
+pub record Written : Type 0 where
+  pub folder : List ℕ
+  pub name : List ℕ
+  pub text : List ℕ
 
--- the file of each sink and its text, in file order
-abbrev pub sink_files : List Actor → List (List ℕ) → List (List ℕ × List ℕ)
-sink_files [] texts = []
-sink_files (actor ∷ actors) texts =
+abbrev pub file_view : SinkFile → Written
+file_view file = record { folder = file.folder.now; name = file.name; text = file.text.now }
+
+-- the file of each sink in a folder and its text, in file order
+abbrev pub sink_files : List ℕ → List Actor → List (List ℕ) → List Written
+sink_files folder [] texts = []
+sink_files folder (actor ∷ actors) texts =
     if is_sink_kernel actor.kernel
-    then (out_file actor.name, slice_index_or texts 0 []) ∷ sink_files actors (drop 1 texts)
-    else sink_files actors texts
+    then record { folder = folder; name = out_file actor.name; text = slice_index_or texts 0 [] } ∷ sink_files folder actors (drop 1 texts)
+    else sink_files folder actors texts
 
 -- why the token file of a source was not read, and that of one of the sources
 abbrev pub IsUnread : List ℕ → ToolFault → Type 0
@@ -55,8 +60,8 @@ IsUnreadOf actors fault = (fault ≡ Memory) ⊎ Any (λ (actor : Actor). (is_so
 abbrev pub IsUnwritten : List ℕ → ToolFault → Type 0
 IsUnwritten file fault = (fault ≡ Memory) ⊎ (fault ≡ Device (File file))
 
-abbrev pub IsUnwrittenOf : List (List ℕ × List ℕ) → ToolFault → Type 0
-IsUnwrittenOf files fault = (fault ≡ Memory) ⊎ Any (λ file. IsUnwritten file.0 fault) files
+abbrev pub IsUnwrittenOf : List Written → ToolFault → Type 0
+IsUnwrittenOf files fault = (fault ≡ Memory) ⊎ Any (λ (file : Written). IsUnwritten file.name fault) files
 
 -- ---- faults
 

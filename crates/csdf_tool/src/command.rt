@@ -1,11 +1,11 @@
 //! The command line.
 
-ghost use Rattle.std.specs.Prelude.{◌≡◌, ◌≤◌, [], true, false, map, string_bytes, Ok, IfErr, IfOk, IfSome};
+ghost use Rattle.std.specs.Prelude.{◌≡◌, ◌≤◌, [], true, false, codes, map, string_bytes, Ok, IfErr, IfOk, IfSome};
 ghost use Rattle.clap.specs.Words.{App, app_of, fault_of, found_of, kind_of, rows_of, rule_of, subcommand_of, subcommand_rows_of, takes, with_rule, FailsBy};
 ghost use Rattle.clap.specs.declared.builder.command.Command.TheViews.{out-Command as fields_of};
 ghost use Rattle.csdf_tool.specs.CommandLine.{on_graph, on_files, run_command, number_option, no_commands, with_command, with_questions, program};
 ghost use Rattle.csdf_tool.specs.CommandLine.{asked_view, asked_by, asked_of, asked, words_ask};
-ghost use Rattle.csdf_tool.specs.CommandLine.{number_in, number_of, order_of, order_view, word_of};
+ghost use Rattle.csdf_tool.specs.CommandLine.{number_in, number_of, order_of, order_view, text_option, word_of, word_or};
 
 use crate::help;
 use crate::order::RunOrder;
@@ -39,6 +39,8 @@ const WORKERS: &str = "workers";
 const PERIODS: &str = "periods";
 
 const FIRINGS: &str = "firings";
+
+const OUT: &str = "out";
 
 /// A command with a graph file, and what its help ends with.
 fn on_graph<'a>(
@@ -86,6 +88,17 @@ fn with_option<'a>(
     with_arg(command, option)
 }
 
+/// A command with the option that names the folder of the sinks' files.
+fn with_out<'a>(alloc: Global, command: Command<'a>) -> Result<Command<'a>, AllocError>
+    ensures app { IfOk result (λ r. app_of r ≡ with_rule (app_of command.entry) (text_option (codes "out"))) }
+    ensures globals { IfOk result (λ r. (fields_of r).has_globals ≡ (fields_of command.entry).has_globals) }
+{
+    let option = Arg::new(alloc, OUT).long(OUT).value_name("FOLDER").help(
+        "The folder that the sinks' files are written to: DIR where absent",
+    );
+    with_arg(command, option)
+}
+
 /// The command that runs a graph, and no option yet.
 fn on_files<'a>(alloc: Global) -> Result<Command<'a>, AllocError>
     ensures app { IfOk result (λ command. app_of command ≡ on_files) }
@@ -109,7 +122,8 @@ fn run_command<'a>(alloc: Global) -> Result<Command<'a>, AllocError>
     let periods = "How many periods to run: 1 to 1000, 1 where absent";
     let command = with_option(alloc, command, PERIODS, "K", (1, 1000), periods)?;
     let firings = "The most firings of all actors: 0 to 1048576000, no limit where absent";
-    with_option(alloc, command, FIRINGS, "F", (0, 1_048_576_000), firings)
+    let command = with_option(alloc, command, FIRINGS, "F", (0, 1_048_576_000), firings)?;
+    with_out(alloc, command)
 }
 
 /// The program, and no command yet.
@@ -207,11 +221,18 @@ fn asked_by<'a>(command: &str, graph: &'a str) -> Request<'a>
     }
 }
 
+/// The word in a place, and another where none was given.
+fn word_or<'a>(arguments: &ArgMatches<'a>, place: &str, other: &'a str) -> &'a str
+    ensures { result.now ≡ word_or place.now (rows_of (found_of arguments.now)) other.entry.now }
+{
+    arguments.get_str(place).unwrap_or(other)
+}
+
 /// The word in a place.
 fn word_of<'a>(arguments: &ArgMatches<'a>, place: &str) -> &'a str
     ensures { result.now ≡ word_of place.now (rows_of (found_of arguments.now)) }
 {
-    arguments.get_str(place).unwrap_or("")
+    word_or(arguments, place, "")
 }
 
 /// The number in a text, where it is one and in the range.
@@ -250,9 +271,11 @@ fn number_of(arguments: &ArgMatches<'_>, option: &str, least: u32, most: u32) ->
 fn order_of<'a>(arguments: &ArgMatches<'a>) -> RunOrder<'a>
     ensures { order_view result ≡ order_of (rows_of (found_of arguments.now)) }
 {
+    let folder = word_of(arguments, FOLDER);
     RunOrder {
         graph: word_of(arguments, GRAPH),
-        folder: word_of(arguments, FOLDER),
+        folder,
+        sink_folder: word_or(arguments, OUT, folder),
         workers: number_of(arguments, WORKERS, 1, 8).unwrap_or(1),
         periods: number_of(arguments, PERIODS, 1, 1000).unwrap_or(1),
         firings: number_of(arguments, FIRINGS, 0, 1_048_576_000),

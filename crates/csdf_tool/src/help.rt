@@ -13,8 +13,8 @@ csdf COMMAND --help has an example of each command.";
 
 pub(crate) const RUN: &str = "\
 Reads DIR/NAME.in for each source NAME of the graph, one token a line. Once the run has ended,
-writes DIR/NAME.out for each sink NAME, over a file that is there, and then prints a report.
-What the actors write is computed by their kernels.
+writes NAME.out for each sink NAME to DIR, or to the folder of --out, over a file that is there,
+and then prints a report. What the actors write is computed by their kernels.
 
 Memory holds the tokens that are read and those that the sinks take; a firing leaves nothing else
 behind. More workers pay where single firings are long, of 16,384 products or more: lighter ones

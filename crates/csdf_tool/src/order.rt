@@ -2,13 +2,15 @@
 
 ghost use Rattle.std.specs.Prelude.{◌≤◌};
 
-/// A run of the graph of a file over the token files of a folder.
+/// A run of the graph of a file over the token files of a folder, to files of a folder.
 #[derive(Clone, Copy)]
 pub(crate) struct RunOrder<'a> {
     /// The graph file.
     pub(crate) graph: &'a str,
-    /// The folder.
+    /// The folder of the sources' files.
     pub(crate) folder: &'a str,
+    /// The folder that the sinks' files are written to.
+    pub(crate) sink_folder: &'a str,
     pub(crate) workers: u32,
     pub(crate) periods: u32,
     /// The most firings of all actors together.

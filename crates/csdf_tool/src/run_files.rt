@@ -139,9 +139,10 @@ fn ran_by<R: Files + AllocGlobal + Threads + Wait + Sync>(
     Ok(Ran { graph, texts })
 }
 
-/// A file that is written: its name, and its text.
+/// A file that is written: its folder, its name there and its text.
 #[derive(Drop)]
 struct SinkFile<'a> {
+    folder: &'a str,
     name: Name,
     text: &'a [u8],
 }
@@ -156,21 +157,24 @@ fn text_at(texts: &[Vec<u8>], number: usize) -> &[u8]
     }
 }
 
-/// The file of each sink, in file order.
+/// The file of each sink in the folder that is asked for, in file order.
 fn sink_files<'a>(
     alloc: Global,
+    order: RunOrder<'a>,
     actors: &[Actor],
     texts: &'a [Vec<u8>],
 ) -> Result<Vec<SinkFile<'a>>, AllocError>
-    ensures { IfOk result (λ files. map file_view files.items ≡ sink_files (map actor_view actors.now) (texts_in texts.entry.now)) }
+    ensures { IfOk result (λ files. map file_view files.items
+        ≡ sink_files (order_view order.entry).sink_folder (map actor_view actors.now) (texts_in texts.entry.now)) }
 {
+    let folder = order.sink_folder;
     let mut files = Vec::new(alloc);
     let mut next = 0;
     for actor in actors {
         if is_sink(actor) {
             let name = Name::with_ending(alloc, actor.name.as_str(), ".out")?;
             let text = text_at(texts, next);
-            files.push(SinkFile { name, text })?;
+            files.push(SinkFile { folder, name, text })?;
             next += 1;
         }
     }
@@ -181,15 +185,15 @@ fn sink_files<'a>(
 #[tactic(auto, using(crate::proofs::RunLemmas::unwritten_here))]
 fn write_sinks(
     rt: &(impl Files + AllocGlobal),
-    folder: &str,
+    order: RunOrder<'_>,
     actors: &[Actor],
     texts: &Texts,
 ) -> Result<(), ToolFault>
-    ensures { IfErr result (IsUnwrittenOf (sink_files (map actor_view actors.now) (texts_in texts.now.sinks.items))) }
+    ensures { IfErr result (IsUnwrittenOf (sink_files (order_view order.entry).sink_folder (map actor_view actors.now) (texts_in texts.now.sinks.items))) }
 {
-    let files = sink_files(rt.alloc(), actors, &texts.sinks)?;
+    let files = sink_files(rt.alloc(), order, actors, &texts.sinks)?;
     for file in &files {
-        write_file(rt, folder, &file.name, file.text)?;
+        write_file(rt, file.folder, &file.name, file.text)?;
     }
     Ok(())
 }
@@ -208,7 +212,7 @@ pub(crate) fn run_files<R: Files + AllocGlobal + Threads + Wait + Sync, O: Outle
     ensures refused { IfErr result (λ fault. status_of fault ≡ 1 → IsFaultOfFile (IsRunTold (order_view order.entry)) fault) }
 {
     let ran = ran_by(rt, order)?;
-    write_sinks(rt, order.folder, ran.graph.actors(), &ran.texts)?;
+    write_sinks(rt, order, ran.graph.actors(), &ran.texts)?;
     match write_bytes(out, &ran.texts.report) {
         Ok(()) => Ok(()),
         Err(_) => Err(ToolFault::Device(Stream::Output)),

@@ -1,17 +1,17 @@
 use Rattle.std.proofs.Common.{ap, codes, ◌∙◌}
 use Rattle.std.proofs.lemmas.Result.{IfOk-weaker}
 use Rattle.clap.specs.Words.{App, with_rule}
-use Rattle.csdf_tool.specs.CommandLine.{number_option}
+use Rattle.csdf_tool.specs.CommandLine.{number_option, text_option}
 use Rattle.csdf_tool.proofs.command.run_command.Goals as goal
 
 pub returns-clause-app : goal.returns-clause-app
 returns-clause-app c =
     let one = c.in_ok-command-2.ensures.app ∙ ap (λ (a : App). with_rule a (number_option (codes "workers") 1 8)) c.in_ok-command.ensures.app in
     let two = c.in_ok-command-3.ensures.app ∙ ap (λ (a : App). with_rule a (number_option (codes "periods") 1 1000)) one in
-    IfOk-weaker c.with_option-3.result _ _
-    (λ r h. h ∙ ap (λ (a : App). with_rule a (number_option (codes "firings") 0 1048576000)) two) c.with_option-3.ensures.app
+    let three = c.in_ok-command-4.ensures.app ∙ ap (λ (a : App). with_rule a (number_option (codes "firings") 0 1048576000)) two in
+    IfOk-weaker c.with_out.result _ _ (λ r h. h ∙ ap (λ (a : App). with_rule a (text_option (codes "out"))) three) c.with_out.ensures.app
 
 pub returns-clause-local : goal.returns-clause-local
 returns-clause-local c =
     let two = c.in_ok-command-3.ensures.globals ∙ c.in_ok-command-2.ensures.globals ∙ c.in_ok-command.ensures.local in
-    IfOk-weaker c.with_option-3.result _ _ (λ r h. h ∙ two) c.with_option-3.ensures.globals
+    IfOk-weaker c.with_out.result _ _ (λ r h. h ∙ c.in_ok-command-4.ensures.globals ∙ two) c.with_out.ensures.globals

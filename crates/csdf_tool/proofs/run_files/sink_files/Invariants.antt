@@ -6,5 +6,5 @@ use Rattle.csdf_tool.proofs.run_files.sink_files.Given as goal
 
 abbrev pub invariant-loop-actor : goal.invariant-loop-actor
 invariant-loop-actor l =
-    (map file_view l.files.items ++ sink_files (map actor_view (drop l.actor-index l.actors)) (drop l.next (texts_in l.texts))
-    ≡ sink_files (map actor_view l.actors) (texts_in l.texts)) × (l.next ≤ l.actor-index)
+    (map file_view l.files.items ++ sink_files l.folder (map actor_view (drop l.actor-index l.actors)) (drop l.next (texts_in l.texts))
+    ≡ sink_files l.folder (map actor_view l.actors) (texts_in l.texts)) × (l.next ≤ l.actor-index)
