@@ -1,7 +1,7 @@
 -- An accepted graph is accepted with room for several periods.
 use Rattle.std.proofs.Common.{◌≡◌, ℕ, zero, suc, ◌*◌, ◌<◌, ◌≤◌, ◌⊎◌, inl, inr, Option, Some, None, List, [], ◌∷◌, length, get_or, set, map, refl}
 use Rattle.std.proofs.Common.{◌+◌, sum, sym, ap, subst, ◌∙◌, arith, mul-le-mul}
-use Rattle.std.specs.Prelude.{All, IfSome, slice_get, unwrap_or}
+use Rattle.std.specs.Prelude.{All, IfOk, IfSome, Result, Ok, Err, slice_get, unwrap_or}
 use Rattle.std.proofs.Math.ListN.{get_or-map}
 use Rattle.std.proofs.lemmas.Grind.{same_number_lists}
 use Rattle.std.proofs.lemmas.List.{length-map, length-set, get_or-set_same, get_or-set_other, get_or_past}
@@ -19,7 +19,8 @@ use Rattle.csdf_analysis.specs.Period.{held, held_after, CanFire, IsSchedule, fi
 use Rattle.csdf_analysis.specs.Capacities.{Agrees, AreLeastCapacities, IsTooTight, full_capacities}
 use Rattle.csdf_analysis.specs.Acceptance.{Accepted, IsAccepted, IsNotAccepted}
 use Rattle.csdf_analysis.specs.Laws.{IsWithinAll}
-use Rattle.csdf_analysis.specs.Room.{room_for, capacity_with_room, capacities_with_room, channel_with_room, with_room, accepted_with_room, RoomIsAccepted, RoomIsRefused, RoomHoldsPeriods}
+use Rattle.csdf_analysis.specs.declared.room.Room.TheVariants as room
+use Rattle.csdf_analysis.specs.Room.{IsAutoRoom, IsWithRoom, room_for, capacity_with_room, capacities_with_room, channel_with_room, with_room, accepted_with_room, RoomIsAccepted, RoomIsRefused, RoomHoldsPeriods}
 use Rattle.csdf_analysis.proofs.CountLemmas.{same_or_not, less_or_not, total_mono}
 use Rattle.csdf_analysis.proofs.FitLemmas.{at}
 use Rattle.csdf_analysis.proofs.RoomLemmas.{enough_complete}
@@ -402,3 +403,14 @@ room_holds g r q n m i c whole is here uncut left =
     ap (λ (x : ℕ). total c.produce (m * x)) firings ∙ periods_put c.produce (get_or r a 0) m ∙ ap (λ (x : ℕ). m * total c.produce x) (sym firings) in
     let held = held_within c n (m * get_or q a 0) left in
     (let x : ℕ = m * produced c (get_or q a 0) in omega arith)
+
+-- a graph was given the room that is told for these firings, and is accepted with them
+auto_roomy : (g h : Graph) (p q : List ℕ) (periods : ℕ) → p ≡ q → IsAutoRoom q g.channels periods → h ≡ with_room q periods g
+    → IsWithRoom room.Auto p g h
+auto_roomy g h p q periods same auto roomy =
+    (periods, subst (λ (ks : List ℕ). IsAutoRoom ks g.channels periods) (sym same) auto, roomy ∙ ap (λ (ks : List ℕ). with_room ks periods g) (sym same))
+
+pub auto_roomy_where : (g : Graph) (q : List ℕ) (periods : ℕ) (r : Result Accepted AcceptFault) → IsAutoRoom q g.channels periods
+    → IfOk r (λ a. a.graph ≡ with_room q periods g) → IfOk r (λ a. a.q ≡ q) → IfOk r (λ a. IsWithRoom room.Auto a.q g a.graph)
+auto_roomy_where g q periods (Ok a) auto roomy same = auto_roomy g a.graph a.q q periods same auto roomy
+auto_roomy_where g q periods (Err why) auto roomy same = tt

@@ -4,6 +4,8 @@ use Rattle.csdf_model.specs.Graph.{Channel, Graph, with_capacity}
 use Rattle.csdf_model.specs.Rates.{produced}
 use Rattle.csdf_analysis.specs.declared.fault.AcceptFault.{AcceptFault}
 use Rattle.csdf_analysis.specs.declared.fault.AcceptFault.TheVariants as fault
+use Rattle.csdf_analysis.specs.declared.room.Room.{Room}
+use Rattle.csdf_analysis.specs.declared.room.Room.TheVariants as room
 use Rattle.csdf_analysis.specs.Acceptance.{Accepted, IsAccepted, IsNotAccepted}
 use Rattle.csdf_analysis.specs.Repetition.{IsRepetition}
 use Rattle.csdf_analysis.specs.Period.{held_after}
@@ -89,3 +91,15 @@ carried q c = unless_given c.capacity (produced c (slice_index q c.from))
 abbrev pub most_carried : List ℕ → List Channel → ℕ
 most_carried q [] = 0
 most_carried q (c ∷ cs) = max (carried q c) (most_carried q cs)
+
+-- a room for periods is for one at least
+abbrev pub HasSomePeriod : Room → Type 0
+HasSomePeriod room.Least = Unit {0}
+HasSomePeriod (room.Periods n) = 1 ≤ n
+HasSomePeriod room.Auto = Unit {0}
+
+-- the graph h is g with this room
+abbrev pub IsWithRoom : Room → List ℕ → Graph → Graph → Type 0
+IsWithRoom room.Least q g h = h ≡ g
+IsWithRoom (room.Periods n) q g h = h ≡ with_room q n g
+IsWithRoom room.Auto q g h = (n : ℕ) × IsAutoRoom q g.channels n × (h ≡ with_room q n g)

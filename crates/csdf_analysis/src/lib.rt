@@ -33,6 +33,6 @@ pub use laws::{
     room_holds_periods, room_is_accepted, room_is_refused,
 };
 pub use neighbours::{consumers_of, producers_of};
-pub use room::{accept_with_room, auto_room, give_room};
+pub use room::{Room, accept_in_room, accept_with_room, auto_room, give_room};
 pub use stall::{Bounds, Stall, Wait};
 pub use vector::Vector;

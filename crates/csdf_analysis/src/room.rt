@@ -4,7 +4,7 @@ ghost use Rattle.std.specs.Prelude.{◌≡◌, ◌≤◌, All, IfErr, IfOk, leng
 ghost use Rattle.csdf_model.specs.Graph.{channel_view};
 ghost use Rattle.csdf_analysis.specs.Acceptance.{IsAccepted, IsNotAccepted};
 ghost use Rattle.csdf_analysis.specs.Repetition.{HaveRoom, IsRepetition, IsWithin, full_capacity};
-ghost use Rattle.csdf_analysis.specs.Room.{IsAutoRoom, capacity_with_room, carried, most_carried, room_for, with_room};
+ghost use Rattle.csdf_analysis.specs.Room.{HasSomePeriod, IsAutoRoom, IsWithRoom, capacity_with_room, carried, most_carried, room_for, with_room};
 
 use crate::accepted::{Accepted, accept};
 use crate::calls::repetition::repetition;
@@ -59,6 +59,40 @@ pub fn give_room(graph: &mut Graph, vector: &Vector, periods: u32)
     }
 }
 
+/// The room of the channels that have no capacity of their own.
+#[derive(Clone, Copy, Debug, PartialEq, Eq)]
+pub enum Room {
+    /// The least capacities.
+    Least,
+    /// For the tokens of so many periods, at least one.
+    Periods(u32),
+    /// For the most periods in which no such channel carries more than 4,096 tokens: see
+    /// [`auto_room`].
+    Auto,
+}
+
+/// Accepts the graph, whose vector this is, with room for so many periods.
+fn accept_roomy(
+    alloc: Global,
+    graph: Graph,
+    vector: &Vector,
+    periods: u32,
+) -> Result<Accepted, AcceptFault>
+    requires vector { IsRepetition graph.actors graph.channels vector.now.r.items vector.now.q.items }
+    requires some { 1 ≤ periods }
+    ensures graph { IfOk result (λ accepted. accepted.graph ≡ with_room vector.now.q.items periods graph) }
+    ensures firings { IfOk result (λ accepted. accepted.q ≡ vector.now.q.items) }
+    ensures accepted { IfOk result IsAccepted }
+    ensures refusal { IfErr result (IsNotAccepted graph) }
+{
+    let mut roomy = graph;
+    give_room(&mut roomy, vector, periods);
+    match accept(alloc, roomy) {
+        Ok(accepted) => Ok(accepted),
+        Err((_, fault)) => Err(fault),
+    }
+}
+
 /// Accepts the graph with room for so many periods, as [`give_room`] gives it.
 ///
 /// An error is one that [`accept`] has for the graph itself.
@@ -69,11 +103,45 @@ pub fn accept_with_room(alloc: Global, graph: Graph, periods: u32) -> Result<Acc
     ensures refusal { IfErr result (IsNotAccepted graph) }
 {
     let vector = repetition(alloc, &graph)?;
-    let mut roomy = graph;
-    give_room(&mut roomy, &vector, periods);
-    match accept(alloc, roomy) {
+    accept_roomy(alloc, graph, &vector, periods)
+}
+
+/// Accepts the graph with the room that [`auto_room`] answers.
+fn accept_with_auto_room(alloc: Global, graph: Graph) -> Result<Accepted, AcceptFault>
+    ensures graph { IfOk result (λ accepted. IsWithRoom Room.Auto accepted.q graph accepted.graph) }
+    ensures accepted { IfOk result IsAccepted }
+    ensures refusal { IfErr result (IsNotAccepted graph) }
+{
+    let vector = repetition(alloc, &graph)?;
+    let periods = auto_room(&graph, &vector);
+    accept_roomy(alloc, graph, &vector, periods)
+}
+
+/// Accepts the graph with its least capacities.
+fn accept_least(alloc: Global, graph: Graph) -> Result<Accepted, AcceptFault>
+    ensures graph { IfOk result (λ accepted. accepted.graph ≡ graph) }
+    ensures accepted { IfOk result IsAccepted }
+    ensures refusal { IfErr result (IsNotAccepted graph) }
+{
+    match accept(alloc, graph) {
         Ok(accepted) => Ok(accepted),
         Err((_, fault)) => Err(fault),
+    }
+}
+
+/// Accepts the graph with this room.
+///
+/// An error is one that [`accept`] has for the graph itself.
+pub fn accept_in_room(alloc: Global, graph: Graph, room: Room) -> Result<Accepted, AcceptFault>
+    requires { HasSomePeriod room }
+    ensures graph { IfOk result (λ accepted. IsWithRoom room accepted.q graph accepted.graph) }
+    ensures accepted { IfOk result IsAccepted }
+    ensures refusal { IfErr result (IsNotAccepted graph) }
+{
+    match room {
+        Room::Least => accept_least(alloc, graph),
+        Room::Periods(periods) => accept_with_room(alloc, graph, periods),
+        Room::Auto => accept_with_auto_room(alloc, graph),
     }
 }
 
