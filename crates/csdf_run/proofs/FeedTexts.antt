@@ -19,6 +19,7 @@ use Rattle.csdf_floor.specs.declared.outcome.Outcome.{Outcome}
 use Rattle.csdf_run.specs.declared.texts.Texts.{Texts}
 use Rattle.csdf_floor.specs.Journal.{Program}
 use Rattle.csdf_floor.specs.Outcome.{IsEndBeside, sequential_list}
+use Rattle.csdf_analysis.specs.declared.room.Room.{Room}
 use Rattle.csdf_run.specs.Texts.{◌>>=◌, AreTextsBeside, IsTextBeside, TellRun, TellSequentialRun, feed_in, feeds_from, sink_texts, sinks_among, text_at}
 use Rattle.csdf_floor.specs.Work.{AreFeeds, feed_of, feeds_in, is_sink_kernel, program}
 
@@ -217,9 +218,9 @@ lists_beside w o run Dry end a lt =
 lists_beside w o run Stopped end a lt = end.sinks a lt
 lists_beside w o run Starved end a lt = end.sinks a lt
 
-pub as_sequential : (bytes : List ℕ) (texts : List (List ℕ)) (periods : ℕ) (firings : Option ℕ) (t : Texts) → TellRun bytes texts periods firings t
-    → TellSequentialRun bytes texts periods firings t
-as_sequential bytes texts periods firings t r = record {
+pub as_sequential : (room : Room) (bytes : List ℕ) (texts : List (List ℕ)) (periods : ℕ) (firings : Option ℕ) (t : Texts) → TellRun room bytes texts periods firings t
+    → TellSequentialRun room bytes texts periods firings t
+as_sequential room bytes texts periods firings t r = record {
   accepted = r.accepted;
   feeds = r.feeds;
   read = r.read;

@@ -9,6 +9,8 @@ use Rattle.csdf_model.specs.Graph.{Actor, Graph, numbers_from}
 use Rattle.csdf_graph.specs.GraphText.{IsGraphOf}
 use Rattle.csdf_bytes.specs.TokenText.{token_text, tokens_in}
 use Rattle.csdf_analysis.specs.Acceptance.{Accepted, IsAccepted, IsNotAccepted}
+use Rattle.csdf_analysis.specs.declared.room.Room.{Room}
+use Rattle.csdf_analysis.specs.Room.{IsWithRoom}
 use Rattle.csdf_core.specs.Layout.{is_source_kernel}
 use Rattle.csdf_core.specs.Streams.{IsPrefix}
 use Rattle.csdf_floor.specs.declared.ending.Ending.{Ending}
@@ -29,9 +31,11 @@ texts_in texts = map (λ (text : Vec ℕ). text.items) texts
 
 -- ---- what is read
 
--- the bytes are the file of a graph, and this is it as accepted
-pub record IsFileOf (bytes : List ℕ) (a : Accepted) : Type 0 where
-  pub read : IsGraphOf bytes (Ok a.graph)
+-- the bytes are the file of a graph, and this is it as accepted with this room
+pub record IsFileOf (room : Room) (bytes : List ℕ) (a : Accepted) : Type 0 where
+  pub graph : Graph
+  pub read : IsGraphOf bytes (Ok graph)
+  pub roomy : IsWithRoom room a.q graph a.graph
   pub accepted : IsAccepted a
 
 -- how many sources there are
@@ -56,9 +60,9 @@ feeds_from a (actor ∷ actors) texts =
     then (feed_in a (slice_index_or texts 0 []) >>= λ feed. feeds_from (suc a) actors (drop 1 texts) >>= λ feeds. Ok (feed ∷ feeds))
     else (feeds_from (suc a) actors texts >>= λ feeds. Ok ([] ∷ feeds))
 
--- the texts hold these tokens for the actors of the graph of the file
-pub record AreTextsOf (bytes : List ℕ) (texts : List (List ℕ)) (a : Accepted) (feeds : List (List ℤ)) : Type 0 where
-  pub file : IsFileOf bytes a
+-- the texts hold these tokens for the actors of the graph of the file, which is accepted with this room
+pub record AreTextsOf (room : Room) (bytes : List ℕ) (texts : List (List ℕ)) (a : Accepted) (feeds : List (List ℤ)) : Type 0 where
+  pub file : IsFileOf room bytes a
   pub each_source : length texts ≡ source_count a.graph.actors
   pub tokens : feeds_from 0 a.graph.actors texts ≡ Ok feeds
 
@@ -89,12 +93,12 @@ IsFeedFault actors texts (fault.Accept why) = ⊥
 IsFeedFault actors texts (fault.Run why) = ⊥
 
 -- why there is no run: the file comes first, then the texts, and then the run itself
-abbrev pub IsRefusal : List ℕ → List (List ℕ) → TextsFault → Type 0
-IsRefusal bytes texts (fault.Graph why) = IsFileFault bytes (fault.Graph why)
-IsRefusal bytes texts (fault.Accept why) = IsFileFault bytes (fault.Accept why)
-IsRefusal bytes texts fault.FeedCount = (a : Accepted) × IsFileOf bytes a × IsFeedFault a.graph.actors texts fault.FeedCount
-IsRefusal bytes texts (fault.Feed n why) = (a : Accepted) × IsFileOf bytes a × IsFeedFault a.graph.actors texts (fault.Feed n why)
-IsRefusal bytes texts (fault.Run why) = (a : Accepted) × (feeds : List (List ℤ)) × AreTextsOf bytes texts a feeds
+abbrev pub IsRefusal : Room → List ℕ → List (List ℕ) → TextsFault → Type 0
+IsRefusal room bytes texts (fault.Graph why) = IsFileFault bytes (fault.Graph why)
+IsRefusal room bytes texts (fault.Accept why) = IsFileFault bytes (fault.Accept why)
+IsRefusal room bytes texts fault.FeedCount = (a : Accepted) × IsFileOf room bytes a × IsFeedFault a.graph.actors texts fault.FeedCount
+IsRefusal room bytes texts (fault.Feed n why) = (a : Accepted) × IsFileOf room bytes a × IsFeedFault a.graph.actors texts (fault.Feed n why)
+IsRefusal room bytes texts (fault.Run why) = (a : Accepted) × (feeds : List (List ℤ)) × AreTextsOf room bytes texts a feeds
 
 -- ---- what is told
 
@@ -121,12 +125,12 @@ pub record TellOutcome (w : Work) (o : Outcome) (t : Texts) : Type 0 where
   pub sinks : texts_in t.sinks.items ≡ sink_texts w.accepted.graph.actors (feeds_in o.sinks.items)
   pub report : t.report.items ≡ report_text (names_of w.accepted.graph.channels) o.ending o.report.items
 
--- the texts tell an outcome of so many periods of the file's graph over the texts' tokens
-pub record TellRun (bytes : List ℕ) (texts : List (List ℕ)) (periods : ℕ) (firings : Option ℕ) (t : Texts) : Type 0 where
+-- the texts tell an outcome of so many periods of the file's graph, accepted with this room, over the texts' tokens
+pub record TellRun (room : Room) (bytes : List ℕ) (texts : List (List ℕ)) (periods : ℕ) (firings : Option ℕ) (t : Texts) : Type 0 where
   pub accepted : Accepted
   pub feeds : List (List ℤ)
   pub outcome : Outcome
-  pub read : AreTextsOf bytes texts accepted feeds
+  pub read : AreTextsOf room bytes texts accepted feeds
   pub told : TellOutcome (work_for accepted feeds periods firings) outcome t
 
 -- ---- beside the sequential run
@@ -146,9 +150,9 @@ AreTextsBeside ending list (a ∷ sinks) [] = ⊥
 AreTextsBeside ending list (a ∷ sinks) (text ∷ texts) = IsTextBeside ending (list a) text × AreTextsBeside ending list sinks texts
 
 -- the sinks' texts are those of the sequential run of the file's graph over the texts' tokens, or of a front of it
-pub record TellSequentialRun (bytes : List ℕ) (texts : List (List ℕ)) (periods : ℕ) (firings : Option ℕ) (t : Texts) : Type 0 where
+pub record TellSequentialRun (room : Room) (bytes : List ℕ) (texts : List (List ℕ)) (periods : ℕ) (firings : Option ℕ) (t : Texts) : Type 0 where
   pub accepted : Accepted
   pub feeds : List (List ℤ)
-  pub read : AreTextsOf bytes texts accepted feeds
+  pub read : AreTextsOf room bytes texts accepted feeds
   pub sinks : (run : List ℕ) → IsSequential (program_for accepted feeds periods firings) run
       → AreTextsBeside t.ending (sequential_list (program_for accepted feeds periods firings) run) (sinks_among accepted.graph.actors) (texts_in t.sinks.items)

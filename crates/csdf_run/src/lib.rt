@@ -21,4 +21,4 @@ pub use csdf_floor::{
 };
 pub use gate::{Gate, Open};
 pub use running::run;
-pub use texts::{Texts, TextsFault, run_texts};
+pub use texts::{Texts, TextsFault, run_texts, run_texts_with_room};

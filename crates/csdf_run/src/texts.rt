@@ -3,6 +3,7 @@
 ghost use Rattle.std.specs.Prelude.{◌≡◌, ◌++◌, ◌∷◌, ◌≤◌, [], Ok, IfErr, IfOk, OnOk, length, map, slice_index_or, string_bytes};
 ghost use Rattle.csdf_model.specs.Graph.{actor_view};
 ghost use Rattle.csdf_bytes.specs.TokenText.{token_line, token_text};
+ghost use Rattle.csdf_analysis.specs.Room.{HasSomePeriod};
 ghost use Rattle.csdf_core.specs.Layout.{is_source_kernel};
 ghost use Rattle.csdf_run.specs.Texts.{AreTextsOf, IsFeedFault, IsFileFault, IsFileOf, IsReadFault, IsRefusal, TellOutcome, TellRun, TellSequentialRun};
 ghost use Rattle.csdf_run.specs.Texts.{feed_in, feeds_from, sink_texts, source_count, texts_in, work_for};
@@ -13,7 +14,7 @@ ghost use Rattle.csdf_floor.specs.Work.{AreFeeds, feeds_in, is_sink_kernel};
 use crate::gate::Open;
 use crate::request::Request;
 use crate::running::outcome_of;
-use csdf_analysis::{AcceptFault, Accepted, accept};
+use csdf_analysis::{AcceptFault, Accepted, Room, accept_in_room};
 use csdf_floor::{Ending, Keeping, Outcome, RunFault, printed_report};
 use csdf_graph::{Actor, Graph, GraphFault, Kernel, Slice, TokenFault, read_graph, read_tokens};
 use std::alloc::{AllocError, Global};
@@ -48,18 +49,19 @@ pub enum TextsFault {
     Run(RunFault),
 }
 
-/// The accepted graph of a file.
-fn accepted_of(alloc: Global, bytes: &[u8]) -> Result<Accepted, TextsFault>
-    ensures file { IfOk result (IsFileOf bytes.now) }
+/// The graph of a file, accepted with this room.
+fn accepted_of(alloc: Global, bytes: &[u8], room: Room) -> Result<Accepted, TextsFault>
+    requires { HasSomePeriod room }
+    ensures file { IfOk result (IsFileOf room bytes.now) }
     ensures refused { IfErr result (IsFileFault bytes.now) }
 {
     let graph = match read_graph(alloc, bytes) {
         Ok(graph) => graph,
         Err(fault) => return Err(TextsFault::Graph(fault)),
     };
-    match accept(alloc, graph) {
+    match accept_in_room(alloc, graph, room) {
         Ok(accepted) => Ok(accepted),
-        Err((_, fault)) => Err(TextsFault::Accept(fault)),
+        Err(fault) => Err(TextsFault::Accept(fault)),
     }
 }
 
@@ -165,12 +167,13 @@ struct Fed {
     feeds: Vec<Vec<i32>>,
 }
 
-/// The accepted graph of a file, and the tokens in the texts for its sources.
-fn fed_of(alloc: Global, bytes: &[u8], texts: &[Vec<u8>]) -> Result<Fed, TextsFault>
-    ensures read { IfOk result (λ fed. AreTextsOf bytes.now (texts_in texts.now) fed.accepted (feeds_in fed.feeds.items)) }
-    ensures refused { IfErr result (IsRefusal bytes.now (texts_in texts.now)) }
+/// The graph of a file, accepted with this room, and the tokens in the texts for its sources.
+fn fed_of(alloc: Global, bytes: &[u8], texts: &[Vec<u8>], room: Room) -> Result<Fed, TextsFault>
+    requires { HasSomePeriod room }
+    ensures read { IfOk result (λ fed. AreTextsOf room bytes.now (texts_in texts.now) fed.accepted (feeds_in fed.feeds.items)) }
+    ensures refused { IfErr result (IsRefusal room bytes.now (texts_in texts.now)) }
 {
-    let accepted = accepted_of(alloc, bytes)?;
+    let accepted = accepted_of(alloc, bytes, room)?;
     let feeds = counted_feeds(alloc, accepted.graph(), texts)?;
     Ok(Fed { accepted, feeds })
 }
@@ -249,7 +252,8 @@ fn run_request<R: Threads + Wait + Sync>(
 }
 
 /// Runs so many periods of the graph of a file by worker threads, over one text of tokens for each
-/// source, in file order. With `firings` given, no more firings than that are made.
+/// source, in file order. With `firings` given, no more firings than that are made. Channels have
+/// their least capacities.
 ///
 /// The refusals come in the order of [`TextsFault`]: those of [`read_graph`], those of [`accept`], a
 /// wrong number of texts, the first source whose text [`read_tokens`] refuses, and those of [`run`].
@@ -270,11 +274,45 @@ pub fn run_texts<R: Threads + Wait + Sync>(
     requires few_workers { workers ≤ 8 }
     requires some_period { 1 ≤ periods }
     requires few_periods { periods ≤ 1000 }
-    ensures run { IfOk result (TellRun graph.now (texts_in feeds.now) periods firings) }
-    ensures sequential { IfOk result (TellSequentialRun graph.now (texts_in feeds.now) periods firings) }
-    ensures refused { IfErr result (IsRefusal graph.now (texts_in feeds.now)) }
+    ensures run { IfOk result (TellRun Room.Least graph.now (texts_in feeds.now) periods firings) }
+    ensures sequential { IfOk result (TellSequentialRun Room.Least graph.now (texts_in feeds.now) periods firings) }
+    ensures refused { IfErr result (IsRefusal Room.Least graph.now (texts_in feeds.now)) }
 {
-    let fed = fed_of(alloc, graph, feeds)?;
+    run_texts_with_room(
+        rt,
+        alloc,
+        graph,
+        feeds,
+        workers,
+        periods,
+        firings,
+        Room::Least,
+    )
+}
+
+/// As [`run_texts`], where the channels that have no capacity in the file have this room.
+///
+/// The refusals are those of [`run_texts`]: room is no cause of one.
+pub fn run_texts_with_room<R: Threads + Wait + Sync>(
+    rt: &R,
+    alloc: Global,
+    graph: &[u8],
+    feeds: &[Vec<u8>],
+    workers: u32,
+    periods: u32,
+    firings: Option<u32>,
+    room: Room,
+) -> Result<Texts, TextsFault>
+    requires some_worker { 1 ≤ workers }
+    requires few_workers { workers ≤ 8 }
+    requires some_period { 1 ≤ periods }
+    requires few_periods { periods ≤ 1000 }
+    requires some_room { HasSomePeriod room }
+    ensures run { IfOk result (TellRun room graph.now (texts_in feeds.now) periods firings) }
+    ensures sequential { IfOk result (TellSequentialRun room graph.now (texts_in feeds.now) periods firings) }
+    ensures refused { IfErr result (IsRefusal room graph.now (texts_in feeds.now)) }
+{
+    let fed = fed_of(alloc, graph, feeds, room)?;
     let request = Request::new(&fed.accepted, &fed.feeds, workers, periods, firings);
     match run_request(rt, alloc, &request) {
         Ok(texts) => Ok(texts),
