@@ -12,6 +12,7 @@ use Rattle.csdf_floor.specs.declared.fault.RunFault.TheVariants as run
 use Rattle.csdf_run.specs.declared.texts.Texts.{Texts}
 use Rattle.csdf_run.specs.declared.texts.TextsFault.{TextsFault}
 use Rattle.csdf_run.specs.declared.texts.TextsFault.TheVariants as texts
+use Rattle.csdf_analysis.specs.declared.room.Room.TheVariants.{Least}
 use Rattle.csdf_run.specs.Texts.{IsRefusal, TellRun, TellSequentialRun}
 use Rattle.csdf_floor.specs.Work.{is_sink_kernel}
 use Rattle.csdf_answers.specs.declared.fault.Stream.TheVariants.{File}
@@ -89,15 +90,15 @@ texts_fault g (texts.Run why) = run_fault why
 
 -- the fault tells why the texts make no run
 abbrev pub RefusesRun : Graph → List ℕ → List (List ℕ) → ToolFault → Type 0
-RefusesRun g bytes feeds fault = (why : TextsFault) × IsRefusal bytes feeds why × (fault ≡ texts_fault g why)
+RefusesRun g bytes feeds fault = (why : TextsFault) × IsRefusal Least bytes feeds why × (fault ≡ texts_fault g why)
 
 -- ---- runs
 
 -- the texts tell the run that is asked for, of the graph of a file over one text for each source, and they are those of the sequential run
 pub record IsRunBy (order : Order) (g : Graph) (bytes : List ℕ) (feeds : List (List ℕ)) (t : Texts) : Type 0 where
   pub graph : IsGraphOf bytes (Ok g)
-  pub told : TellRun bytes feeds order.periods order.firings t
-  pub sequential : TellSequentialRun bytes feeds order.periods order.firings t
+  pub told : TellRun Least bytes feeds order.periods order.firings t
+  pub sequential : TellSequentialRun Least bytes feeds order.periods order.firings t
 
 -- why a graph is not run: a token file is too long, or the texts make no run
 abbrev pub IsRefusedOn : Graph → List ℕ → ToolFault → Type 0

@@ -5,6 +5,7 @@ ghost use Rattle.std.specs.Io.KnownBytes.{Appends};
 ghost use Rattle.csdf_model.specs.Graph.{actor_view};
 ghost use Rattle.csdf_graph.specs.GraphText.{IsGraphOf};
 ghost use Rattle.csdf_core.specs.Layout.{is_source_kernel};
+ghost use Rattle.csdf_analysis.specs.declared.room.Room.TheVariants.{Least};
 ghost use Rattle.csdf_run.specs.Texts.{TellRun, TellSequentialRun, source_count, texts_in};
 ghost use Rattle.csdf_floor.specs.Work.{is_sink_kernel};
 ghost use Rattle.csdf_tool.specs.CommandLine.{order_view};
@@ -104,8 +105,8 @@ fn texts_of<R: AllocGlobal + Threads + Wait + Sync>(
     feeds: &[Vec<u8>],
     order: RunOrder<'_>,
 ) -> Result<Texts, ToolFault>
-    ensures told { IfOk result (TellRun bytes.now (texts_in feeds.now) order.entry.periods order.entry.firings) }
-    ensures sequential { IfOk result (TellSequentialRun bytes.now (texts_in feeds.now) order.entry.periods order.entry.firings) }
+    ensures told { IfOk result (TellRun Least bytes.now (texts_in feeds.now) order.entry.periods order.entry.firings) }
+    ensures sequential { IfOk result (TellSequentialRun Least bytes.now (texts_in feeds.now) order.entry.periods order.entry.firings) }
     ensures refused { IfErr result (λ fault. fault ≢ ToolFault.Memory → RefusesRun graph.now bytes.now (texts_in feeds.now) fault) }
 {
     let alloc = rt.alloc();
