@@ -1,10 +1,14 @@
 -- What the code keeps of a filter while it fires.
-use Rattle.std.specs.Prelude.{ℕ, ◌≡◌, ◌+◌, ◌<◌, ◌≤◌, ◌^◌, Bool, IsTrue, List, ℤ, length, unsigned_abs}
+use Rattle.std.specs.Prelude.{ℕ, ◌≡◌, ◌+◌, ◌<◌, ◌≤◌, ◌^◌, Bool, IsTrue, List, ℤ, length, unsigned_abs, ◌*ℤ◌}
 use Rattle.csdf_kernel.specs.Value.{token_at}
 
 -- each of the first n weights is at most 2^27 in size, so that its product with a token is at most 2^58, and sixteen add up to 2^62 at most
 abbrev pub AreSmall : List ℤ → ℕ → Type 0
 AreSmall weights n = (j : ℕ) → j < n → unsigned_abs (token_at weights j) ≤ 2 ^ 27
+
+-- the product of any weight with any token is at most 2^26 in size, so that sixteen add up to 2^30 at most
+abbrev pub AreNarrow : List ℤ → List ℤ → Type 0
+AreNarrow weights xs = (j p : ℕ) → unsigned_abs (token_at weights j *ℤ token_at xs p) ≤ 2 ^ 26
 
 -- at most 16 taps, a shift of at most 31, and weights that are small where they are marked so
 pub record IsInRange (weights : List ℤ) (taps shift : ℕ) (small : Bool) : Type 0 where

@@ -1,7 +1,7 @@
 //! What each kernel adds to a list of outputs that has room for it.
 ghost use Rattle.std.specs.Prelude.{ℕ, ◌≡◌, ◌+◌, ◌%◌, ◌<◌, ◌≤◌, ◌++◌, IsTrue, length, sum, flat_map, replicate};
 ghost use Rattle.smallvec.specs.SmallVec.{HasRoomFor};
-ghost use Rattle.csdf_kernel.specs.Filter.{IsInRange, IsWhole};
+ghost use Rattle.csdf_kernel.specs.Filter.{AreNarrow, IsInRange, IsWhole};
 ghost use Rattle.csdf_kernel.specs.Value.{places, token_at, copy_token, filter_token};
 
 use crate::filter::Filter;
@@ -135,7 +135,11 @@ fn push_small(outputs: &mut Outputs, count: usize, filter: &Filter<'_>, inputs: 
     ensures capacity { outputs.new.capacity ≡ outputs.old.capacity }
 {
     let whole = filter.whole_places(inputs).min(count);
-    push_whole(outputs, whole, filter, inputs);
+    if whole > 0 && filter.is_narrow(inputs) {
+        push_narrow(outputs, whole, filter, inputs);
+    } else {
+        push_whole(outputs, whole, filter, inputs);
+    }
     for place in whole..count {
         outputs.push_reserved(filter.small_token(inputs, place));
     }
@@ -154,5 +158,21 @@ fn push_whole(outputs: &mut Outputs, count: usize, filter: &Filter<'_>, inputs: 
 {
     for next in 0..count {
         outputs.push_reserved(filter.whole_token(inputs, next));
+    }
+}
+
+/// The filtered inputs, for places that are all whole, where the products are narrow.
+#[tactic(auto, using(crate::proofs::PlaceLemmas::one_place))]
+fn push_narrow(outputs: &mut Outputs, count: usize, filter: &Filter<'_>, inputs: &[i32])
+    requires room { HasRoomFor outputs.old count }
+    requires in_range { IsInRange filter.now.weights.now filter.now.taps filter.now.shift filter.now.small }
+    requires whole { (i : ℕ) → i < count → IsWhole filter.now.weights.now filter.now.taps filter.now.small inputs.now i }
+    requires narrow { AreNarrow filter.now.weights.now inputs.now }
+    ensures items { outputs.new.items ≡ outputs.old.items
+        ++ places (filter_token filter.now.weights.now filter.now.taps filter.now.shift inputs.now) count }
+    ensures capacity { outputs.new.capacity ≡ outputs.old.capacity }
+{
+    for next in 0..count {
+        outputs.push_reserved(filter.narrow_token(inputs, next));
     }
 }

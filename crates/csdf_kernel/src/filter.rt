@@ -1,12 +1,13 @@
 //! A filter, told token by token. A place of its inputs is called whole where there are sixteen taps,
 //! all with small weights, and each finds a token.
 ghost use Rattle.std.specs.Prelude.{◌≡◌, ◌<◌, ◌≤◌, ℕ, IsTrue, length};
-ghost use Rattle.csdf_kernel.specs.Filter.{IsInRange, IsWhole};
+ghost use Rattle.csdf_kernel.specs.Filter.{AreNarrow, IsInRange, IsWhole};
 ghost use Rattle.csdf_kernel.specs.Value.{filter_token};
 
 use crate::numbers::{clamped, products_at, shifted};
 use crate::small::{
-    are_small, sixteen_products_at, small_clamped, small_products_at, small_shifted,
+    are_narrow, are_small, sixteen_narrow_products_at, sixteen_products_at, small_clamped,
+    small_products_at, small_shifted,
 };
 
 /// A filter: the first `taps` weights count, and each sum of products is divided by two to the power
@@ -56,6 +57,25 @@ impl<'a> Filter<'a> {
         } else {
             0
         }
+    }
+
+    /// Whether each product of a weight with one of these tokens is narrow.
+    pub(crate) fn is_narrow(&self, inputs: &[i32]) -> bool
+        ensures { IsTrue result → AreNarrow self.now.weights.now inputs.now }
+    {
+        are_narrow(self.weights, inputs)
+    }
+
+    /// The token at a whole place, where the products are narrow.
+    #[tactic(auto, unfolding(crate::specs::Value::filter_token))]
+    pub(crate) fn narrow_token(&self, inputs: &[i32], place: usize) -> i32
+        requires in_range { IsInRange self.now.weights.now self.now.taps self.now.shift self.now.small }
+        requires whole { IsWhole self.now.weights.now self.now.taps self.now.small inputs.now place }
+        requires narrow { AreNarrow self.now.weights.now inputs.now }
+        ensures { result ≡ filter_token self.now.weights.now self.now.taps self.now.shift inputs.now place }
+    {
+        let sum = sixteen_narrow_products_at(self.weights, inputs, place);
+        small_clamped(small_shifted(i64::from(sum), self.shift))
     }
 
     /// The token at a whole place.

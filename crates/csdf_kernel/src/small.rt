@@ -1,12 +1,15 @@
-//! The arithmetic of filters whose weights are small, in 64 bits.
-ghost use Rattle.std.specs.Prelude.{◌≡◌, ◌+◌, ◌*ℤ◌, ◌^◌, ◌≤◌, IsTrue, length, unsigned_abs};
-ghost use Rattle.csdf_kernel.specs.Filter.{AreSmall};
-ghost use Rattle.csdf_kernel.specs.Value.{clamp, convolution, floor};
+//! The arithmetic of filters whose weights are small, in 64 bits, or in 32 where the tokens are small too.
+ghost use Rattle.std.specs.Prelude.{◌≡◌, ◌+◌, ◌*ℤ◌, ◌^◌, ◌≤◌, ℕ, IsTrue, length, unsigned_abs};
+ghost use Rattle.csdf_kernel.specs.Filter.{AreNarrow, AreSmall};
+ghost use Rattle.csdf_kernel.specs.Value.{clamp, convolution, floor, token_at};
 
 use crate::numbers::{full_taps, token};
 
 /// The greatest size of a small weight: sixteen products with tokens of 32 bits stay within 2^62.
 const GREATEST_SMALL: u32 = 1 << 27;
+
+/// The greatest size of a narrow product: sixteen of them stay within 2^30.
+const GREATEST_NARROW: u64 = 1 << 26;
 
 /// Whether each weight of the taps is small. Greater ones may add up in 64 bits too, and are not asked
 /// for.
@@ -19,6 +22,50 @@ pub(crate) fn are_small(weights: &[i32], taps: usize) -> bool
         }
     }
     true
+}
+
+/// The greatest size of the numbers.
+fn greatest_size(numbers: &[i32]) -> u32
+    ensures { (j : ℕ) → unsigned_abs (token_at numbers.now j) ≤ result }
+{
+    let mut greatest = 0;
+    for number in numbers {
+        greatest = number.unsigned_abs().max(greatest);
+    }
+    greatest
+}
+
+/// Whether the product of any weight with any token is narrow.
+pub(crate) fn are_narrow(weights: &[i32], inputs: &[i32]) -> bool
+    ensures { IsTrue result → AreNarrow weights.now inputs.now }
+{
+    let weight = u64::from(greatest_size(weights));
+    let token = u64::from(greatest_size(inputs));
+    weight * token <= GREATEST_NARROW
+}
+
+/// A narrow product.
+fn narrow_product(weight: i32, token: i32) -> i32
+    requires { unsigned_abs (weight *ℤ token) ≤ 2 ^ 26 }
+    ensures value { result ≡ weight *ℤ token }
+    ensures bound { unsigned_abs result ≤ 2 ^ 26 }
+{
+    weight * token
+}
+
+/// The sum of the products of sixteen weights with the tokens from `place` on, which are all there, where
+/// each product is narrow. Its loop has a constant length, so that the compiler makes vectors of it.
+pub(crate) fn sixteen_narrow_products_at(weights: &[i32], inputs: &[i32], place: usize) -> i32
+    requires weights { 16 ≤ length weights.now }
+    requires tokens { place + 16 ≤ length inputs.now }
+    requires narrow { AreNarrow weights.now inputs.now }
+    ensures { result ≡ convolution weights.now 16 inputs.now place }
+{
+    let mut sum = 0;
+    for tap in 0..16 {
+        sum += narrow_product(weights[tap], inputs[place + tap]);
+    }
+    sum
 }
 
 /// The product with a small weight.

@@ -1,0 +1,10 @@
+use Rattle.std.proofs.Common.{arith, sym}
+use Rattle.std.proofs.lemmas.Int.{ints, to_z-of_z}
+use Rattle.csdf_kernel.proofs.NumberLemmas.{convolution_none, convolution_more}
+use Rattle.csdf_kernel.proofs.small.sixteen_narrow_products_at.Goals as goal
+
+pub loop-tap-init : goal.loop-tap-init
+loop-tap-init c = (sym (convolution_none _ _ _), omega arith)
+
+pub loop-tap-preserved : goal.loop-tap-preserved
+loop-tap-preserved c = (grind (arith, ints, to_z-of_z, convolution_more), omega (arith, ints))
