@@ -10,6 +10,11 @@ AreSmall weights n = (j : ℕ) → j < n → unsigned_abs (token_at weights j) �
 abbrev pub AreNarrow : List ℤ → List ℤ → Type 0
 AreNarrow weights xs = (j p : ℕ) → unsigned_abs (token_at weights j *ℤ token_at xs p) ≤ 2 ^ 26
 
+-- a list of 32 tokens: those of the inputs from this place on, and 0 past their end
+pub record IsWindow (xs : List ℤ) (base : ℕ) (window : List ℤ) : Type 0 where
+  pub long : length window ≡ 32
+  pub alike : (i : ℕ) → i < 32 → token_at window i ≡ token_at xs (base + i)
+
 -- at most 16 taps, a shift of at most 31, and weights that are small where they are marked so
 pub record IsInRange (weights : List ℤ) (taps shift : ℕ) (small : Bool) : Type 0 where
   pub few_taps : taps ≤ 16
@@ -22,3 +27,10 @@ pub record IsWhole (weights : List ℤ) (taps : ℕ) (small : Bool) (xs : List �
   pub sixteen : taps ≡ 16
   pub weighted : 16 ≤ length weights
   pub there : place + 16 ≤ length xs
+
+-- sixteen taps with small weights, whose products with these tokens are narrow
+pub record IsNarrow (weights : List ℤ) (taps : ℕ) (small : Bool) (xs : List ℤ) : Type 0 where
+  pub marked : IsTrue small
+  pub sixteen : taps ≡ 16
+  pub weighted : 16 ≤ length weights
+  pub narrow : AreNarrow weights xs

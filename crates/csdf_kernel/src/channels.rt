@@ -1,12 +1,13 @@
 //! What each kernel adds to a list of outputs that has room for it.
 ghost use Rattle.std.specs.Prelude.{ℕ, ◌≡◌, ◌+◌, ◌%◌, ◌<◌, ◌≤◌, ◌++◌, IsTrue, length, sum, flat_map, replicate};
 ghost use Rattle.smallvec.specs.SmallVec.{HasRoomFor};
-ghost use Rattle.csdf_kernel.specs.Filter.{AreNarrow, IsInRange, IsWhole};
+ghost use Rattle.csdf_kernel.specs.Filter.{IsInRange, IsNarrow, IsWhole};
 ghost use Rattle.csdf_kernel.specs.Value.{places, token_at, copy_token, filter_token};
 
 use crate::filter::Filter;
 use crate::numbers::token;
 use crate::outputs::Outputs;
+use crate::small::window_from;
 
 /// The first tokens of the inputs.
 #[tactic(auto, using(crate::proofs::PlaceLemmas::one_place))]
@@ -87,21 +88,31 @@ pub(crate) fn push_filtered(
         ++ flat_map (places (filter_token filter.now.weights.now filter.now.taps filter.now.shift inputs.now)) counts.now }
     ensures capacity { outputs.new.capacity ≡ outputs.old.capacity }
 {
+    let narrow = filter.is_narrow(inputs);
     for count in counts {
-        push_filter(outputs, *count as usize, filter, inputs);
+        push_filter(outputs, *count as usize, filter, narrow, inputs);
     }
 }
 
 /// The filtered inputs, for one channel.
-fn push_filter(outputs: &mut Outputs, count: usize, filter: &Filter<'_>, inputs: &[i32])
+fn push_filter(
+    outputs: &mut Outputs,
+    count: usize,
+    filter: &Filter<'_>,
+    narrow: bool,
+    inputs: &[i32],
+)
     requires room { HasRoomFor outputs.old count }
     requires few { count ≤ 8192 }
     requires in_range { IsInRange filter.now.weights.now filter.now.taps filter.now.shift filter.now.small }
+    requires narrow { IsTrue narrow → IsNarrow filter.now.weights.now filter.now.taps filter.now.small inputs.now }
     ensures items { outputs.new.items ≡ outputs.old.items
         ++ places (filter_token filter.now.weights.now filter.now.taps filter.now.shift inputs.now) count }
     ensures capacity { outputs.new.capacity ≡ outputs.old.capacity }
 {
-    if filter.small {
+    if narrow {
+        push_narrow(outputs, count, filter, inputs);
+    } else if filter.small {
         push_small(outputs, count, filter, inputs);
     } else {
         push_wide(outputs, count, filter, inputs);
@@ -135,13 +146,31 @@ fn push_small(outputs: &mut Outputs, count: usize, filter: &Filter<'_>, inputs: 
     ensures capacity { outputs.new.capacity ≡ outputs.old.capacity }
 {
     let whole = filter.whole_places(inputs).min(count);
-    if whole > 0 && filter.is_narrow(inputs) {
-        push_narrow(outputs, whole, filter, inputs);
-    } else {
-        push_whole(outputs, whole, filter, inputs);
-    }
+    push_whole(outputs, whole, filter, inputs);
     for place in whole..count {
         outputs.push_reserved(filter.small_token(inputs, place));
+    }
+}
+
+/// The filtered inputs, for one channel, where there are sixteen taps and all products are narrow.
+#[tactic(auto, using(crate::proofs::PlaceLemmas::one_place))]
+fn push_narrow(outputs: &mut Outputs, count: usize, filter: &Filter<'_>, inputs: &[i32])
+    requires room { HasRoomFor outputs.old count }
+    requires few { count ≤ 8192 }
+    requires in_range { IsInRange filter.now.weights.now filter.now.taps filter.now.shift filter.now.small }
+    requires narrow { IsNarrow filter.now.weights.now filter.now.taps filter.now.small inputs.now }
+    ensures items { outputs.new.items ≡ outputs.old.items
+        ++ places (filter_token filter.now.weights.now filter.now.taps filter.now.shift inputs.now) count }
+    ensures capacity { outputs.new.capacity ≡ outputs.old.capacity }
+{
+    let whole = filter.whole_places(inputs).min(count);
+    push_narrow_whole(outputs, whole, filter, inputs);
+    if whole == count {
+        return;
+    }
+    let window = window_from(inputs, whole);
+    for place in whole..count {
+        outputs.push_reserved(filter.late_token(&window, whole, inputs, place));
     }
 }
 
@@ -163,11 +192,11 @@ fn push_whole(outputs: &mut Outputs, count: usize, filter: &Filter<'_>, inputs: 
 
 /// The filtered inputs, for places that are all whole, where the products are narrow.
 #[tactic(auto, using(crate::proofs::PlaceLemmas::one_place))]
-fn push_narrow(outputs: &mut Outputs, count: usize, filter: &Filter<'_>, inputs: &[i32])
+fn push_narrow_whole(outputs: &mut Outputs, count: usize, filter: &Filter<'_>, inputs: &[i32])
     requires room { HasRoomFor outputs.old count }
     requires in_range { IsInRange filter.now.weights.now filter.now.taps filter.now.shift filter.now.small }
     requires whole { (i : ℕ) → i < count → IsWhole filter.now.weights.now filter.now.taps filter.now.small inputs.now i }
-    requires narrow { AreNarrow filter.now.weights.now inputs.now }
+    requires narrow { IsNarrow filter.now.weights.now filter.now.taps filter.now.small inputs.now }
     ensures items { outputs.new.items ≡ outputs.old.items
         ++ places (filter_token filter.now.weights.now filter.now.taps filter.now.shift inputs.now) count }
     ensures capacity { outputs.new.capacity ≡ outputs.old.capacity }

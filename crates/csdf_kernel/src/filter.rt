@@ -1,13 +1,13 @@
 //! A filter, told token by token. A place of its inputs is called whole where there are sixteen taps,
 //! all with small weights, and each finds a token.
-ghost use Rattle.std.specs.Prelude.{◌≡◌, ◌<◌, ◌≤◌, ℕ, IsTrue, length};
-ghost use Rattle.csdf_kernel.specs.Filter.{AreNarrow, IsInRange, IsWhole};
+ghost use Rattle.std.specs.Prelude.{◌≡◌, ◌<◌, ◌≤◌, ◌+◌, ℕ, IsTrue, length};
+ghost use Rattle.csdf_kernel.specs.Filter.{IsInRange, IsNarrow, IsWhole, IsWindow};
 ghost use Rattle.csdf_kernel.specs.Value.{filter_token};
 
 use crate::numbers::{clamped, products_at, shifted};
 use crate::small::{
-    are_narrow, are_small, sixteen_narrow_products_at, sixteen_products_at, small_clamped,
-    small_products_at, small_shifted,
+    are_narrow, are_small, narrow_shifted, sixteen_narrow_products_at, sixteen_products_at,
+    small_clamped, small_products_at, small_shifted,
 };
 
 /// A filter: the first `taps` weights count, and each sum of products is divided by two to the power
@@ -50,7 +50,8 @@ impl<'a> Filter<'a> {
 
     /// How many places are whole: those from the first on, as many as this.
     pub(crate) fn whole_places(&self, inputs: &[i32]) -> usize
-        ensures { (i : ℕ) → i < result → IsWhole self.now.weights.now self.now.taps self.now.small inputs.now i }
+        ensures whole { (i : ℕ) → i < result → IsWhole self.now.weights.now self.now.taps self.now.small inputs.now i }
+        ensures within { result ≤ length inputs.now }
     {
         if self.is_sixteen() {
             inputs.len().saturating_sub(15)
@@ -59,11 +60,14 @@ impl<'a> Filter<'a> {
         }
     }
 
-    /// Whether each product of a weight with one of these tokens is narrow.
+    /// Whether there are sixteen taps, and each product of a weight with one of these tokens is narrow.
     pub(crate) fn is_narrow(&self, inputs: &[i32]) -> bool
-        ensures { IsTrue result → AreNarrow self.now.weights.now inputs.now }
+        ensures { IsTrue result → IsNarrow self.now.weights.now self.now.taps self.now.small inputs.now }
     {
-        are_narrow(self.weights, inputs)
+        if self.is_sixteen() {
+            return are_narrow(self.weights, inputs);
+        }
+        false
     }
 
     /// The token at a whole place, where the products are narrow.
@@ -71,11 +75,53 @@ impl<'a> Filter<'a> {
     pub(crate) fn narrow_token(&self, inputs: &[i32], place: usize) -> i32
         requires in_range { IsInRange self.now.weights.now self.now.taps self.now.shift self.now.small }
         requires whole { IsWhole self.now.weights.now self.now.taps self.now.small inputs.now place }
-        requires narrow { AreNarrow self.now.weights.now inputs.now }
+        requires narrow { IsNarrow self.now.weights.now self.now.taps self.now.small inputs.now }
         ensures { result ≡ filter_token self.now.weights.now self.now.taps self.now.shift inputs.now place }
     {
         let sum = sixteen_narrow_products_at(self.weights, inputs, place);
-        small_clamped(small_shifted(i64::from(sum), self.shift))
+        narrow_shifted(sum, self.shift)
+    }
+
+    /// The token at a place near the end of the inputs, where the products are narrow. The window has what
+    /// its taps find.
+    pub(crate) fn window_token(
+        &self,
+        window: &[i32],
+        base: usize,
+        inputs: &[i32],
+        place: usize,
+    ) -> i32
+        requires in_range { IsInRange self.now.weights.now self.now.taps self.now.shift self.now.small }
+        requires narrow { IsNarrow self.now.weights.now self.now.taps self.now.small inputs.now }
+        requires window { IsWindow inputs.now base window.now }
+        requires near { (base ≤ place) × (place ≤ base + 16) }
+        ensures { result ≡ filter_token self.now.weights.now self.now.taps self.now.shift inputs.now place }
+    {
+        let _ = inputs;
+        let sum = sixteen_narrow_products_at(self.weights, window, place - base);
+        narrow_shifted(sum, self.shift)
+    }
+
+    /// The token at a place behind the whole ones, where the products are narrow. The window has the tokens
+    /// from `base` on.
+    pub(crate) fn late_token(
+        &self,
+        window: &[i32],
+        base: usize,
+        inputs: &[i32],
+        place: usize,
+    ) -> i32
+        requires in_range { IsInRange self.now.weights.now self.now.taps self.now.shift self.now.small }
+        requires narrow { IsNarrow self.now.weights.now self.now.taps self.now.small inputs.now }
+        requires window { IsWindow inputs.now base window.now }
+        requires late { base ≤ place }
+        requires place { place ≤ 8192 }
+        ensures { result ≡ filter_token self.now.weights.now self.now.taps self.now.shift inputs.now place }
+    {
+        if place - base <= 16 {
+            return self.window_token(window, base, inputs, place);
+        }
+        self.small_token(inputs, place)
     }
 
     /// The token at a whole place.

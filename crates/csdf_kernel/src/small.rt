@@ -1,6 +1,6 @@
 //! The arithmetic of filters whose weights are small, in 64 bits, or in 32 where the tokens are small too.
 ghost use Rattle.std.specs.Prelude.{◌≡◌, ◌+◌, ◌*ℤ◌, ◌^◌, ◌≤◌, ℕ, IsTrue, length, unsigned_abs};
-ghost use Rattle.csdf_kernel.specs.Filter.{AreNarrow, AreSmall};
+ghost use Rattle.csdf_kernel.specs.Filter.{AreNarrow, AreSmall, IsWindow};
 ghost use Rattle.csdf_kernel.specs.Value.{clamp, convolution, floor, token_at};
 
 use crate::numbers::{full_taps, token};
@@ -54,7 +54,9 @@ fn narrow_product(weight: i32, token: i32) -> i32
 }
 
 /// The sum of the products of sixteen weights with the tokens from `place` on, which are all there, where
-/// each product is narrow. Its loop has a constant length, so that the compiler makes vectors of it.
+/// each product is narrow. Its loop has a constant length, and it stands by itself, so that the compiler makes
+/// vectors of it.
+#[inline(never)]
 pub(crate) fn sixteen_narrow_products_at(weights: &[i32], inputs: &[i32], place: usize) -> i32
     requires weights { 16 ≤ length weights.now }
     requires tokens { place + 16 ≤ length inputs.now }
@@ -66,6 +68,27 @@ pub(crate) fn sixteen_narrow_products_at(weights: &[i32], inputs: &[i32], place:
         sum += narrow_product(weights[tap], inputs[place + tap]);
     }
     sum
+}
+
+/// A narrow sum divided by two to the power of `shift`, rounded down: no size grows, so nothing is clamped.
+#[tactic(auto, using(crate::proofs::NumberLemmas::shr_clamped))]
+pub(crate) fn narrow_shifted(sum: i32, shift: u32) -> i32
+    requires { shift ≤ 31 }
+    ensures { result ≡ clamp (floor sum (2 ^ shift)) }
+{
+    sum >> shift
+}
+
+/// The tokens from `base` on, and zeros past the end of the inputs.
+pub(crate) fn window_from(inputs: &[i32], base: usize) -> [i32; 32]
+    requires { base ≤ length inputs.now }
+    ensures { IsWindow inputs.now base result }
+{
+    let mut window = [0; 32];
+    for at in 0..32 {
+        window[at] = token(inputs, base + at);
+    }
+    window
 }
 
 /// The product with a small weight.

@@ -1,4 +1,4 @@
-use Rattle.std.proofs.Common.{◌≡◌, ◌*◌, ◌++◌, length, sum, take, ap, refl, subst, sym, ◌∙◌, arith}
+use Rattle.std.proofs.Common.{◌*◌, ◌++◌, take, ap, refl, subst, sym, ◌∙◌, arith}
 use Rattle.smallvec.specs.SmallVec.{HasRoomFor}
 use Rattle.std.proofs.lemmas.List.{length-take-le}
 use Rattle.csdf_kernel.proofs.ValueLemmas.{no_counts, values_as_read, values_unwritten}
