@@ -133,6 +133,12 @@ impl<K: Asked> Hall<K> {
         (self.is_alone || stand.tends) && stand.light & bit_of(actor) != 0
     }
 
+    /// Whether this worker can go on by making an actor's firings under the lock, once what is in hand is
+    /// delivered.
+    pub(crate) fn has_blocks(&self, stand: &Stand) -> bool {
+        (self.is_alone || stand.tends) && (self.seen(stand) | stand.next) & stand.light != 0
+    }
+
     /// Tells where to look, under the lock. True where the teller is to wake a worker.
     fn tell(&self, watched: &mut Watched<K>, teller: Teller) -> bool {
         if self.is_alone {

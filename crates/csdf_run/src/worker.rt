@@ -25,13 +25,15 @@ pub(crate) struct Ended {
 }
 
 /// Claims the firing to start next, beside what is held: of those who can begin, or else of those who may
-/// once what is held is delivered. None once all is over.
+/// once what is held is delivered. None once all is over, and none beside what is held where the worker
+/// goes on by blocks, each of which begins with nothing in hand.
 fn claim_next<K: Asked>(
     hall: &Hall<K>,
     board: &Board,
     place: &mut Place,
     stand: &Stand,
     beside: Option<Claim>,
+    by_blocks: bool,
 ) -> Option<Claim>
     requires place { place.old.board ≡ board.now.id }
     requires holds { HoldsJust place.old.view beside None }
@@ -42,10 +44,24 @@ fn claim_next<K: Asked>(
     if hall.is_ended() {
         return None;
     }
+    if by_blocks && beside.is_some() && hall.has_blocks(stand) {
+        return None;
+    }
     if let Some(claim) = claim_among(board, place, beside, hall.seen(stand)) {
         return Some(claim);
     }
     claim_among(board, place, beside, stand.next)
+}
+
+/// What a worker whose start was refused answers: nothing is made, or it gives up.
+fn refused(fault: StartFault) -> Result<bool, RunFault>
+    ensures { IfOk result (λ gets_on. gets_on ≡ false) }
+{
+    match fault {
+        StartFault::Refused(_) => Ok(false),
+        StartFault::Memory => Err(RunFault::Memory),
+        StartFault::Unknown | StartFault::Moved(_) => Err(RunFault::Mixed),
+    }
 }
 
 /// What becomes of a claim once a start was tried: that of a job which was started is held, and one that was
@@ -73,9 +89,8 @@ fn settle_start(
     }
     give_back(board, place, next);
     match started {
-        Ok(_) | Err(StartFault::Refused(_)) => Ok(false),
-        Err(StartFault::Memory) => Err(RunFault::Memory),
-        Err(StartFault::Unknown | StartFault::Moved(_)) => Err(RunFault::Mixed),
+        Ok(_) => Ok(false),
+        Err(fault) => refused(fault),
     }
 }
 
@@ -157,15 +172,6 @@ fn fire<G: Gate>(
     }
 }
 
-/// What a worker whose start was refused goes on with: nothing is made, or it gives up.
-fn refused(fault: StartFault) -> Result<bool, RunFault> {
-    match fault {
-        StartFault::Refused(_) => Ok(false),
-        StartFault::Memory => Err(RunFault::Memory),
-        StartFault::Unknown | StartFault::Moved(_) => Err(RunFault::Mixed),
-    }
-}
-
 /// Makes firings of an actor one after another, the claimed one first, in one hold of the lock. Behind it
 /// the claim ends: what was made is finished, and a claim that was refused is given up. Only then another
 /// worker is woken. True where some were made.
@@ -226,12 +232,13 @@ fn advance<K: Asked, R: Wait, G: Gate>(
     ensures made { OnOk result (HasMade place.new.view (claim_in hand.old)) }
 {
     let given = hand.claim();
-    let next = claim_next(hall, board, place, stand, given);
+    let is_open = gate.is_open();
+    let next = claim_next(hall, board, place, stand, given, is_open);
     if given.is_none() {
         let Some(claim) = next else {
             return Ok(false);
         };
-        if gate.is_open() && hall.makes_blocks(stand, claim.actor) {
+        if is_open && hall.makes_blocks(stand, claim.actor) {
             return make(rt, hall, board, gate, place, stand, hand, claim);
         }
     }

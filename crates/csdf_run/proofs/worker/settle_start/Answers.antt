@@ -3,6 +3,3 @@ use Rattle.csdf_run.proofs.worker.settle_start.Goals as goal
 
 pub returns-in-Ok-clause-holds : goal.returns-in-Ok-clause-holds
 returns-in-Ok-clause-holds c = search rules
-
-pub returns-in-Ok-2-clause-holds : goal.returns-in-Ok-2-clause-holds
-returns-in-Ok-2-clause-holds c = search rules
