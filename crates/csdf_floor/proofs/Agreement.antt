@@ -1,12 +1,14 @@
 -- Two runs have the same token at every place of a channel that both have written.
 use Rattle.std.proofs.Common.{◌≡◌, ℕ, zero, suc, ◌+◌, ◌<◌, ◌≤◌, inl, inr, List, [], ◌∷◌, ◌++◌, length, take, drop, get_or, map, refl, ap, sym, subst, ◌∙◌}
-use Rattle.std.proofs.Common.{arith, append-nil, take-add, Bool}
-use Rattle.std.specs.Prelude.{ℤ, pos}
-use Rattle.std.specs.List.{zip, AllByRecursion}
-use Rattle.std.proofs.lemmas.List.{take-append-le, take-take, take_all, drop-take, length-take-le, get_or-take}
+use Rattle.std.proofs.Common.{arith, append-nil, take-add, Bool, true, false, cond, filter, ◌==◌}
+use Rattle.std.specs.Prelude.{ℤ, pos, sum_by, slice_range}
+use Rattle.std.specs.List.{zip, AllByRecursion, AllZip}
+use Rattle.std.proofs.lemmas.List.{take-append-le, take-take, take_all, drop-take, length-take-le, get_or-take, length-map}
+use Rattle.std.proofs.lemmas.List.Sums.{sum_by-cons}
 use Rattle.std.proofs.lemmas.Bool.Decides.{eqb_tells}
 use Rattle.csdf_model.specs.Rates.{rate, total}
 use Rattle.csdf_model.specs.declared.parts.Kernel.{Kernel}
+use Rattle.csdf_model.specs.declared.parts.Kernel.TheVariants.{Sink}
 use Rattle.csdf_analysis.proofs.CountLemmas.{total_mono, less_or_not}
 use Rattle.csdf_core.specs.declared.stage.Stage.TheVariants.{Idle, Fetched}
 use Rattle.csdf_core.specs.Moves.{Move}
@@ -14,13 +16,14 @@ use Rattle.csdf_core.specs.Moves.{Begin, Read, Write, Finish, Close}
 use Rattle.csdf_core.specs.Plan.{Channel, takes_of, gives_of}
 use Rattle.csdf_core.specs.Rows.{shares}
 use Rattle.csdf_core.specs.State.{Stream, State, present, opening}
-use Rattle.csdf_core.specs.Step.{count, stage, given, accepted, after, state_after}
+use Rattle.csdf_core.specs.Step.{count, stage, given, is_source, accepted, after, state_after}
 use Rattle.csdf_core.specs.Streams.{part}
 use Rattle.csdf_core.proofs.Kept.{writes}
 use Rattle.csdf_core.proofs.Flows.{drained, filled}
-use Rattle.csdf_floor.specs.Journal.{Program, value, reads_after, no_reads, IsHonestMove, IsHonestFrom, IsHonest, reads_of}
+use Rattle.csdf_floor.specs.Journal.{Program, value, inputs, output_counts, reads_after, no_reads, IsHonestMove, IsHonestFrom, IsHonest, reads_of, state_of}
+use Rattle.csdf_kernel.specs.Value.{value_of}
 use Rattle.csdf_core.specs.Going.{begun_at}
-use Rattle.csdf_floor.specs.Laws.{AreAlike, Agree, written_in}
+use Rattle.csdf_floor.specs.Laws.{DifferInCapacity, AreAlike, Agree, written_in}
 use Rattle.csdf_core.specs.Going.{CanGo}
 use Rattle.csdf_floor.specs.Sequential.{fired, IsSequentialFrom, state_from}
 use Rattle.csdf_core.proofs.FiringCounts.{put_at, put, got, begun, put_begun}
@@ -223,7 +226,7 @@ nothing_agreed : (y : List ℤ) → IsAgreed [] y
 nothing_agreed y zero a b = refl
 nothing_agreed y (suc n) a b = absurd (omega arith)
 
-at_channel : (c : ℕ) (xs ys : List Stream) → AreAgreed xs ys
+pub at_channel : (c : ℕ) (xs ys : List Stream) → AreAgreed xs ys
     → IsAgreed (part c (map (λ (st : Stream). st.written) xs)) (part c (map (λ (st : Stream). st.written) ys))
 at_channel c [] ys same = nothing_agreed _
 at_channel c (x ∷ xs) [] same = λ n a b. sym (nothing_agreed (part c (map (λ (st : Stream). st.written) (x ∷ xs))) n b a)
@@ -236,6 +239,156 @@ at_place x y i d same lx ly =
     let lt : i < suc i = omega arith in
     sym (get_or-take (suc i) x i d lt) ∙ ap (λ (z : List ℤ). get_or z i d) e ∙ get_or-take (suc i) y i d lt
 
+-- ---- capacities aside
+
+abbrev pub uncapped : Channel → Channel
+uncapped c = record { from = c.from; to = c.to; produce = c.produce; consume = c.consume; initial = c.initial; capacity = 0 }
+
+abbrev unbounded : Program → Program
+unbounded w = record {
+  plan = record {
+    sources = w.plan.sources;
+    channels = map uncapped w.plan.channels;
+    limits = w.plan.limits;
+    supplies = w.plan.supplies;
+    firings = w.plan.firings;
+    cells = w.plan.cells;
+  };
+  kernels = w.kernels;
+  feeds = w.feeds;
+}
+
+tallied_to : (p g b : ℕ → ℕ) (cs : List Channel) (sts : List Stream) → AreTallied p g b cs sts → AreTallied p g b (map uncapped cs) sts
+tallied_to p g b [] sts t = tt
+tallied_to p g b (c ∷ cs) [] t = tt
+tallied_to p g b (c ∷ cs) (st ∷ sts) t = (
+  record { written = t.0.written; taken = t.0.taken; covered = t.0.covered },
+  tallied_to p g b cs sts t.1,
+)
+
+tallied_back : (p g b : ℕ → ℕ) (cs : List Channel) (sts : List Stream) → AreTallied p g b (map uncapped cs) sts → AreTallied p g b cs sts
+tallied_back p g b [] sts t = tt
+tallied_back p g b (c ∷ cs) [] t = tt
+tallied_back p g b (c ∷ cs) (st ∷ sts) t = (
+  record { written = t.0.written; taken = t.0.taken; covered = t.0.covered },
+  tallied_back p g b cs sts t.1,
+)
+
+inputs_uncapped : (a k : ℕ) (cs : List Channel) (sts : List Stream) → inputs_at a k (map uncapped cs) sts ≡ inputs_at a k cs sts
+inputs_uncapped a k [] sts = refl
+inputs_uncapped a k (c ∷ cs) [] = refl
+inputs_uncapped a k (c ∷ cs) (st ∷ sts) = ap (λ (z : List ℤ). take (takes_of a k c) (drop (total c.consume k) st.written) ++ z)
+    (inputs_uncapped a k cs sts)
+
+outputs_uncapped : (a k : ℕ) (cs : List Channel) (sts : List Stream) → outputs_at a k (map uncapped cs) sts ≡ outputs_at a k cs sts
+outputs_uncapped a k [] sts = refl
+outputs_uncapped a k (c ∷ cs) [] = refl
+outputs_uncapped a k (c ∷ cs) (st ∷ sts) =
+    ap (λ (z : List (List ℤ)). take (gives_of a k c) (drop (length c.initial + total c.produce k) st.written) ∷ z) (outputs_uncapped a k cs sts)
+
+shares_uncapped : (a k : ℕ) (cs : List Channel) (v : List ℤ) → shares a k (map uncapped cs) v ≡ shares a k cs v
+shares_uncapped a k [] v = refl
+shares_uncapped a k (c ∷ cs) v = ap (λ (z : List (List ℤ)). take (gives_of a k c) v ∷ z) (shares_uncapped a k cs (drop (gives_of a k c) v))
+
+counts_if : (b : Bool) (a k : ℕ) (c : Channel) (xs ys : List Channel) → map (gives_of a k) xs ≡ map (gives_of a k) ys
+    → map (gives_of a k) (cond b (uncapped c ∷ xs) xs) ≡ map (gives_of a k) (cond b (c ∷ ys) ys)
+counts_if true a k c xs ys e = ap (λ (z : List ℕ). gives_of a k c ∷ z) e
+counts_if false a k c xs ys e = e
+
+counts_uncapped : (a k : ℕ) (cs : List Channel) → map (gives_of a k) (filter (λ (d : Channel). d.from == a) (map uncapped cs))
+    ≡ map (gives_of a k) (filter (λ (d : Channel). d.from == a) cs)
+counts_uncapped a k [] = refl
+counts_uncapped a k (c ∷ cs) = counts_if (c.from == a) a k c (filter (λ (d : Channel). d.from == a) (map uncapped cs))
+    (filter (λ (d : Channel). d.from == a) cs) (counts_uncapped a k cs)
+
+given_sum : (a n : ℕ) (cs : List Channel) → sum_by (λ (c : Channel). cond (c.from == a) (total c.produce n) 0) (map uncapped cs)
+    ≡ sum_by (λ (c : Channel). cond (c.from == a) (total c.produce n) 0) cs
+given_sum a n [] = refl
+given_sum a n (c ∷ cs) =
+    let amount : Channel → ℕ = λ (d : Channel). cond (d.from == a) (total d.produce n) 0 in
+    sum_by-cons amount (uncapped c) (map uncapped cs) ∙ ap (λ m. amount c + m) (given_sum a n cs) ∙ sym (sum_by-cons amount c cs)
+
+given_uncapped : (w : Program) (a n : ℕ) → given (unbounded w).plan a n ≡ given w.plan a n
+unfolding given
+given_uncapped w a n = given_sum a n w.plan.channels
+
+inputs_of_uncapped : (w : Program) (a k : ℕ) (read : List ℤ) → inputs (unbounded w) a k read ≡ inputs w a k read
+inputs_of_uncapped w a k read =
+    ap (λ m. cond (is_source w.plan a) (slice_range (get_or w.feeds a []) m (given (unbounded w).plan a (suc k))) read) (given_uncapped w a k)
+    ∙ ap (λ m. cond (is_source w.plan a) (slice_range (get_or w.feeds a []) (given w.plan a k) m) read) (given_uncapped w a (suc k))
+
+value_uncapped : (w : Program) (a k : ℕ) (read : List ℤ) → value (unbounded w) a k read ≡ value w a k read
+unfolding value
+value_uncapped w a k read =
+    ap (λ (z : List ℕ). value_of (get_or w.kernels a Sink) z (inputs (unbounded w) a k read)) (counts_uncapped a k w.plan.channels)
+    ∙ ap (value_of (get_or w.kernels a Sink) (output_counts w a k)) (inputs_of_uncapped w a k read)
+
+values_uncapped : (w : Program) (sts : List Stream) (a k : ℕ)
+    → shares a k (map uncapped w.plan.channels) (value (unbounded w) a k (inputs_at a k (map uncapped w.plan.channels) sts))
+    ≡ shares a k w.plan.channels (value w a k (inputs_at a k w.plan.channels sts))
+values_uncapped w sts a k =
+    let cs : List Channel = w.plan.channels in
+    shares_uncapped a k cs (value (unbounded w) a k (inputs_at a k (map uncapped cs) sts))
+    ∙ ap (shares a k cs) (value_uncapped w a k (inputs_at a k (map uncapped cs) sts) ∙ ap (value w a k) (inputs_uncapped a k cs sts))
+
+faithful_to : (w : Program) (s : State) (kept : List (List ℤ)) → IsFaithful w s kept → IsFaithful (unbounded w) s kept
+faithful_to w s kept f = record {
+  booked = record {
+    counted = f.booked.counted;
+    staged = f.booked.staged;
+    streamed = f.booked.streamed ∙ sym (length-map w.plan.channels uncapped);
+    tallied = tallied_to (put s.counts s.stages) (got s.counts s.stages) (begun s.counts s.stages) w.plan.channels s.streams f.booked.tallied;
+  };
+  each = f.each;
+  values = λ a k less. outputs_uncapped a k w.plan.channels s.streams ∙ f.values a k less ∙ sym (values_uncapped w s.streams a k);
+  keeps = λ a at. f.keeps a at ∙ sym (inputs_uncapped a (count (present s) a) w.plan.channels s.streams);
+}
+
+faithful_back : (w : Program) (s : State) (kept : List (List ℤ)) → IsFaithful (unbounded w) s kept → IsFaithful w s kept
+faithful_back w s kept f = record {
+  booked = record {
+    counted = f.booked.counted;
+    staged = f.booked.staged;
+    streamed = f.booked.streamed ∙ length-map w.plan.channels uncapped;
+    tallied = tallied_back (put s.counts s.stages) (got s.counts s.stages) (begun s.counts s.stages) w.plan.channels s.streams f.booked.tallied;
+  };
+  each = f.each;
+  values = λ a k less. sym (outputs_uncapped a k w.plan.channels s.streams) ∙ f.values a k less ∙ values_uncapped w s.streams a k;
+  keeps = λ a at. f.keeps a at ∙ inputs_uncapped a (count (present s) a) w.plan.channels s.streams;
+}
+
+-- ---- the same work
+
+channel_of : ℕ → ℕ → List ℕ → List ℕ → List ℤ → Channel
+channel_of from to produce consume initial = record { from = from; to = to; produce = produce; consume = consume; initial = initial; capacity = 0 }
+
+same_channel : (c d : Channel) → DifferInCapacity c d → uncapped c ≡ uncapped d
+unfolding channel_of
+same_channel c d e =
+    ap (λ x. channel_of x c.to c.produce c.consume c.initial) e.from
+    ∙ ap (λ x. channel_of d.from x c.produce c.consume c.initial) e.to
+    ∙ ap (λ (x : List ℕ). channel_of d.from d.to x c.consume c.initial) e.produce
+    ∙ ap (λ (x : List ℕ). channel_of d.from d.to d.produce x c.initial) e.consume
+    ∙ ap (λ (x : List ℤ). channel_of d.from d.to d.produce d.consume x) e.initial
+
+pub same_channels : (cs ds : List Channel) → AllZip DifferInCapacity cs ds → map uncapped cs ≡ map uncapped ds
+same_channels [] [] e = refl
+same_channels [] (d ∷ ds) e = absurd e
+same_channels (c ∷ cs) [] e = absurd e
+same_channels (c ∷ cs) (d ∷ ds) e =
+    ap (λ (x : Channel). x ∷ map uncapped cs) (same_channel c d e.0) ∙ ap (λ (xs : List Channel). uncapped d ∷ xs) (same_channels cs ds e.1)
+
+-- as many tokens are given
+pub given_alike : (v w : Program) (a n : ℕ) → AllZip DifferInCapacity v.plan.channels w.plan.channels → given v.plan a n ≡ given w.plan a n
+unfolding given
+given_alike v w a n e =
+    let amount : Channel → ℕ = λ (c : Channel). cond (c.from == a) (total c.produce n) 0 in
+    sym (given_sum a n v.plan.channels) ∙ ap (sum_by amount) (same_channels v.plan.channels w.plan.channels e) ∙ given_sum a n w.plan.channels
+
+-- what does not tell of capacities holds of a channel like it
+pub of_alike : (P : Channel → Type 0) (c d : Channel) → DifferInCapacity c d → P (uncapped c) → P (uncapped d)
+of_alike P c d e holds = subst P (same_channel c d e) holds
+
 -- the program w, told by the parts that v shares with it
 like : Program → List Bool → List Channel → List Kernel → List (List ℤ) → Program
 like w sources channels kernels feeds = record {
@@ -244,17 +397,17 @@ like w sources channels kernels feeds = record {
   feeds = feeds;
 }
 
-is_like : (v w : Program) → AreAlike v w → w ≡ like w v.plan.sources v.plan.channels v.kernels v.feeds
+is_like : (v w : Program) → AreAlike v w → unbounded w ≡ like w v.plan.sources (map uncapped v.plan.channels) v.kernels v.feeds
 unfolding like
 is_like v w e =
-    ap (λ (x : List Bool). like w x w.plan.channels w.kernels w.feeds) (sym e.sources)
-    ∙ ap (λ (x : List Channel). like w v.plan.sources x w.kernels w.feeds) (sym e.channels)
-    ∙ ap (λ (x : List Kernel). like w v.plan.sources v.plan.channels x w.feeds) (sym e.kernels)
-    ∙ ap (λ (x : List (List ℤ)). like w v.plan.sources v.plan.channels v.kernels x) (sym e.feeds)
+    ap (λ (x : List Bool). like w x (map uncapped w.plan.channels) w.kernels w.feeds) (sym e.sources)
+    ∙ ap (λ (x : List Channel). like w v.plan.sources x w.kernels w.feeds) (sym (same_channels v.plan.channels w.plan.channels e.channels))
+    ∙ ap (λ (x : List Kernel). like w v.plan.sources (map uncapped v.plan.channels) x w.feeds) (sym e.kernels)
+    ∙ ap (λ (x : List (List ℤ)). like w v.plan.sources (map uncapped v.plan.channels) v.kernels x) (sym e.feeds)
 
 -- what is faithful to the one is to the other
-faithful_like : (v w : Program) (s : State) (kept : List (List ℤ)) → IsFaithful (like w v.plan.sources v.plan.channels v.kernels v.feeds) s kept
-    → IsFaithful v s kept
+faithful_like : (v w : Program) (s : State) (kept : List (List ℤ))
+    → IsFaithful (like w v.plan.sources (map uncapped v.plan.channels) v.kernels v.feeds) s kept → IsFaithful (unbounded v) s kept
 unfolding like value given
 faithful_like v w s kept f = record {
   booked = (let b = f.booked in record { counted = b.counted; staged = b.staged; streamed = b.streamed; tallied = b.tallied });
@@ -264,18 +417,37 @@ faithful_like v w s kept f = record {
 }
 
 pub faithful_alike : (v w : Program) (s : State) (kept : List (List ℤ)) → AreAlike v w → IsFaithful w s kept → IsFaithful v s kept
-faithful_alike v w s kept e f = faithful_like v w s kept (subst (λ (u : Program). IsFaithful u s kept) (is_like v w e) f)
+faithful_alike v w s kept e f =
+    faithful_back v s kept (faithful_like v w s kept (subst (λ (u : Program). IsFaithful u s kept) (is_like v w e) (faithful_to w s kept f)))
+
+first_streams : (cs ds : List Channel) → AllZip DifferInCapacity cs ds
+    → map {B = Stream} (λ (c : Channel). record { written = c.initial; taken = 0 }) cs
+    ≡ map {B = Stream} (λ (c : Channel). record { written = c.initial; taken = 0 }) ds
+first_streams [] [] e = refl
+first_streams [] (d ∷ ds) e = absurd e
+first_streams (c ∷ cs) [] e = absurd e
+first_streams (c ∷ cs) (d ∷ ds) e = rw (e.0.initial, first_streams cs ds e.1) refl
 
 same_opening : (v w : Program) → AreAlike v w → (opening v.plan).streams ≡ (opening w.plan).streams
-same_opening v w e = ap (map (λ (c : Channel). record { written = c.initial; taken = 0 })) e.channels
+same_opening v w e = first_streams v.plan.channels w.plan.channels e.channels
+
+-- the inputs of an actor's first firings stand in the same channels
+pub inputs_alike : (a k : ℕ) (cs ds : List Channel) (sts : List Stream) → AllZip DifferInCapacity cs ds → inputs_at a k cs sts ≡ inputs_at a k ds sts
+inputs_alike a k cs ds sts e =
+    sym (inputs_uncapped a k cs sts) ∙ ap (λ (xs : List Channel). inputs_at a k xs sts) (same_channels cs ds e) ∙ inputs_uncapped a k ds sts
+
+pub both_agreed : (v w : Program) (one two : List Move) → AreAlike v w → IsHonest v one → IsHonest w two
+    → AreAgreed (state_of v one).streams (state_of w two).streams
+both_agreed v w one two e h1 h2 =
+    let t : State = state_after w.plan (opening w.plan) two in
+    let end = faithful_end w two h2 in
+    let first : AreAgreed (opening v.plan).streams t.streams =
+    subst (λ (xs : List Stream). AreAgreed xs t.streams) (sym (same_opening v w e)) (agreed_sym t.streams (opening w.plan).streams (agreed_opening w two h2)) in
+    agreed_from v (opening v.plan) t (no_reads v.plan) (reads_of w two) one (faithful_opening v) (faithful_alike v w t (reads_of w two) e end) h1 first
 
 pub agree : Agree
 agree v w one two c i e h1 h2 l1 l2 =
     let s : State = state_after v.plan (opening v.plan) one in
     let t : State = state_after w.plan (opening w.plan) two in
-    let end = faithful_end w two h2 in
-    let first : AreAgreed (opening v.plan).streams t.streams =
-    subst (λ (xs : List Stream). AreAgreed xs t.streams) (sym (same_opening v w e)) (agreed_sym t.streams (opening w.plan).streams (agreed_opening w two h2)) in
-    let both : AreAgreed s.streams t.streams =
-    agreed_from v (opening v.plan) t (no_reads v.plan) (reads_of w two) one (faithful_opening v) (faithful_alike v w t (reads_of w two) e end) h1 first in
+    let both : AreAgreed s.streams t.streams = both_agreed v w one two e h1 h2 in
     at_place (written_in s c) (written_in t c) i (pos 0) (at_channel c s.streams t.streams both) l1 l2

@@ -72,53 +72,60 @@ has_left plan s t a bs bt idle stuck within can =
       | inr less ↦ less
     ]
 
-within_accepted : (plan : Plan) (s t : State) (m : Move) → IsBooked plan s → IsBooked plan t → AllIdle t → IsStuck plan (present t)
-    → refusal plan (present s) m ≡ None → Within s t → Within (accepted plan s m) t
-within_accepted plan s t (Begin a) bs bt idle stuck none within b =
+-- an actor that can go has a firing left
+abbrev pub HasLeft : Plan → State → State → Type 0
+HasLeft plan s t = (a : ℕ) → CanGo plan (present s) a → count (present s) a < count (present t) a
+
+within_accepted : (plan : Plan) (s t : State) (m : Move) → IsBooked plan s → HasLeft plan s t → refusal plan (present s) m ≡ None → Within s t
+    → Within (accepted plan s m) t
+within_accepted plan s t (Begin a) bs left none within b =
     let can = can_begin plan (present s) a none in
     let lt : a < length s.stages = (let there = can.exists in let staged = bs.staged in omega arith) in
     elim (eqb_tells b a) [
       | inl e ↦ subst (λ (d : ℕ). begun s.counts (set s.stages a Begun) d ≤ get_or t.counts d 0) (sym e.1)
-          (let now = staged_same begun_at s.counts s.stages a Begun lt in let left = has_left plan s t a bs bt idle stuck within can in omega arith)
+          (let now = staged_same begun_at s.counts s.stages a Begun lt in let less = left a can in omega arith)
       | inr e ↦ let same = staged_other begun_at s.counts s.stages a b Begun e.1 in let h = within b in omega arith
     ]
-within_accepted plan s t (Read a) bs bt idle stuck none within b =
+within_accepted plan s t (Read a) bs left none within b =
     let w = reads plan (present s) a none in
     let lt : a < length s.stages = (let there = w.there in let staged = bs.staged in omega arith) in
     let same = staged_as begun_at s.counts s.stages a Fetched Begun lt w.at refl b in
     let h = within b in omega arith
-within_accepted plan s t (Write a v) bs bt idle stuck none within b =
+within_accepted plan s t (Write a v) bs left none within b =
     let w = writes plan (present s) a v none in
     let lt : a < length s.stages = (let there = w.0.there in let staged = bs.staged in omega arith) in
     let same = staged_as begun_at s.counts s.stages a Written Fetched lt w.0.at refl b in
     let h = within b in omega arith
-within_accepted plan s t (Finish a) bs bt idle stuck none within b =
+within_accepted plan s t (Finish a) bs left none within b =
     let w = finishes plan (present s) a none in
     let lt : a < length s.stages = (let there = w.there in let staged = bs.staged in omega arith) in
     let ltc : a < length s.counts = (let there = w.there in let counted = bs.counted in omega arith) in
     let same = finished_as begun_at s.counts s.stages a ltc lt w.at (λ n. refl) b in
     let h = within b in omega arith
-within_accepted plan s t (Close c) bs bt idle stuck none within b = within b
+within_accepted plan s t (Close c) bs left none within b = within b
 
-within_from : (w : Program) (s t : State) (kept : List (List ℤ)) (ms : List Move) → IsFaithful w s kept → IsHonestFrom w s kept ms → IsBooked w.plan t
-    → AllIdle t → IsStuck w.plan (present t) → Within s t → Within (state_after w.plan s ms) t
-within_from w s t kept [] f h bt idle stuck within = within
-within_from w s t kept (m ∷ ms) f h bt idle stuck within =
-    within_from w (after w.plan s m) t (reads_after w.plan s kept m) ms (faithful_after w s kept m f h.0) h.1 bt idle stuck
-    (subst (λ (u : State). Within u t) (sym (after_is w.plan s m h.0.accepted)) (within_accepted w.plan s t m f.booked bt idle stuck h.0.accepted within))
+-- counts that no actor can leave at any state of a journal
+pub within_from : (w : Program) (s t : State) (kept : List (List ℤ)) (ms : List Move) → IsFaithful w s kept → IsHonestFrom w s kept ms
+    → ((u : State) → IsBooked w.plan u → Within u t → HasLeft w.plan u t) → Within s t → Within (state_after w.plan s ms) t
+within_from w s t kept [] f h left within = within
+within_from w s t kept (m ∷ ms) f h left within =
+    within_from w (after w.plan s m) t (reads_after w.plan s kept m) ms (faithful_after w s kept m f h.0) h.1 left
+    (subst (λ (u : State). Within u t) (sym (after_is w.plan s m h.0.accepted))
+    (within_accepted w.plan s t m f.booked (left s f.booked within) h.0.accepted within))
+
+pub within_end : (w : Program) (ms : List Move) (t : State) → IsHonest w ms → ((u : State) → IsBooked w.plan u → Within u t → HasLeft w.plan u t)
+    → Within (state_after w.plan (opening w.plan) ms) t
+within_end w ms t h left =
+    within_from w (opening w.plan) t (no_reads w.plan) ms (faithful_opening w) h left
+    (λ b. (let none : begun (opening w.plan).counts (opening w.plan).stages b ≡ 0 =
+    ap (λ x. begun_at x (get_or (opening w.plan).counts b 0)) (alike (length w.plan.sources) b Idle) ∙ alike (length w.plan.sources) b 0 in omega arith))
 
 pub within_sequential : (w : Program) (ms : List Move) (actors : List ℕ) → IsHonest w ms → IsSequentialFrom w (opening w.plan) actors
     → Within (state_after w.plan (opening w.plan) ms) (sequential_state w actors)
 within_sequential w ms actors h p =
     let r = rest_all w (opening w.plan) actors (rest_opening w) p in
-    let first = rest_opening w in
-    within_from w (opening w.plan) (sequential_state w actors) (no_reads w.plan) ms (faithful_opening w) h r.faithful.booked r.idle
-    (stuck_all w (opening w.plan) actors p)
-    (λ b. (let none : begun (opening w.plan).counts (opening w.plan).stages b ≡ 0 = ap (λ x. begun_at x (get_or (opening w.plan).counts b 0)) (first.idle b)
-    ∙ zeros w.plan b in omega arith))
-  where
-    zeros : (plan : Plan) (b : ℕ) → count (present (opening plan)) b ≡ 0
-    zeros plan b = alike (length plan.sources) b 0
+    within_end w ms (sequential_state w actors) h (λ u booked within a can.
+    has_left w.plan u (sequential_state w actors) a booked r.faithful.booked r.idle (stuck_all w (opening w.plan) actors p) within can)
 
 pub begins_no_more : BeginsNoMore
 begins_no_more w journal actors a h p = within_sequential w journal actors h p a

@@ -58,13 +58,13 @@ ends w journal actors h p =
 
 -- ---- within
 
-front_of : (x y : List ℤ) → IsAgreed x y → length x ≤ length y → IsPrefix x y
+pub front_of : (x y : List ℤ) → IsAgreed x y → length x ≤ length y → IsPrefix x y
 front_of x y same le =
     let self : length x ≤ length x = omega arith in
     let front : take (length x) y ≡ x = sym (same (length x) self le) ∙ take_all (length x) x self in
     (drop (length x) y, sym (take-append-drop (length x) y) ∙ ap (λ (z : List ℤ). z ++ drop (length x) y) front)
 
-fronts : (p1 g1 b1 p2 g2 b2 : ℕ → ℕ) (cs : List Channel) (xs ys : List Stream) → length xs ≡ length cs → length ys ≡ length cs → ((b : ℕ) → p1 b ≤ p2 b)
+pub fronts : (p1 g1 b1 p2 g2 b2 : ℕ → ℕ) (cs : List Channel) (xs ys : List Stream) → length xs ≡ length cs → length ys ≡ length cs → ((b : ℕ) → p1 b ≤ p2 b)
     → ((b : ℕ) → g1 b ≤ g2 b)
     → AreTallied p1 g1 b1 cs xs → AreTallied p2 g2 b2 cs ys → AreAgreed xs ys → AllByRecursion IsFront (zip xs ys)
 fronts p1 g1 b1 p2 g2 b2 cs [] ys l1 l2 p g t1 t2 same = tt
@@ -79,7 +79,7 @@ fronts p1 g1 b1 p2 g2 b2 (c ∷ cs) (x ∷ xs) (y ∷ ys) l1 l2 p g t1 t2 same =
     let lt : x.taken ≤ y.taken = omega arith in
     ((front_of x.written y.written same.0 le, lt), fronts p1 g1 b1 p2 g2 b2 cs xs ys (omega arith) (omega arith) p g t1.1 t2.1 same.1)
 
-inputs_to_agree : (p1 g1 b1 p2 g2 b2 : ℕ → ℕ) (t n : ℕ) (cs : List Channel) (xs ys : List Stream) → length xs ≡ length cs → length ys ≡ length cs → n ≤ b1 t
+pub inputs_to_agree : (p1 g1 b1 p2 g2 b2 : ℕ → ℕ) (t n : ℕ) (cs : List Channel) (xs ys : List Stream) → length xs ≡ length cs → length ys ≡ length cs → n ≤ b1 t
     → n ≤ b2 t
     → AreTallied p1 g1 b1 cs xs → AreTallied p2 g2 b2 cs ys → AreAgreed xs ys → inputs_to t n cs xs ≡ inputs_to t n cs ys
 inputs_to_agree p1 g1 b1 p2 g2 b2 t zero cs xs ys l1 l2 le1 le2 t1 t2 same = refl
@@ -98,7 +98,7 @@ inputs_grow t n (suc j) cs xs =
           ∙ append_assoc (inputs_to t n cs xs) rest.0 (inputs_at t (j + n) cs xs),
     )
 
-inputs_front : (t n m : ℕ) (cs : List Channel) (xs : List Stream) → n ≤ m → IsPrefix (inputs_to t n cs xs) (inputs_to t m cs xs)
+pub inputs_front : (t n m : ℕ) (cs : List Channel) (xs : List Stream) → n ≤ m → IsPrefix (inputs_to t n cs xs) (inputs_to t m cs xs)
 inputs_front t n m cs xs le =
     let e : (m - n) + n ≡ m = omega arith in
     subst (λ k. IsPrefix (inputs_to t n cs xs) (inputs_to t k cs xs)) e (inputs_grow t n (m - n) cs xs)
@@ -143,7 +143,7 @@ same_stream : (x y : Stream) → x.written ≡ y.written → x.taken ≡ y.taken
 unfolding stream
 same_stream x y e f = ap (λ (l : List ℤ). stream l x.taken) e ∙ ap (stream y.written) f
 
-same_streams : (p1 g1 b1 p2 g2 b2 : ℕ → ℕ) (cs : List Channel) (xs ys : List Stream) → length xs ≡ length cs → length ys ≡ length cs → ((b : ℕ) → p1 b ≡ p2 b)
+pub same_streams : (p1 g1 b1 p2 g2 b2 : ℕ → ℕ) (cs : List Channel) (xs ys : List Stream) → length xs ≡ length cs → length ys ≡ length cs → ((b : ℕ) → p1 b ≡ p2 b)
     → ((b : ℕ) → g1 b ≡ g2 b)
     → AreTallied p1 g1 b1 cs xs → AreTallied p2 g2 b2 cs ys → AreAgreed xs ys → xs ≡ ys
 same_streams p1 g1 b1 p2 g2 b2 [] [] [] l1 l2 p g t1 t2 same = refl

@@ -11,6 +11,7 @@ pub mod Quiet
 pub mod Examples
 pub mod Journals
 pub mod Counted
+pub mod Rooms
 pub mod Periods
 pub mod Complete
 pub mod Graphs

@@ -1,12 +1,12 @@
 -- Laws of journals: what the order in which actors fire can't change.
 use Rattle.std.specs.Prelude.{ℕ, ◌≡◌, ◌≢◌, ◌<◌, ◌≤◌, ◌⊎◌, true, List, ℤ, pos, Some, length, map, slice_index_or, ◌++◌, ◌+◌, slice_index, ◌∷◌, [], ◌*◌, None}
 use Rattle.std.specs.Prelude.{Option}
-use Rattle.std.specs.List.{zip, AllByRecursion}
+use Rattle.std.specs.List.{zip, AllByRecursion, AllZip}
 use Rattle.csdf_core.specs.declared.stage.Stage.TheVariants.{Idle}
 use Rattle.csdf_core.specs.declared.refusal.Refusal.TheVariants.{Stopped, NoCells}
 use Rattle.csdf_core.specs.Moves.{Move}
 use Rattle.csdf_core.specs.Moves.{Begin, Read, Write, Finish, Close}
-use Rattle.csdf_core.specs.Plan.{Plan, HasAmpleCells}
+use Rattle.csdf_core.specs.Plan.{Channel, Plan, HasAmpleCells}
 use Rattle.csdf_analysis.specs.Acceptance.{Accepted, IsAccepted}
 use Rattle.csdf_core.specs.Playable.{IsPlayable}
 use Rattle.csdf_core.specs.State.{Stream, State, Present, present, opening}
@@ -61,10 +61,18 @@ written_in s c = part c (map (λ (stream : Stream). stream.written) s.streams)
 abbrev pub taken_in : State → ℕ → ℕ
 taken_in s c = slice_index (map (λ (stream : Stream). stream.taken) s.streams) c
 
--- the same work, whatever the limit on all firings and the number of cells
+-- two channels that differ in capacity alone
+pub record DifferInCapacity (c d : Channel) : Type 0 where
+  pub from : c.from ≡ d.from
+  pub to : c.to ≡ d.to
+  pub produce : c.produce ≡ d.produce
+  pub consume : c.consume ≡ d.consume
+  pub initial : c.initial ≡ d.initial
+
+-- the same work, whatever the capacities, the number of cells and the limits on firings
 pub record AreAlike (v w : Program) : Type 0 where
   pub sources : v.plan.sources ≡ w.plan.sources
-  pub channels : v.plan.channels ≡ w.plan.channels
+  pub channels : AllZip DifferInCapacity v.plan.channels w.plan.channels
   pub kernels : v.kernels ≡ w.kernels
   pub feeds : v.feeds ≡ w.feeds
 

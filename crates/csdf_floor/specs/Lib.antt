@@ -1,6 +1,7 @@
 pub mod Journal
 pub mod Sequential
 pub mod Laws
+pub mod Rooms
 pub mod Endings
 pub mod Work
 pub mod Floor

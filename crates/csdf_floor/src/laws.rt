@@ -3,6 +3,7 @@
 ghost use Rattle.csdf_floor.specs.Laws.{Persists, BeginsNoMore, FinishesAll, Agree, HasSequentialRun, IsOnly, StaysWithin, EndsAsSequential};
 ghost use Rattle.csdf_floor.specs.Laws.{QuietIsExhausted, GoesOn, IsHonestAtEach, EndsCounted, StaysCounted, CompletesAll, EndsComplete};
 ghost use Rattle.csdf_floor.specs.Laws.{SequentialIsHonest, OrderDoesNotShow};
+ghost use Rattle.csdf_floor.specs.Rooms.{CapacitiesDoNotCount, CapacitiesDoNotShow, MoreRoomGoesAsFar, RoomDoesNotShow, StayInStep};
 ghost use Rattle.csdf_floor.specs.Periods.{RunsHonestly};
 ghost use Rattle.csdf_floor.specs.Endings.{OneEnding, EndsByEnding};
 
@@ -22,9 +23,31 @@ pub fn finishes_all()
     ensures { FinishesAll }
 {}
 
-/// A law: two honest journals have the same token at every place of a channel that both have written.
+/// A law: two honest journals have the same token at every place of a channel that both have written,
+/// whatever the capacities.
 pub fn agree()
     ensures { Agree }
+{}
+
+/// A law: at any time, of what two honest journals have written to a channel one is a front of the
+/// other, and so of what an actor has taken, whatever the capacities.
+pub fn stay_in_step()
+    ensures { StayInStep }
+{}
+
+/// A law: capacities do not show. Two honest journals of the same work that both end with every actor
+/// spent have the same streams in all channels and gave each sink the same tokens; and as many tokens
+/// were written to each channel, taken from it and left in it.
+pub fn capacities_do_not_show()
+    ensures show { CapacitiesDoNotShow }
+    ensures count { CapacitiesDoNotCount }
+{}
+
+/// A law: more room goes as far. A journal that ends with every actor idle and spent, dry, short or
+/// full has finished every firing that one with less room has begun, and each sink has been given all
+/// that it was given there.
+pub fn more_room_goes_as_far()
+    ensures { MoreRoomGoesAsFar }
 {}
 
 /// A law: there is a sequential run.
@@ -116,4 +139,12 @@ pub fn ends_by_ending()
 /// with the kernels' own values, are an honest journal, and none is refused.
 pub fn runs_honestly()
     ensures { RunsHonestly }
+{}
+
+/// A law: room does not show. Two runs of one accepted graph that differ in capacities and the number of
+/// cells alone, over the same files and for as many periods: at any time, of what each sink was given one
+/// is a front of the other; and where both are complete, each sink was given the same, and as many tokens
+/// were written to each channel, taken from it and left in it.
+pub fn room_does_not_show()
+    ensures { RoomDoesNotShow }
 {}

@@ -22,10 +22,11 @@ pub use ending::Ending;
 pub use fault::{DeliverFault, RunFault, StartFault};
 pub use floor::Floor;
 pub use laws::{
-    agree, begins_no_more, completes_all, ends_as_sequential, ends_by_ending, ends_complete,
-    ends_counted, finishes_all, goes_on, has_sequential_run, is_honest_at_each, is_only,
-    one_ending, order_does_not_show, persists, quiet_is_exhausted, runs_honestly,
-    sequential_is_honest, stays_counted, stays_within,
+    agree, begins_no_more, capacities_do_not_show, completes_all, ends_as_sequential,
+    ends_by_ending, ends_complete, ends_counted, finishes_all, goes_on, has_sequential_run,
+    is_honest_at_each, is_only, more_room_goes_as_far, one_ending, order_does_not_show, persists,
+    quiet_is_exhausted, room_does_not_show, runs_honestly, sequential_is_honest, stay_in_step,
+    stays_counted, stays_within,
 };
 pub use outcome::{ChannelReport, Outcome};
 pub use printed::printed_report;
