@@ -4,6 +4,7 @@ use Rattle.std.proofs.Common.{subst, ◌∙◌, arith, Option, None}
 use Rattle.std.specs.Prelude.{ℤ, ◌⊎◌}
 use Rattle.std.specs.List.{range_with_len}
 use Rattle.std.proofs.lemmas.List.FromFn.{get_or-map-range_with_len}
+use Rattle.csdf_model.specs.declared.parts.Kernel.{Kernel}
 use Rattle.csdf_model.specs.declared.parts.Kernel.TheVariants.{Sink}
 use Rattle.csdf_core.specs.Moves.{Move}
 use Rattle.csdf_core.specs.Plan.{HasAmpleCells, Plan}
@@ -23,10 +24,12 @@ use Rattle.csdf_floor.specs.Floor.{FloorView, IsBetween, sink_of, sinks_of}
 use Rattle.csdf_floor.specs.Inside.{IsBook}
 use Rattle.csdf_floor.specs.Journal.{Program, IsHonest, program_for, replies_to, sink_tokens, state_of}
 use Rattle.csdf_floor.specs.Laws.{taken_in, written_in, AllSpent, IsFree, IsAsSequential, CountsAsSequential}
+use Rattle.csdf_floor.specs.Rooms.{AreInStep, CountAlike, DifferInRoom, EndAlike}
 use Rattle.csdf_floor.specs.Outcome.{HasTotals, IsOutcome, IsEndBeside, IsSequentialEnd, IsBeforeSequentialEnd, CompletesWhereAmple, journal_in, report_of}
-use Rattle.csdf_floor.specs.Outcome.{report_on, sequential_list, report_at}
+use Rattle.csdf_floor.specs.Outcome.{IsAsInAnyRoom, EndsAsJournal, report_on, sequential_list, report_at}
 use Rattle.csdf_floor.specs.Sequential.{IsSequential, sequential_sink, sequential_state}
 use Rattle.csdf_floor.specs.Work.{feeds_in, is_sink_kernel, program}
+use Rattle.csdf_floor.proofs.Rooms.{do_not_show, do_not_count, goes_as_far, stay_in_step}
 use Rattle.csdf_floor.proofs.Complete.{ends_complete}
 use Rattle.csdf_floor.proofs.Counted.{ends_counted, stays_counted}
 use Rattle.csdf_floor.proofs.Endings.{one_ending}
@@ -41,6 +44,22 @@ same_map {A = A} f g k (suc n) each = ap (λ (x : A). x ∷ map f (range_with_le
 
 no_more : (xs : List ℤ) → IsPrefix [] xs
 no_more xs = (xs, refl)
+
+-- what an actor took, where it is a sink, in two programs with the same kernels
+abbrev list_of : Program → ℕ → List ℤ → List ℤ
+list_of w a taken = cond (is_sink_kernel (get_or w.kernels a Sink)) taken []
+
+same_list : (w v : Program) → w.kernels ≡ v.kernels → (a : ℕ) (xs ys : List ℤ) → xs ≡ ys → list_of w a xs ≡ list_of v a ys
+same_list w v kernels a xs ys e = ap (list_of w a) e ∙ ap (λ (ks : List Kernel). cond (is_sink_kernel (get_or ks a Sink)) ys []) kernels
+
+lists_in_step : (w v : Program) → w.kernels ≡ v.kernels → (a : ℕ) (xs ys : List ℤ) → AreInStep xs ys → AreInStep (list_of w a xs) (list_of v a ys)
+lists_in_step w v kernels a xs ys steps =
+    subst (λ (ks : List Kernel). AreInStep (list_of w a xs) (cond (is_sink_kernel (get_or ks a Sink)) ys [])) kernels
+    (by (is_sink_kernel (get_or w.kernels a Sink)))
+  where
+    by : (is_sink : Bool) → AreInStep (cond is_sink xs []) (cond is_sink ys [])
+    by true = steps
+    by false = inl (no_more [])
 
 -- a quiet core is at rest
 pub at_rest : (plan : Plan) (p : Present) → IsQuiet plan p → (a : ℕ) → a < length plan.sources → stage p a ≡ Idle
@@ -149,6 +168,45 @@ module _ (f : FloorView) (reads : List (List ℤ)) (b : IsBook f reads) (between
   beside Stopped actors is run = before_end actors run
   beside Starved actors is run = before_end actors run
 
+  -- ---- beside a run in other room
+
+  free_end : (e : Ending) → IsEnding w.plan p e → (e ≡ Complete) ⊎ (e ≡ Dry) → AllSpent w.plan p ⊎ IsFree w.plan p
+  free_end Complete is free = inl is
+  free_end Dry is free = inr (λ a lt. ((λ e. is.1 (a, lt, e)), (λ e. is.2 (a, lt, e))))
+  free_end Stopped is (inl e) = absurd (cc)
+  free_end Stopped is (inr e) = absurd (cc)
+  free_end Starved is (inl e) = absurd (cc)
+  free_end Starved is (inr e) = absurd (cc)
+
+  as_journal : (v : Program) (other : List Move) → DifferInRoom w v → IsPlayable v.plan → IsHonest v other → o.ending ≡ Complete
+      → AllSpent v.plan (present (state_of v other)) → EndsAsJournal w o v other
+  as_journal v other differ playable2 honest2 is all2 =
+      let all : AllSpent w.plan p = subst (IsEnding w.plan p) is ending_is in
+      let same : EndAlike w v j other = do_not_show w v j other differ honest honest2 all all2 in
+      let counts : CountAlike w v j other = do_not_count w v j other differ playable playable2 honest honest2 all all2 in
+      record {
+        sinks = sinks_are ∙ same_map (sink_of w j) (sink_of v other) 0 (length w.plan.sources)
+            (λ a. same_list w v differ.alike.kernels a (sink_tokens a j (replies_to w j)) (sink_tokens a other (replies_to v other)) (same.sinks a))
+            ∙ ap (λ (bs : List Bool). map (sink_of v other) (range_with_len 0 (length bs))) differ.alike.sources;
+        written = λ c lt. ap (λ (r : ChannelReport). r.written) (told_is c lt) ∙ counts.written c;
+        taken = λ c lt. ap (λ (r : ChannelReport). r.taken) (told_is c lt) ∙ counts.taken c;
+        held = λ c lt. ap (λ (r : ChannelReport). r.held) (told_is c lt) ∙ counts.held c;
+      }
+
+  in_any_room : IsAsInAnyRoom w o
+  in_any_room v other differ playable2 honest2 =
+      let in_step = stay_in_step w v j other differ.alike honest honest2 in
+      record {
+        sinks = λ a lt.
+            subst (λ (xs : List ℤ). AreInStep xs (sink_of v other a))
+            (sym (ap (λ (ls : List (List ℤ)). get_or ls a []) sinks_are
+            ∙ get_or-map-range_with_len (sink_of w j) 0 (length w.plan.sources) a a [] lt (omega arith)))
+            (lists_in_step w v differ.alike.kernels a (sink_tokens a j (replies_to w j)) (sink_tokens a other (replies_to v other)) (in_step.sinks a));
+        in_step = in_step;
+        complete = as_journal v other differ playable2 honest2;
+        as_far = λ less free. goes_as_far v w other j less honest2 honest (quiet_is_exhausted w j honest quiet_end (free_end o.ending ending_is free));
+      }
+
   completes : CompletesWhereAmple f.work.accepted f.work.feeds f.work.periods f.work.firings o
   completes ample none cells =
       let v : Program = program_for f.work.accepted f.work.feeds f.work.periods None in
@@ -173,6 +231,7 @@ module _ (f : FloorView) (reads : List (List ℤ)) (b : IsBook f reads) (between
     report = report_is;
     ending = ending_is;
     sequential = λ actors run. beside o.ending actors ending_is run;
+    rooms = in_any_room;
     complete = completes;
   }
 

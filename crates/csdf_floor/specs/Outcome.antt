@@ -1,11 +1,12 @@
 -- What a run answers: its ending, what its sinks took, its journal, and what is told of each channel.
-use Rattle.std.specs.Prelude.{ℕ, ◌≡◌, ◌<◌, ◌≤◌, ◌+◌, false, List, [], ℤ, None, Option, Result, Ok, Err, if◌then◌else◌, length, map, slice_index_or}
+use Rattle.std.specs.Prelude.{ℕ, ◌≡◌, ◌<◌, ◌≤◌, ◌+◌, ◌⊎◌, false, List, [], ℤ, None, Option, Result, Ok, Err, if◌then◌else◌, length, map, slice_index_or}
 use Rattle.std.specs.List.{range_with_len}
 use Rattle.csdf_model.specs.declared.parts.Kernel.TheVariants.{Sink}
 use Rattle.csdf_analysis.specs.Acceptance.{Accepted}
 use Rattle.csdf_core.specs.Headline.{KeepsOrder, KeepsCapacities, KeepsClosed, capacity_of}
 use Rattle.csdf_core.specs.Moves.{Move}
 use Rattle.csdf_core.specs.Plan.{HasAmpleCells}
+use Rattle.csdf_core.specs.Playable.{IsPlayable}
 use Rattle.csdf_core.specs.State.{present, opening}
 use Rattle.csdf_core.specs.Step.{IsQuiet, IsSettled, is_open, is_spent}
 use Rattle.csdf_core.specs.Streams.{IsPrefix, initial, length_of, peak_of, tokens_taken, written_to}
@@ -16,9 +17,10 @@ use Rattle.csdf_floor.specs.declared.outcome.Outcome.{Outcome}
 use Rattle.csdf_floor.specs.declared.fault.RunFault.{RunFault}
 use Rattle.csdf_floor.specs.declared.fault.RunFault.TheVariants as fault
 use Rattle.csdf_floor.specs.Endings.{IsEnding}
-use Rattle.csdf_floor.specs.Floor.{FloorView, sinks_of}
+use Rattle.csdf_floor.specs.Floor.{FloorView, sink_of, sinks_of}
 use Rattle.csdf_floor.specs.Journal.{Program, IsHonest, program_for, replies_to, state_of}
-use Rattle.csdf_floor.specs.Laws.{AreAmple, taken_in, written_in}
+use Rattle.csdf_floor.specs.Laws.{AllSpent, AreAmple, taken_in, written_in}
+use Rattle.csdf_floor.specs.Rooms.{AreInStep, DifferInRoom, GoInStep, GoesAsFar, IsNoRoomier}
 use Rattle.csdf_floor.specs.Sequential.{IsSequential, sequential_sink, sequential_state}
 use Rattle.csdf_floor.specs.Work.{Work, feeds_in, is_sink_kernel, program}
 
@@ -125,6 +127,27 @@ IsEndBeside w o actors Starved = IsBeforeSequentialEnd w o actors
 abbrev pub IsAsSequentialRun : Program → Outcome → Type 0
 IsAsSequentialRun w o = (actors : List ℕ) → IsSequential w actors → IsEndBeside w o actors o.ending
 
+-- ---- beside a run in other room
+
+-- the sinks are those of this journal, and as many tokens were written to each channel, taken from it and left in it
+pub record EndsAsJournal (w : Program) (o : Outcome) (v : Program) (journal : List Move) : Type 0 where
+  pub sinks : feeds_in o.sinks.items ≡ sinks_of v journal
+  pub written : (c : ℕ) → c < length w.plan.channels → (report_at o c).written ≡ (report_of v journal c).written
+  pub taken : (c : ℕ) → c < length w.plan.channels → (report_at o c).taken ≡ (report_of v journal c).taken
+  pub held : (c : ℕ) → c < length w.plan.channels → (report_at o c).held ≡ (report_of v journal c).held
+
+-- beside an honest journal of the same work in other room: of what each sink took one is a front of the other, and so of what was written to each channel;
+-- where both are complete they end alike; and where the run had no less room, and neither the limit on all firings nor want of cells held it back, it went as far
+pub record IsAsInRoom (w : Program) (o : Outcome) (v : Program) (journal : List Move) : Type 0 where
+  pub sinks : (a : ℕ) → a < length w.plan.sources → AreInStep (slice_index_or (feeds_in o.sinks.items) a []) (sink_of v journal a)
+  pub in_step : GoInStep w v (journal_in o) journal
+  pub complete : o.ending ≡ Complete → AllSpent v.plan (present (state_of v journal)) → EndsAsJournal w o v journal
+  pub as_far : IsNoRoomier v w → (o.ending ≡ Complete) ⊎ (o.ending ≡ Dry) → GoesAsFar v w journal (journal_in o)
+
+-- whatever the capacities, the number of cells and the limit on all firings
+abbrev pub IsAsInAnyRoom : Program → Outcome → Type 0
+IsAsInAnyRoom w o = (v : Program) (journal : List Move) → DifferInRoom w v → IsPlayable v.plan → IsHonest v journal → IsAsInRoom w o v journal
+
 -- with files that are long enough, no limit on all firings and as many cells as the capacities add up to, every actor makes all its firings
 abbrev pub CompletesWhereAmple : Accepted → List (List ℤ) → ℕ → Option ℕ → Outcome → Type 0
 CompletesWhereAmple a feeds periods firings o =
@@ -141,4 +164,5 @@ pub record IsOutcome (w : Work) (o : Outcome) : Type 0 where
   pub report : TellsReport (program w) o
   pub ending : TellsEnding (program w) o
   pub sequential : IsAsSequentialRun (program w) o
+  pub rooms : IsAsInAnyRoom (program w) o
   pub complete : CompletesWhereAmple w.accepted w.feeds w.periods w.firings o

@@ -5,7 +5,7 @@ ghost use Rattle.csdf_floor.specs.Journal.{program_for};
 ghost use Rattle.csdf_floor.specs.Work.{AreFeeds, feeds_in};
 ghost use Rattle.csdf_floor.specs.Outcome.{IsEndOf, IsSettleAnswer, HasTotals, HasHonestJournal, EndsSettled, TakesInOrder};
 ghost use Rattle.csdf_floor.specs.Outcome.{StaysWithinCapacities, LeavesClosedAlone, TellsSinks, TellsReport, TellsEnding};
-ghost use Rattle.csdf_floor.specs.Outcome.{IsAsSequentialRun, CompletesWhereAmple, journal_in};
+ghost use Rattle.csdf_floor.specs.Outcome.{IsAsSequentialRun, IsAsInAnyRoom, CompletesWhereAmple, journal_in};
 
 use crate::fault::RunFault;
 use crate::floor::Floor;
@@ -22,7 +22,8 @@ use std::alloc::Global;
 ///
 /// Whoever made the firings, and in whatever order, the sinks took what they take in the sequential run
 /// (the determinacy of dataflow graphs: Lee and Messerschmitt 1987), or a front of it where the limit on
-/// all firings or want of cells held the run back.
+/// all firings or want of cells held the run back. The capacities and the number of cells do not show
+/// where a run is complete: any other complete run of the same work has the same sinks.
 pub fn settle(
     alloc: Global,
     floor: Floor,
@@ -50,6 +51,7 @@ pub fn settle(
     ensures ending { IfOk result (TellsEnding (program_for accepted.now (feeds_in feeds.now) periods firings)) }
     ensures totals { IfOk result (λ o. HasTotals (program_for accepted.now (feeds_in feeds.now) periods firings) o totals.now) }
     ensures sequential { IfOk result (IsAsSequentialRun (program_for accepted.now (feeds_in feeds.now) periods firings)) }
+    ensures rooms { IfOk result (IsAsInAnyRoom (program_for accepted.now (feeds_in feeds.now) periods firings)) }
     ensures complete { IfOk result (CompletesWhereAmple accepted.now (feeds_in feeds.now) periods firings) }
 {
     if !floor.is_end_of(accepted, feeds, periods, firings, totals) {

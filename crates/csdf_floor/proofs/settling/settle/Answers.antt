@@ -38,6 +38,9 @@ returns-clause-ending c = (outcome (goal.at.returns-clause-ending c).In_ok-into_
 pub returns-clause-sequential : goal.returns-clause-sequential
 returns-clause-sequential c = (outcome (goal.at.returns-clause-sequential c).In_ok-into_outcome).sequential
 
+pub returns-clause-rooms : goal.returns-clause-rooms
+returns-clause-rooms c = (outcome (goal.at.returns-clause-rooms c).In_ok-into_outcome).rooms
+
 pub returns-clause-complete : goal.returns-clause-complete
 returns-clause-complete c = (outcome (goal.at.returns-clause-complete c).In_ok-into_outcome).complete
 
