@@ -1,3 +1,4 @@
 pub mod FeedTexts
+pub mod RoomTexts
 pub mod Held
 pub mod Ends

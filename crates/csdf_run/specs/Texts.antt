@@ -156,3 +156,12 @@ pub record TellSequentialRun (room : Room) (bytes : List ℕ) (texts : List (Lis
   pub read : AreTextsOf room bytes texts accepted feeds
   pub sinks : (run : List ℕ) → IsSequential (program_for accepted feeds periods firings) run
       → AreTextsBeside t.ending (sequential_list (program_for accepted feeds periods firings) run) (sinks_among accepted.graph.actors) (texts_in t.sinks.items)
+
+-- ---- beside a run in another room
+
+-- any other run of the same file over the same texts, in whatever room and with whatever limit on all firings, has the same texts of the sinks where both are
+-- complete
+abbrev pub TellSameInAnyRoom : List ℕ → List (List ℕ) → ℕ → Texts → Type 0
+TellSameInAnyRoom bytes texts periods t =
+    (room : Room) (firings : Option ℕ) (other : Texts) → TellRun room bytes texts periods firings other → t.ending ≡ Complete → other.ending ≡ Complete
+    → texts_in t.sinks.items ≡ texts_in other.sinks.items

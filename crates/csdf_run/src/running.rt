@@ -5,7 +5,7 @@ ghost use Rattle.csdf_journal.specs.View.{is_kept};
 ghost use Rattle.csdf_floor.specs.Journal.{program_for};
 ghost use Rattle.csdf_floor.specs.Work.{AreFeeds, feeds_in};
 ghost use Rattle.csdf_floor.specs.Outcome.{HasHonestJournal, EndsSettled, TakesInOrder, StaysWithinCapacities, LeavesClosedAlone};
-ghost use Rattle.csdf_floor.specs.Outcome.{TellsSinks, TellsReport, TellsEnding, IsAsSequentialRun, CompletesWhereAmple, IsOutcome};
+ghost use Rattle.csdf_floor.specs.Outcome.{TellsSinks, TellsReport, TellsEnding, IsAsSequentialRun, IsAsInAnyRoom, CompletesWhereAmple, IsOutcome};
 ghost use Rattle.csdf_run.specs.Workers.{AnswersForAll, HoldsNothing, IsEndAt, both};
 
 use crate::gate::Gate;
@@ -320,7 +320,8 @@ pub(crate) fn outcome_of<R: Threads + Wait + Sync, G: Gate>(
 /// could not be started or taken in; [`RunFault::Mixed`] does not come.
 ///
 /// The outcome does not depend on the number of workers, but for the order of the journal, which is kept,
-/// and the peaks: see [`settle`]. Which worker makes which firing is open.
+/// and the peaks: see [`settle`]. Which worker makes which firing is open. Nor do the sinks of complete
+/// runs depend on the capacities and the number of cells.
 pub fn run<R: Threads + Wait + Sync, G: Gate>(
     rt: &R,
     alloc: Global,
@@ -345,6 +346,7 @@ pub fn run<R: Threads + Wait + Sync, G: Gate>(
     ensures report { IfOk result (TellsReport (program_for accepted.now (feeds_in feeds.now) periods firings)) }
     ensures ending { IfOk result (TellsEnding (program_for accepted.now (feeds_in feeds.now) periods firings)) }
     ensures sequential { IfOk result (IsAsSequentialRun (program_for accepted.now (feeds_in feeds.now) periods firings)) }
+    ensures rooms { IfOk result (IsAsInAnyRoom (program_for accepted.now (feeds_in feeds.now) periods firings)) }
     ensures complete { IfOk result (CompletesWhereAmple accepted.now (feeds_in feeds.now) periods firings) }
     ensures keeps { IfOk result (λ o. o.journal.keeps ≡ true) }
 {

@@ -5,7 +5,7 @@ ghost use Rattle.csdf_model.specs.Graph.{actor_view};
 ghost use Rattle.csdf_bytes.specs.TokenText.{token_line, token_text};
 ghost use Rattle.csdf_analysis.specs.Room.{HasSomePeriod};
 ghost use Rattle.csdf_core.specs.Layout.{is_source_kernel};
-ghost use Rattle.csdf_run.specs.Texts.{AreTextsOf, IsFeedFault, IsFileFault, IsFileOf, IsReadFault, IsRefusal, TellOutcome, TellRun, TellSequentialRun};
+ghost use Rattle.csdf_run.specs.Texts.{AreTextsOf, IsFeedFault, IsFileFault, IsFileOf, IsReadFault, IsRefusal, TellOutcome, TellRun, TellSameInAnyRoom, TellSequentialRun};
 ghost use Rattle.csdf_run.specs.Texts.{feed_in, feeds_from, sink_texts, source_count, texts_in, work_for};
 ghost use Rattle.csdf_floor.specs.declared.outcome.Outcome.{Outcome as OutcomeCode};
 ghost use Rattle.csdf_floor.specs.Report.{names_of, report_text};
@@ -276,6 +276,7 @@ pub fn run_texts<R: Threads + Wait + Sync>(
     requires few_periods { periods ≤ 1000 }
     ensures run { IfOk result (TellRun Room.Least graph.now (texts_in feeds.now) periods firings) }
     ensures sequential { IfOk result (TellSequentialRun Room.Least graph.now (texts_in feeds.now) periods firings) }
+    ensures rooms { IfOk result (TellSameInAnyRoom graph.now (texts_in feeds.now) periods) }
     ensures refused { IfErr result (IsRefusal Room.Least graph.now (texts_in feeds.now)) }
 {
     run_texts_with_room(
@@ -292,7 +293,8 @@ pub fn run_texts<R: Threads + Wait + Sync>(
 
 /// As [`run_texts`], where the channels that have no capacity in the file have this room.
 ///
-/// The refusals are those of [`run_texts`]: room is no cause of one.
+/// The refusals are those of [`run_texts`]: room is no cause of one. Where a run is complete, its sinks'
+/// texts are those of every other complete run of the same file, texts and periods, in whatever room.
 pub fn run_texts_with_room<R: Threads + Wait + Sync>(
     rt: &R,
     alloc: Global,
@@ -310,6 +312,7 @@ pub fn run_texts_with_room<R: Threads + Wait + Sync>(
     requires some_room { HasSomePeriod room }
     ensures run { IfOk result (TellRun room graph.now (texts_in feeds.now) periods firings) }
     ensures sequential { IfOk result (TellSequentialRun room graph.now (texts_in feeds.now) periods firings) }
+    ensures rooms { IfOk result (TellSameInAnyRoom graph.now (texts_in feeds.now) periods) }
     ensures refused { IfErr result (IsRefusal room graph.now (texts_in feeds.now)) }
 {
     let fed = fed_of(alloc, graph, feeds, room)?;

@@ -34,6 +34,9 @@ returns-clause-ending g c = (as_asked _ _ _ c.new-request.ensures c.in_ok-outcom
 pub returns-clause-sequential : goal.returns-clause-sequential
 returns-clause-sequential g c = (as_asked _ _ _ c.new-request.ensures c.in_ok-outcome.ensures.outcome).sequential
 
+pub returns-clause-rooms : goal.returns-clause-rooms
+returns-clause-rooms g c = (as_asked _ _ _ c.new-request.ensures c.in_ok-outcome.ensures.outcome).rooms
+
 pub returns-clause-complete : goal.returns-clause-complete
 returns-clause-complete g c = (as_asked _ _ _ c.new-request.ensures c.in_ok-outcome.ensures.outcome).complete
 

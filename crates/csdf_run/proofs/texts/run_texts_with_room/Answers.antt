@@ -4,6 +4,7 @@ use Rattle.std.specs.Global.{Vec}
 use Rattle.csdf_floor.specs.Work.{AreFeeds, Work, feeds_in}
 use Rattle.csdf_run.specs.Texts.{TellOutcome, texts_in, work_for}
 use Rattle.csdf_run.proofs.FeedTexts.{as_sequential, can_be_run}
+use Rattle.csdf_run.proofs.RoomTexts.{same_in_any_room}
 use Rattle.csdf_run.proofs.texts.run_texts_with_room.Goals as goal
 
 pub new-request-requires-clause-fed : goal.new-request-requires-clause-fed
@@ -27,3 +28,8 @@ returns-in-Ok-clause-run g c =
 pub returns-in-Ok-clause-sequential : goal.returns-in-Ok-clause-sequential
 returns-in-Ok-clause-sequential g c =
     as_sequential c.args.room c.args.graph.now (texts_in c.args.feeds.now) c.args.periods c.args.firings c.in-Ok.texts (returns-in-Ok-clause-run g c)
+
+pub returns-in-Ok-clause-rooms : goal.returns-in-Ok-clause-rooms
+returns-in-Ok-clause-rooms g c =
+    same_in_any_room c.args.room c.args.graph.now (texts_in c.args.feeds.now) c.args.periods c.args.firings c.in-Ok.texts c.requires.few_periods
+    (returns-in-Ok-clause-run g c)

@@ -11,5 +11,6 @@ returns-clause-outcome c = rw (← c.self.view_is) (record {
   report = c.in_ok-outcome.ensures.report;
   ending = c.in_ok-outcome.ensures.ending;
   sequential = c.in_ok-outcome.ensures.sequential;
+  rooms = c.in_ok-outcome.ensures.rooms;
   complete = c.in_ok-outcome.ensures.complete;
 })

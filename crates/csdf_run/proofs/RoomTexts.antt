@@ -1,0 +1,100 @@
+-- The sinks' texts of a complete run, whatever the room.
+use Rattle.std.proofs.Common.{◌≡◌, ℕ, ◌≤◌, List, ◌∷◌, map, refl, ap, sym, subst, ◌∙◌, Result, Ok, Err, Option, None, []}
+use Rattle.std.specs.Prelude.{ℤ, MatchResult}
+use Rattle.csdf_model.specs.Graph as graph
+use Rattle.csdf_model.specs.Graph.{Actor, Graph}
+use Rattle.csdf_graph.specs.declared.fault.GraphFault.{GraphFault}
+use Rattle.csdf_graph.specs.declared.fault.GraphFault.TheVariants.{NotToml}
+use Rattle.csdf_graph.specs.GraphText.{IsGraphIn, IsGraphOf, IsJudged, file_of, unjoined_in}
+use Rattle.csdf_graph.specs.Passes.{or_fault}
+use Rattle.csdf_analysis.specs.Acceptance.{Accepted}
+use Rattle.csdf_analysis.specs.declared.room.Room.{Room}
+use Rattle.csdf_analysis.specs.declared.room.Room.TheVariants.{Least, Periods, Auto}
+use Rattle.csdf_analysis.specs.Room.{IsWithRoom, channel_with_room, with_room}
+use Rattle.csdf_core.specs.State.{present}
+use Rattle.csdf_floor.specs.declared.ending.Ending.TheVariants.{Complete}
+use Rattle.csdf_floor.specs.Endings.{IsEnding}
+use Rattle.csdf_floor.specs.Journal.{Program, program_for, state_of}
+use Rattle.csdf_floor.specs.Laws.{AllSpent}
+use Rattle.csdf_floor.specs.Outcome.{journal_in}
+use Rattle.csdf_floor.specs.Rooms.{DifferInRoom, without_room}
+use Rattle.csdf_floor.specs.Work.{feeds_in}
+use Rattle.csdf_floor.proofs.Rooms.{differ_in_room}
+use Rattle.csdf_floor.proofs.Works.{playable_program}
+use Rattle.csdf_run.specs.declared.texts.Texts.{Texts}
+use Rattle.csdf_run.specs.Texts.{TellRun, TellSameInAnyRoom, feeds_from, sink_texts, texts_in}
+
+-- a text is one graph
+one_of : {A : Type 0} (read : Result A GraphFault) (P : A → Result Graph GraphFault → Type 0) (g h : Graph) → ((x : A) → P x (Ok g) → P x (Ok h) → g ≡ h)
+    → MatchResult read (λ x. P x (Ok g)) (λ fault. Ok g ≡ Err fault) → MatchResult read (λ x. P x (Ok h)) (λ fault. Ok h ≡ Err fault) → g ≡ h
+one_of (Ok x) P g h one p q = one x p q
+one_of (Err fault) P g h one p q = absurd (cc)
+
+one_graph : (bytes : List ℕ) (g h : Graph) → IsGraphOf bytes (Ok g) → IsGraphOf bytes (Ok h) → g ≡ h
+one_graph bytes g h =
+    one_of (or_fault NotToml (file_of bytes)) IsGraphIn g h (λ file. one_of (unjoined_in file) IsJudged g h (λ found p q. p.0 ∙ sym q.0))
+
+-- room is no part of a graph without it
+bare_rows : (q : List ℕ) (m : ℕ) (cs : List graph.Channel) → map (λ (c : graph.Channel). record c { capacity = None }) (map (channel_with_room q m) cs)
+    ≡ map (λ (c : graph.Channel). record c { capacity = None }) cs
+bare_rows q m [] = refl
+bare_rows q m (c ∷ cs) = ap (λ (xs : List graph.Channel). record c { capacity = None } ∷ xs) (bare_rows q m cs)
+
+bare_graph : (q : List ℕ) (m : ℕ) (g : Graph) → without_room (with_room q m g) ≡ without_room g
+bare_graph q m g = ap (λ (cs : List graph.Channel). record { actors = g.actors; channels = cs; cells = None }) (bare_rows q m g.channels)
+
+bare_with : (room : Room) (q : List ℕ) (g h : Graph) → IsWithRoom room q g h → without_room h ≡ without_room g
+bare_with Least q g h same = ap without_room same
+bare_with (Periods n) q g h same = ap without_room same ∙ bare_graph q n g
+bare_with Auto q g h auto = ap without_room auto.2 ∙ bare_graph q auto.0 g
+
+one_feeds : (actors others : List Actor) (texts : List (List ℕ)) (one two : List (List ℤ)) → actors ≡ others → feeds_from 0 actors texts ≡ Ok one
+    → feeds_from 0 others texts ≡ Ok two → one ≡ two
+one_feeds actors others texts one two e x y =
+    let z : Ok one ≡ Ok two = sym x ∙ ap (λ (xs : List Actor). feeds_from 0 xs texts) e ∙ y in cc
+
+module _ (room other_room : Room) (bytes : List ℕ) (texts : List (List ℕ)) (periods : ℕ) (firings others : Option ℕ) (t u : Texts) (few : periods ≤ 1000)
+    (r : TellRun room bytes texts periods firings t) (s : TellRun other_room bytes texts periods others u) where
+  abbrev a : Accepted
+  a = r.accepted
+
+  abbrev b : Accepted
+  b = s.accepted
+
+  same_bare : without_room a.graph ≡ without_room b.graph
+  same_bare =
+      bare_with room a.q r.read.file.graph a.graph r.read.file.roomy
+      ∙ ap without_room (one_graph bytes r.read.file.graph s.read.file.graph r.read.file.read s.read.file.read)
+      ∙ sym (bare_with other_room b.q s.read.file.graph b.graph s.read.file.roomy)
+
+  same_actors : a.graph.actors ≡ b.graph.actors
+  same_actors = ap (λ (g : Graph). g.actors) same_bare
+
+  same_feeds : r.feeds ≡ s.feeds
+  same_feeds = one_feeds a.graph.actors b.graph.actors texts r.feeds s.feeds same_actors r.read.tokens s.read.tokens
+
+  abbrev w : Program
+  w = program_for a r.feeds periods firings
+
+  abbrev v : Program
+  v = program_for b s.feeds periods others
+
+  differ : DifferInRoom w v
+  differ = subst (λ (feeds : List (List ℤ)). DifferInRoom w (program_for b feeds periods others)) same_feeds
+      (differ_in_room a b r.feeds periods firings others r.read.file.accepted s.read.file.accepted same_bare)
+
+  same_texts : t.ending ≡ Complete → u.ending ≡ Complete → texts_in t.sinks.items ≡ texts_in u.sinks.items
+  same_texts one two =
+      let all : AllSpent v.plan (present (state_of v (journal_in s.outcome))) =
+      subst (IsEnding v.plan (present (state_of v (journal_in s.outcome)))) (sym s.told.ending ∙ two) s.told.outcome.ending in
+      let playable = playable_program b s.feeds periods others s.read.file.accepted few in
+      let beside = r.told.outcome.rooms v (journal_in s.outcome) differ playable s.told.outcome.honest in
+      let sinks : feeds_in r.outcome.sinks.items ≡ feeds_in s.outcome.sinks.items =
+      (beside.complete (sym r.told.ending ∙ one) all).sinks ∙ sym s.told.outcome.sinks in
+      r.told.sinks ∙ ap (sink_texts a.graph.actors) sinks ∙ ap (λ (xs : List Actor). sink_texts xs (feeds_in s.outcome.sinks.items)) same_actors
+      ∙ sym s.told.sinks
+
+pub same_in_any_room : (room : Room) (bytes : List ℕ) (texts : List (List ℕ)) (periods : ℕ) (firings : Option ℕ) (t : Texts) → periods ≤ 1000
+    → TellRun room bytes texts periods firings t → TellSameInAnyRoom bytes texts periods t
+same_in_any_room room bytes texts periods firings t few r other_room others u s =
+    same_texts room other_room bytes texts periods firings others t u few r s
