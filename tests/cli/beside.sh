@@ -1,6 +1,7 @@
 # shellcheck shell=bash disable=SC2154
 # What stands beside the program, in the words of `run`, which reads this file: completions and the man
-# page name all commands and options that its help has, and the schema of graph files its keys and limits.
+# page name all commands and options that its help has, the schema of graph files its keys and limits, and
+# README, GUIDE and FORMATS show what it prints.
 
 # named_in FILE: the words of the help that the file does not name, one a line.
 named_in() {
@@ -26,3 +27,5 @@ echo 9 > "$room/nine"
 compare "the help has nine commands" 0 "$room/nine" /dev/null 0
 python3 "$here/schema.py" "$program" > "$room/out" 2> "$room/err"
 compare "the schema of graph files" "$?" /dev/null /dev/null 0
+python3 "$here/told.py" "$program" > "$room/out" 2> "$room/err"
+compare "what README, GUIDE and FORMATS show" "$?" /dev/null /dev/null 0

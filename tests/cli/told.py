@@ -1,0 +1,227 @@
+#!/usr/bin/env python3
+"""Sees that what README, docs/GUIDE and docs/FORMATS show of the program is what it prints.
+
+usage: told.py PROGRAM        prints what is wrong, a line each; nothing where all is well
+
+Where a document shows a block of lines, they have to be the program's whole answer, or its end where the
+document says so. Where it names a line in backquotes, the answer has to have that line.
+"""
+import re
+import shutil
+import subprocess
+import sys
+import tempfile
+from pathlib import Path
+
+TOP = Path(__file__).resolve().parent.parent.parent
+PROGRAM = sys.argv[1]
+README, GUIDE, FORMATS = (next((TOP / place).glob(name)).read_text() for place, name in ((".", "README*"), ("docs", "GUIDE*"), ("docs", "FORMATS*")))
+METER = TOP / "examples" / "level_meter"
+ROOM = Path(tempfile.mkdtemp())
+found: list[str] = []
+
+
+def say(wrong: str) -> None:
+    found.append(wrong)
+
+
+def answer(*words: object) -> str:
+    """What the program prints, on standard output and on standard error."""
+    ran = subprocess.run([PROGRAM, *map(str, words)], cwd=TOP, capture_output=True, text=True)
+    return ran.stdout + ran.stderr
+
+
+def shows(document: str, text: str, what: str) -> None:
+    """The document has the lines as a block of their own."""
+    block = "".join(f"    {line}\n" for line in text.splitlines())
+    if f"\n\n{block}\n" not in document + "\n":
+        say(f"{what}: not shown is\n{text}")
+
+
+def names(document: str, line: str, text: str, what: str) -> None:
+    """The document has the line in backquotes, and it is one of the text's."""
+    if f"`{line}`" not in document:
+        say(f"{what}: the document does not name {line}")
+    if line not in text.splitlines():
+        say(f"{what}: {line} is not in\n{text}")
+
+
+def edited(graph: Path, *pairs: tuple[str, str], top: str = "") -> Path:
+    """The graph file with each first text of a pair, which stands in it, become the second one."""
+    text = graph.read_text()
+    for old, new in pairs:
+        if old not in text:
+            say(f"{graph}: {old} is not there")
+        text = text.replace(old, new, 1)
+    made = ROOM / "graph.toml"
+    made.write_text(top + text)
+    return made
+
+
+def after(name: str, key: str, value: str) -> tuple[str, str]:
+    """In the level meter, a line more at the channel."""
+    return f'name = "{name}"\nfrom', f'name = "{name}"\n{key} = {value}\nfrom'
+
+
+def graph_in(document: str, mark: str) -> Path:
+    """The graph file that stands in the document after the mark."""
+    made = ROOM / "shown.toml"
+    made.write_text(re.search(r"```toml\n(.*?)```", document[document.index(mark) :], re.S).group(1))
+    return made
+
+
+def run(graph: Path, *words: str, folder: Path = METER) -> tuple[str, dict[str, str]]:
+    """What a run on the folder's tokens prints, and the sinks' files."""
+    out = ROOM / "out"
+    shutil.rmtree(out, ignore_errors=True)
+    out.mkdir()
+    told = answer("run", graph, folder, "--out", out, *words)
+    return told, {file.name: file.read_text() for file in out.iterdir()}
+
+
+def lines(*values: object) -> str:
+    return "".join(f"{value}\n" for value in values)
+
+
+def see(wanted: object, given: object, what: str) -> None:
+    if wanted != given:
+        say(f"{what}: {given!r}, wanted {wanted!r}")
+
+
+def readme() -> None:
+    rates = TOP / "examples" / "cd_to_dat"
+    shows(README, run(rates / "graph.toml", folder=rates)[0], "README: the first answer")
+    small = TOP / "examples" / "decimator"
+    for command in ("check", "repetition", "capacity", "schedule", "dot", "explain", "moves", "run"):
+        row = re.search(rf"^\| `{command} GRAPH.*$", README, re.M).group(0).split("|")[3]
+        told = answer(command, small / "graph.toml", *([small, "--out", ROOM] if command == "run" else []))
+        if command == "moves":
+            told = answer(command, TOP / "examples" / "pair.toml")
+            see(20, len(told.splitlines()), "README: the replies of pair.toml")
+        for line in re.findall(r"`([^`]+)`", row):
+            if "/" not in line and line not in told.splitlines():
+                say(f"README: {command}: {line} is not in\n{told}")
+    see(13, len(answer("schedule", small / "graph.toml").splitlines()), "README: the firings of a period")
+
+
+def guide_excerpts() -> None:
+    """The tables that GUIDE shows stand in graph files of examples/."""
+    whole = [file.read_text() for file in TOP.glob("examples/*/graph.toml")]
+    for text in re.findall(r"```toml\n(.*?)```", GUIDE, re.S):
+        tables = text.split("\n\n") if text.startswith("[[") else re.findall(r"^  \{.*\n", text, re.M)
+        for table in tables:
+            if not any(table.rstrip("\n") + "\n" in graph for graph in whole):
+                say(f"GUIDE: no example has {table}")
+
+
+def guide_answers() -> None:
+    graph = METER / "graph.toml"
+    for command in ("repetition", "capacity"):
+        shows(GUIDE, answer(command, graph), f"GUIDE: {command}")
+    faults = (
+        ([("produce = [1, 0]", "produce = [1]")], "phase length at channel 1"),
+        ([('to = "mean_right"\nproduce = [0, 1]\nconsume = [4]', 'to = "mean_right"\nproduce = [0, 1]\nconsume = [2]')], "unbalanced at channel right_mean"),
+        ([("initial = [0]", "")], "deadlock"),
+        ([after("left", "capacity", "3")], "too tight"),
+    )
+    for pairs, fault in faults:
+        line = f"csdf: graph: {fault}"
+        names(GUIDE, line, answer("capacity", edited(graph, *pairs)), "GUIDE")
+    loop = TOP / "examples" / "echo_canceller" / "graph.toml"
+    see("csdf: graph: deadlock\n", answer("capacity", edited(loop, ("initial = [0, 0, 0, 0]", "initial = [0, 0, 0]"))), "GUIDE: three tokens in the loop")
+    told = answer("capacity", edited(graph, after("left", "capacity", "6"))).splitlines()
+    see(["left 6", "cells 15"], [told[1], told[-1]], "GUIDE: a greater capacity")
+
+
+def guide_runs() -> None:
+    graph = METER / "graph.toml"
+    told, files = run(graph, "--periods", "4")
+    shows(GUIDE, told, "GUIDE: the run")
+    whole = lines(35, 87, 63, 31)
+    if "writes 35, 87, 63 and 31 to `meter.out`" not in GUIDE:
+        say("GUIDE: what the run writes")
+    see({"meter.out": whole}, files, "GUIDE: what the run writes")
+    ends = (
+        ("dry", graph, ["--periods", "5"], whole),
+        ("stopped", graph, ["--periods", "4", "--firings", "60"], lines(35)),
+        ("starved", edited(graph, top="cells = 7\n"), ["--periods", "4"], ""),
+    )
+    for ending, file, words, wanted in ends:
+        if ending != "starved" and f"with `{' '.join(words)}` here" not in GUIDE:
+            say(f"GUIDE: {ending} does not say {words}")
+        told, files = run(file, *words)
+        see((f"ending {ending}", {"meter.out": wanted}), (told.splitlines()[0], files), f"GUIDE: {ending}")
+    see("ending complete", run(edited(graph, top="cells = 8\n"), "--periods", "4")[0].splitlines()[0], "GUIDE: eight cells")
+    live = ROOM / "live"
+    live.mkdir()
+    (live / "meter.out").symlink_to("/dev/stdout")
+    see(whole + run(graph, "--periods", "4")[0], answer("run", graph, METER, "--periods", "4", "--out", live), "GUIDE: a link to standard output")
+
+
+def formats_cells() -> None:
+    graph = graph_in(FORMATS, "### Cells")
+    told = answer("moves", graph).splitlines()
+    shows(FORMATS, "\n".join(told[-5:]), "FORMATS: fewer cells")
+    see(16, sum(line.endswith(": ok") or ": ok " in line for line in told[:-5]), "FORMATS: the moves before")
+    see(["p", "p", "p", "p", "q"], answer("schedule", graph).splitlines()[:5], "FORMATS: the schedule")
+    turn = [f'"{verb} {actor}{" 1" if verb == "write" and actor != "snk" else ""}"' for actor in ("p", "q", "add", "snk") for verb in ("begin", "read", "write", "finish")]
+    moves = f"moves = [{', '.join(turn * 4)}]"
+    played = edited(graph, ("cells = 4", "cells = 2"), (re.search(r"moves = \[.*?\n\]", graph.read_text(), re.S).group(0), moves))
+    see([], [line for line in answer("moves", played).splitlines() if ": ok" not in line], "FORMATS: two cells in turn")
+
+
+def formats_capacities() -> None:
+    graph = graph_in(FORMATS, "### Least capacities")
+    shows(FORMATS, answer("capacity", graph), "FORMATS: least capacities")
+    x, y = re.findall(r"^  \{ name = \"[xy]\".*\n", graph.read_text(), re.M)
+    shows(FORMATS, answer("capacity", edited(graph, (x + y, y + x))), "FORMATS: in the other order")
+    see(lines("x 2", "y 2", "cells 4"), answer("capacity", edited(graph, ("initial = [5]", "initial = [5], capacity = 2"))), "FORMATS: with a capacity")
+
+
+def filter_of(weights: str, shift: int, produce: int, tokens: str) -> str:
+    """What a filter that reads all of three tokens writes."""
+    (ROOM / "f.toml").write_text(
+        'actor = [{ name = "a", kernel = "source" }, { name = "b", kernel = "sink" },\n'
+        f'  {{ name = "f", kernel = "fir", weights = {weights}, shift = {shift} }}]\n'
+        'channel = [{ name = "x", from = "a", to = "f", produce = [3], consume = [3] },\n'
+        f'  {{ name = "y", from = "f", to = "b", produce = [{produce}], consume = [{produce}] }}]\n'
+    )
+    (ROOM / "a.in").write_text(tokens)
+    return run(ROOM / "f.toml", folder=ROOM)[1].get("b.out", "")
+
+
+def formats_kernels() -> None:
+    see(lines(2, -4, -4), filter_of("[3, 4]", 2, 3, "1\n2\n-5\n"), "FORMATS: the filter")
+    see(lines(2147483647, -2147483648), filter_of("[32767]", 0, 2, "2147483647\n-2147483648\n0\n"), "FORMATS: what is outside")
+
+
+def formats_explanations() -> None:
+    tight = TOP / "tests" / "cli" / "cases" / "explain_too_tight" / "graph.toml"
+    shows(FORMATS, answer("explain", tight), "FORMATS: too tight")
+    shows(FORMATS, answer("explain", edited(tight, ("produce = [2]", "produce = [2, 1]"))), "FORMATS: phases")
+    drawn = answer("dot", METER / "graph.toml").splitlines()
+    shows(FORMATS, "\n".join(drawn[:3]), "FORMATS: the head of a drawing")
+    see("}", drawn[-1], "FORMATS: the end of a drawing")
+    shown = re.findall(r"^    (  n\d.*)$", FORMATS, re.M)
+    see(3, len(shown), "FORMATS: lines of a drawing")
+    for line in shown:
+        if line not in drawn:
+            say(f"FORMATS: the level meter's drawing has no line {line}")
+
+
+def main() -> None:
+    readme()
+    guide_excerpts()
+    guide_answers()
+    guide_runs()
+    formats_cells()
+    formats_capacities()
+    formats_kernels()
+    formats_explanations()
+    print("".join(f"{wrong}\n" for wrong in found), end="")
+
+
+try:
+    main()
+finally:
+    shutil.rmtree(ROOM)
