@@ -9,7 +9,7 @@ cp "$top/csdf" "$launched/csdf"
 echo "csdf:" > "$launched/crates.txt"
 echo "fn main() {}" > "$launched/crates/csdf/src/main.rt"
 : > "$launched/crates/csdf/stdin"
-for tool in bash cat chmod dirname env find install mkdir mktemp readlink rm sed sha256sum sleep sort tail xargs; do
+for tool in bash cat chmod dirname env find install mkdir mktemp mv readlink rm sed sha256sum sleep sort tail xargs; do
   ln -s "$(command -v "$tool")" "$launched/without_rt/$tool"
 done
 # stand_in TOOLS SYSTEM MEMORY DISK: for what tells the system, and the kilobytes that are free.
@@ -32,12 +32,16 @@ if [[ "$1" == try ]]; then
   exit 5
 fi
 if [[ -e src/bad.rt ]]; then exit 1; fi
+if [[ -e edit ]]; then mv edit src/main.rt; fi
 mkdir -p out
 printf '#!/bin/sh\necho "$@"\nexit 7\n' > out/csdf
 chmod +x out/csdf
 echo built >> builds
 EOF
 chmod +x "$launched/with_rt/rt"
+
+# Where the launcher keeps what is told on the way.
+launch_in="$room"
 
 # launch NAME WANTED_STATUS WANTED_BUILDS OUT ERR FOLDER [WORD..]: the launcher in place of the program,
 # with the folder of tools FOLDER and these words, or `one two`. Of standard error the lines with a log's
@@ -48,7 +52,7 @@ launch() {
   if [[ "$#" == 0 ]]; then
     set -- one two
   fi
-  (cd "$launched" && TMPDIR="$room" PATH="$launched/$tools:$launched/without_rt" ./csdf "$@") \
+  (cd "$launched" && TMPDIR="$launch_in" PATH="$launched/$tools:$launched/without_rt" ./csdf "$@") \
     > "$room/out" 2> "$room/told"
   status="$?"
   grep -v "csdf-build" "$room/told" > "$room/err"
@@ -84,22 +88,36 @@ EOF
 main="$launched/crates/csdf/src/main.rt"
 launch "no rt" 3 0 /dev/null "$room/no_rt" without_rt
 launch "all that is missing" 3 0 /dev/null "$room/lacking" lacking
-printf '%s\n' run "$launched/of_here" --workers 2 /of/anywhere > "$room/unproved_words"
+printf '%s\n' run "$launched/of_here" --workers 2 --room auto --out "$launched/there" /of/anywhere \
+  "--out=$launched/here" > "$room/unproved_words"
 cat > "$room/unproved" << 'EOF'
 csdf: nothing is proved yet: this answer is the program's as it is read, without a build, in some minutes
 csdf: device: crates/csdf/../../of_here
 EOF
-launch "unproved" 5 0 "$room/unproved_words" "$room/unproved" with_rt --unproved run of_here --workers 2 /of/anywhere
+launch "unproved" 5 0 "$room/unproved_words" "$room/unproved" with_rt \
+  --unproved run of_here --workers 2 --room auto --out there /of/anywhere --out=here
+printf '%s\n' help check > "$room/unproved_words"
+launch "unproved help" 5 0 "$room/unproved_words" "$room/unproved" with_rt --unproved help check
+cat > "$room/no_place" << EOF
+csdf: nothing is proved yet: this answer is the program's as it is read, without a build, in some minutes
+csdf: no file can be made in $room/missing: name another folder by TMPDIR
+EOF
+launch_in="$room/missing"
+launch "no folder for what is told" 3 0 /dev/null "$room/no_place" with_rt --unproved check one
+launch_in="$room"
 launch "first build" 7 1 "$room/words_told" "$room/built" with_rt
 launch "nothing changed" 7 1 "$room/words_told" /dev/null with_rt
-rm "$launched/crates/csdf/out/csdf.sum"
+rm "$launched/crates/csdf/out/csdf.made"
 launch "built, with no record" 7 1 "$room/words_told" /dev/null with_rt
 launch "built, with a record once more" 7 1 "$room/words_told" /dev/null with_rt
 launch "built, and no rt" 7 1 "$room/words_told" /dev/null without_rt
-rm "$launched/crates/csdf/out/csdf.sum"
-mkdir "$launched/crates/csdf/out/csdf.sum"
+rm "$launched/crates/csdf/out/csdf.made"
+mkdir "$launched/crates/csdf/out/csdf.made"
 launch "built, where no record can be written" 7 1 "$room/words_told" /dev/null with_rt
-rmdir "$launched/crates/csdf/out/csdf.sum"
+rmdir "$launched/crates/csdf/out/csdf.made"
+chmod a-w "$launched/crates/csdf/out"
+launch "built, in a folder that is not to be written" 7 1 "$room/words_told" /dev/null without_rt
+chmod u+w "$launched/crates/csdf/out"
 launch "built, with no record, and no rt" 7 1 "$room/words_told" /dev/null without_rt
 touch -d "1 hour" "$main"
 launch "a source with another time" 7 1 "$room/words_told" /dev/null with_rt
@@ -110,20 +128,24 @@ echo "fn main() { }" > "$main"
 touch -d "1970-01-02" "$main"
 launch "an older source with other content" 7 2 "$room/words_told" "$room/built" with_rt
 touch -d "1 hour" "$main"
-rm "$launched/crates/csdf/out/csdf.sum"
+rm "$launched/crates/csdf/out/csdf.made"
 launch "a newer source, with no record" 7 3 "$room/words_told" "$room/built" with_rt
 echo "#" >> "$launched/crates/csdf/out/csdf"
 launch "another program" 7 4 "$room/words_told" "$room/built" with_rt
+echo "fn main() { edited }" > "$launched/crates/csdf/edit"
+echo "fn main() { }  " > "$main"
+launch "a source that is edited while it is built" 7 5 "$room/words_told" "$room/built" with_rt
+launch "the edit is built" 7 6 "$room/words_told" "$room/built" with_rt
 echo > "$launched/crates/csdf/src/bad.rt"
-launch "a build that fails" 3 4 /dev/null "$room/begun" with_rt
+launch "a build that fails" 3 6 /dev/null "$room/begun" with_rt
 rm "$launched/crates/csdf/src/bad.rt"
 mkdir -p "$launched/completions" "$launched/docs"
 cp "$top"/completions/* "$launched/completions/"
 cp "$top/docs/csdf.1" "$launched/docs/"
 echo "csdf: installed under $room/prefix" > "$room/installed"
-launch "install" 0 4 /dev/null "$room/installed" with_rt --install "$room/prefix"
+launch "install" 0 6 /dev/null "$room/installed" with_rt --install "$room/prefix"
 echo "csdf: usage: ./csdf --install PREFIX" > "$room/usage"
-launch "install, and not where" 2 4 /dev/null "$room/usage" with_rt --install
+launch "install, and not where" 2 6 /dev/null "$room/usage" with_rt --install
 (cd "$room/prefix" && find . -type f | LC_ALL=C sort) > "$room/out"
 "$room/prefix/bin/csdf" three >> "$room/out"
 status="$?"
@@ -137,3 +159,27 @@ cat > "$room/wanted_launch" << 'EOF'
 three
 EOF
 compare "the launcher: what is installed" "$status" "$room/wanted_launch" /dev/null 7
+
+# on_terminal NAME OUT ERR WORD..: the launcher with a terminal as standard input and standard error.
+on_terminal() {
+  local name="$1" out="$2" err="$3"
+  shift 3
+  (cd "$launched" && python3 - "$@" > "$room/out" 2> "$room/err") << 'EOF'
+import os, pty, subprocess, sys
+ours, theirs = pty.openpty()
+ran = subprocess.run(["./csdf", *sys.argv[1:]], stdin=theirs, stderr=theirs, stdout=subprocess.PIPE)
+os.close(theirs)
+sys.stdout.write(ran.stdout.decode())
+try:
+    sys.stderr.write(os.read(ours, 4096).decode().replace("\r\n", "\n"))
+except OSError:
+    pass
+sys.exit(ran.returncode)
+EOF
+  compare "the launcher: $name" "$?" "$out" "$err" 7
+}
+echo > "$room/no_words"
+echo "csdf: reading a graph file with a script from standard input; ./csdf --help lists the commands" \
+  > "$room/waits"
+on_terminal "alone on a terminal" "$room/no_words" "$room/waits"
+on_terminal "words on a terminal" "$room/words_told" /dev/null one two
