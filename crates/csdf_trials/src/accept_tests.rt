@@ -20,7 +20,7 @@ channel = [
 ]
 "#;
 
-const WIDE_CHAIN: &str = r#"cells = 7
+pub(crate) const WIDE_CHAIN: &str = r#"cells = 7
 actor = [
   { name = "a", kernel = "source" },
   { name = "b", kernel = "copy" },
@@ -32,7 +32,8 @@ channel = [
 ]
 "#;
 
-const CYCLE: &str = r#"actor = [{ name = "a", kernel = "copy" }, { name = "b", kernel = "copy" }]
+pub(crate) const CYCLE: &str =
+    r#"actor = [{ name = "a", kernel = "copy" }, { name = "b", kernel = "copy" }]
 channel = [
   { name = "x", from = "a", to = "b", produce = [1], consume = [1] },
   { name = "y", from = "b", to = "a", produce = [1], consume = [1], initial = [5] },
@@ -83,7 +84,7 @@ channel = [
 ]
 "#;
 
-fn check_capacities(
+pub(crate) fn check_capacities(
     rt: &impl Abort,
     accepted: &Accepted,
     text: &str,

@@ -27,6 +27,8 @@ mod pool_tests;
 #[cfg(test)]
 mod question_tests;
 #[cfg(test)]
+mod room_tests;
+#[cfg(test)]
 mod script_tests;
 #[cfg(test)]
 mod shared;
