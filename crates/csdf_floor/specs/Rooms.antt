@@ -26,7 +26,7 @@ pub record GoInStep (v w : Program) (one two : List Move) : Type 0 where
 abbrev pub StayInStep : Type 0
 StayInStep = (v w : Program) (one two : List Move) → AreAlike v w → IsHonest v one → IsHonest w two → GoInStep v w one two
 
--- the same work and the same limits of the actors: what differs is capacities, the number of cells and the limit on all firings
+-- the same work and the same limits of the actors: what may differ is capacities, the number of cells and the limit on all firings
 pub record DifferInRoom (v w : Program) : Type 0 where
   pub alike : AreAlike v w
   pub limits : v.plan.limits ≡ w.plan.limits
@@ -89,7 +89,7 @@ pub record IsRoomOutcome (a b : Accepted) (v w : Program) (one two : List Move) 
   pub same : AllSpent v.plan (present (state_of v one)) → AllSpent w.plan (present (state_of w two)) → EndAlike v w one two × CountAlike v w one two
   pub as_far : IsWithinAll a.capacities b.capacities → IsExhausted w.plan (present (state_of w two)) → GoesAsFar v w one two
 
--- room doesn't show: so it is with accepted graphs that differ in capacities and the number of cells alone, over the same files and for as many periods
+-- room doesn't show: this holds of accepted graphs that differ in capacities and the number of cells alone, over the same files and for as many periods
 abbrev pub RoomDoesNotShow : Type 0
 RoomDoesNotShow =
     (a b : Accepted) (feeds : List (List ℤ)) (periods : ℕ) (firings others : Option ℕ) (one two : List Move) → IsAccepted a → IsAccepted b
