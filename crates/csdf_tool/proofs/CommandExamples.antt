@@ -3,37 +3,39 @@ use Rattle.std.proofs.Common.{◌≡◌, ℕ, Bool, List, [], ◌∷◌, ◌++�
 use Rattle.clap.specs.Words.{Shape, Text, fault_of, takes}
 use Rattle.clap.proofs.OnLiterals.{clap_on_literals}
 use Rattle.csdf_answers.specs.declared.question.Question.TheVariants.{Check, Repetition, Schedule, Capacity, Dot}
-use Rattle.csdf_tool.specs.CommandLine.{program, asked_by, asked_of, words_ask, Asked, Input, Moves, Ask, Explain, Run}
+use Rattle.csdf_analysis.specs.declared.room.Room.{Room}
+use Rattle.csdf_analysis.specs.declared.room.Room.TheVariants.{Least, Periods, Auto}
+use Rattle.csdf_tool.specs.CommandLine.{program, asked_by, asked_with, room_in, words_ask, Asked, Input, Moves, Ask, Explain, Run}
 
 abbrev on : Text → List Text
 on command = command ∷ codes "a.toml" ∷ []
 
-check_asks : words_ask (on (codes "check")) ≡ Ask Check (codes "a.toml")
-unfolding clap_on_literals asked_by asked_of
+check_asks : words_ask (on (codes "check")) ≡ Some (Ask Check (codes "a.toml"))
+unfolding clap_on_literals asked_by asked_with
 check_asks = refl
 
-repetition_asks : words_ask (on (codes "repetition")) ≡ Ask Repetition (codes "a.toml")
-unfolding clap_on_literals asked_by asked_of
+repetition_asks : words_ask (on (codes "repetition")) ≡ Some (Ask Repetition (codes "a.toml"))
+unfolding clap_on_literals asked_by asked_with
 repetition_asks = refl
 
-schedule_asks : words_ask (on (codes "schedule")) ≡ Ask Schedule (codes "a.toml")
-unfolding clap_on_literals asked_by asked_of
+schedule_asks : words_ask (on (codes "schedule")) ≡ Some (Ask Schedule (codes "a.toml"))
+unfolding clap_on_literals asked_by asked_with
 schedule_asks = refl
 
-capacity_asks : words_ask (on (codes "capacity")) ≡ Ask Capacity (codes "a.toml")
-unfolding clap_on_literals asked_by asked_of
+capacity_asks : words_ask (on (codes "capacity")) ≡ Some (Ask Capacity (codes "a.toml"))
+unfolding clap_on_literals asked_by asked_with
 capacity_asks = refl
 
-dot_asks : words_ask (on (codes "dot")) ≡ Ask Dot (codes "a.toml")
-unfolding clap_on_literals asked_by asked_of
+dot_asks : words_ask (on (codes "dot")) ≡ Some (Ask Dot (codes "a.toml"))
+unfolding clap_on_literals asked_by asked_with
 dot_asks = refl
 
-explain_asks : words_ask (on (codes "explain")) ≡ Explain (codes "a.toml")
-unfolding clap_on_literals asked_by asked_of
+explain_asks : words_ask (on (codes "explain")) ≡ Some (Explain (codes "a.toml"))
+unfolding clap_on_literals asked_by asked_with
 explain_asks = refl
 
-moves_asks : words_ask (on (codes "moves")) ≡ Moves (codes "a.toml")
-unfolding clap_on_literals asked_by asked_of
+moves_asks : words_ask (on (codes "moves")) ≡ Some (Moves (codes "a.toml"))
+unfolding clap_on_literals asked_by asked_with
 moves_asks = refl
 
 pub no_words_no_fault : fault_of program [] ≡ []
@@ -41,16 +43,17 @@ unfolding clap_on_literals
 no_words_no_fault = refl
 
 -- the words of the file that is asked for
-abbrev file_of : Asked → Text
-file_of Input = []
-file_of (Moves path) = path
-file_of (Ask question path) = path
-file_of (Explain path) = path
-file_of (Run order) = order.graph
+abbrev file_of : Option Asked → Text
+file_of None = []
+file_of (Some Input) = []
+file_of (Some (Moves path)) = path
+file_of (Some (Ask question path)) = path
+file_of (Some (Explain path)) = path
+file_of (Some (Run order)) = order.graph
 
 -- each command has its meaning: it asks for something of the file that it names
 every_command_asks : map (λ (s : Shape). file_of (words_ask (on s.name))) program.subs ≡ map (λ (s : Shape). codes "a.toml") program.subs
-unfolding clap_on_literals asked_by asked_of
+unfolding clap_on_literals asked_by asked_with
 every_command_asks = refl
 
 no_words_are_taken : takes program [] ≡ true
@@ -79,35 +82,57 @@ unknown_command_is_refused = refl
 abbrev run_on : List Text → List Text
 run_on options = codes "run" ∷ codes "a.toml" ∷ codes "d" ∷ options
 
-abbrev run_into : Text → ℕ → ℕ → Option ℕ → Asked
-run_into sinks workers periods firings = Run (record {
+abbrev run_into : Text → ℕ → ℕ → Option ℕ → Room → Option Asked
+run_into sinks workers periods firings room = Some (Run (record {
   graph = codes "a.toml";
   folder = codes "d";
   sink_folder = sinks;
   workers = workers;
   periods = periods;
   firings = firings;
-})
+  room = room;
+}))
 
--- the sinks' files go to the folder of the sources' where no other is named
-abbrev run_of : ℕ → ℕ → Option ℕ → Asked
-run_of = run_into (codes "d")
+-- the sinks' files go to the folder of the sources' where no other is named, and there are the least capacities where no room is
+abbrev run_of : ℕ → ℕ → Option ℕ → Option Asked
+run_of workers periods firings = run_into (codes "d") workers periods firings Least
 
 run_asks : words_ask (run_on []) ≡ run_of 1 1 None
-unfolding clap_on_literals asked_of
+unfolding clap_on_literals asked_with
 run_asks = refl
 
 options_ask : words_ask (run_on (codes "--firings" ∷ codes "9" ∷ codes "--periods=20" ∷ codes "--workers" ∷ codes "+3" ∷ [])) ≡ run_of 3 20 (Some 9)
-unfolding clap_on_literals asked_of
+unfolding clap_on_literals asked_with
 options_ask = refl
 
-other_folder_asks : words_ask (run_on (codes "--out" ∷ codes "e" ∷ [])) ≡ run_into (codes "e") 1 1 None
-unfolding clap_on_literals asked_of
+other_folder_asks : words_ask (run_on (codes "--out" ∷ codes "e" ∷ [])) ≡ run_into (codes "e") 1 1 None Least
+unfolding clap_on_literals asked_with
 other_folder_asks = refl
 
-empty_folder_asks : words_ask (run_on (codes "--out=" ∷ [])) ≡ run_into [] 1 1 None
-unfolding clap_on_literals asked_of
+empty_folder_asks : words_ask (run_on (codes "--out=" ∷ [])) ≡ run_into [] 1 1 None Least
+unfolding clap_on_literals asked_with
 empty_folder_asks = refl
+
+room_asks : words_ask (run_on (codes "--room" ∷ codes "64" ∷ [])) ≡ run_into (codes "d") 1 1 None (Periods 64)
+unfolding clap_on_literals asked_with
+room_asks = refl
+
+auto_asks : words_ask (run_on (codes "--room=auto" ∷ [])) ≡ run_into (codes "d") 1 1 None Auto
+unfolding clap_on_literals asked_with
+auto_asks = refl
+
+no_room_asks_nothing : words_ask (run_on (codes "--room" ∷ codes "0" ∷ [])) ≡ None
+unfolding clap_on_literals asked_with
+no_room_asks_nothing = refl
+
+-- the ends of the range and what is past them
+rooms : map room_in (codes "1" ∷ codes "65535" ∷ codes "+7" ∷ codes "auto" ∷ []) ≡ Some (Periods 1) ∷ Some (Periods 65535) ∷ Some (Periods 7) ∷ Some Auto ∷ []
+unfolding clap_on_literals
+rooms = refl
+
+no_rooms : map room_in ([] ∷ codes "0" ∷ codes "65536" ∷ codes "-1" ∷ codes "x" ∷ codes "Auto" ∷ []) ≡ None ∷ None ∷ None ∷ None ∷ None ∷ None ∷ []
+unfolding clap_on_literals
+no_rooms = refl
 
 -- whether a run with this option is taken
 abbrev is_taken : Text → Text → Bool
@@ -132,6 +157,10 @@ twice_is_refused = refl
 two_other_folders_are_refused : takes program (run_on (codes "--out" ∷ codes "e" ∷ codes "--out" ∷ codes "f" ∷ [])) ≡ false
 unfolding clap_on_literals
 two_other_folders_are_refused = refl
+
+two_rooms_are_refused : takes program (run_on (codes "--room" ∷ codes "2" ∷ codes "--room" ∷ codes "auto" ∷ [])) ≡ false
+unfolding clap_on_literals
+two_rooms_are_refused = refl
 
 no_folder_is_refused : takes program (codes "run" ∷ codes "a.toml" ∷ []) ≡ false
 unfolding clap_on_literals

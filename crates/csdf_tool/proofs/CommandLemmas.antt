@@ -1,6 +1,7 @@
 -- The command that a parse met, and the words and numbers after it.
-use Rattle.std.proofs.Common.{◌≡◌, ◌≤◌, ◌<◌, ◌^◌, ℕ, Bool, true, false, cond, List, Option, Some, None, option_map, refl, sym, ap, ap₂, ◌∙◌, Bor, arith}
+use Rattle.std.proofs.Common.{◌≡◌, ◌≤◌, ◌<◌, ◌^◌, ℕ, Bool, true, false, cond, List, Option, Some, None, codes, option_map, refl, sym, ap, ap₂, ◌∙◌, Bor, arith}
 use Rattle.std.specs.Prelude.{Box, option_and_then, unwrap_or}
+use Rattle.std.specs.Option.{option_map_or}
 use Rattle.std.specs.Box.{box_value}
 use Rattle.std.specs.Str.Parse.{IsNumeral, digits_value, without_leading_plus}
 use Rattle.clap.specs.Words.{Row, Text, first_of, subcommand_name_of, subcommand_rows, subcommand_rows_of}
@@ -10,7 +11,8 @@ use Rattle.clap.specs.declared.parser.matches.SubCommand.{SubCommand}
 use Rattle.clap.specs.ValueTests.{is_unsigned_in}
 use Rattle.clap.specs.declared.builder.value_parser.ValueParser.TheVariants.{Unsigned}
 use Rattle.clap.proofs.ValueTestLemmas.{accepts-Accepts, Accepts-accepts}
-use Rattle.csdf_tool.specs.CommandLine.{asked_of, asked, number_in, number_of}
+use Rattle.csdf_analysis.specs.declared.room.Room.TheVariants.{Least}
+use Rattle.csdf_tool.specs.CommandLine.{asked_of, asked, number_in, number_of, room_in, room_of}
 
 -- a text, or another where there is none
 pub text_or : (o : Option (Bor (List ℕ))) (d r : Bor (List ℕ)) → r ≡ unwrap_or o d → r.now ≡ unwrap_or (option_map (λ s. s.now) o) d.now
@@ -28,6 +30,18 @@ pub number_absent : (least most : ℕ) (option : Text) (rows : List Row) (o : Op
     → option_map (λ s. s.now) o ≡ first_of option rows → None ≡ number_of least most option rows
 number_absent least most option rows o is found =
     ap (option_and_then (number_in least most)) (sym (ap (option_map (λ (s : Bor (List ℕ)). s.now)) is) ∙ found)
+
+-- the room of the option that was given
+pub room_given : (rows : List Row) (o : Option (Bor (List ℕ))) (s : Bor (List ℕ)) → o ≡ Some s
+    → option_map (λ s. s.now) o ≡ first_of (codes "room") rows → room_of rows ≡ room_in s.now
+room_given rows o s is found =
+    ap (λ q. option_map_or room_in q (Some Least)) (sym found ∙ ap (option_map (λ s. s.now)) is)
+
+-- and of one that was not
+pub room_absent : (rows : List Row) (o : Option (Bor (List ℕ))) → o ≡ None
+    → option_map (λ s. s.now) o ≡ first_of (codes "room") rows → room_of rows ≡ Some Least
+room_absent rows o is found =
+    ap (λ q. option_map_or room_in q (Some Least)) (sym found ∙ ap (option_map (λ (s : Bor (List ℕ)). s.now)) is)
 
 -- the text is a number of 32 bits
 abbrev pub IsNumber : Text → Type 0

@@ -1,9 +1,15 @@
 -- How the program ends, by the answer of its command.
-use Rattle.std.proofs.Common.{◌≡◌, ◌≢◌, ℕ, List, Bool, Option, Some, None, arith, refl, sym, ap, subst, ◌∙◌, inl, inr}
+use Rattle.std.proofs.Common.{◌≡◌, ◌≢◌, ℕ, List, [], Bool, true, Option, Some, None, arith, refl, sym, ap, subst, ◌∙◌, inl, inr}
 use Rattle.std.specs.Prelude.{◌<◌, ◌⊎◌, Result, Ok, Err, IfErr, IfSome, OnOk, length}
 use Rattle.csdf_tool.specs.Carried.{IsCarriedOut, IsInputRefused, PutsOut, IsRefusalOf}
-use Rattle.csdf_tool.specs.CommandLine.{Asked}
-use Rattle.csdf_tool.specs.Ends.{Ended, EndsAs, EndsBy, IsFaultOfFile, IsFaultOfInput}
+use Rattle.clap.specs.Words.{Kinds, HasKind, Text, fault_of, kind_of, takes}
+use Rattle.clap.specs.declared.error.Error.{Error}
+use Rattle.clap.specs.declared.error.kind.ErrorKind.{ErrorKind}
+use Rattle.clap.specs.declared.error.kind.ErrorKind.TheVariants.{OutOfMemory}
+use Rattle.csdf_tool.specs.declared.command.Unread.{Unread}
+use Rattle.csdf_tool.specs.declared.command.Unread.TheVariants as unread
+use Rattle.csdf_tool.specs.CommandLine.{Asked, IsUnread, program, words_ask}
+use Rattle.csdf_tool.specs.Ends.{Ended, EndsAs, EndsBy, EndsFor, EndsForOneOf, EndsUnread, IsFaultOfFile, IsFaultOfInput}
 use Rattle.std.specs.Io.KnownBytes.{Appends}
 use Rattle.csdf_answers.specs.declared.fault.Stream.TheVariants.{Output}
 use Rattle.csdf_answers.specs.Faults.{status_of}
@@ -140,3 +146,30 @@ module _ (left : Option (List ℕ)) (answer : Result (Unit {0}) ToolFault) {aske
 
   pub refused_as : IfErr answer (λ f. status_of f ≡ 1 → IsRefusalOf asked left f) → IfErr answer (λ f. status_of f ≡ 1 → IsRefusalOf other left f)
   refused_as h = subst (λ a. IfErr answer (λ f. status_of f ≡ 1 → IsRefusalOf a left f)) same h
+
+pub one_asked : {asks : Option Asked} {a b : Asked} → asks ≡ Some a → asks ≡ Some b → a ≡ b
+one_asked first second = cc
+
+-- ---- words that are no request
+
+memory_ends : (e : Error) (status : ℕ) → kind_of e ≡ OutOfMemory → EndsFor (kind_of e) status → status ≡ 3
+memory_ends e status memory ends = subst (λ (k : ErrorKind). EndsFor k status) memory ends
+
+by_kind : (e : Error) (status : ℕ) (kinds : Kinds) → HasKind kinds e → EndsFor (kind_of e) status → EndsForOneOf kinds status
+by_kind e status kinds (inl memory) ends = inl (memory_ends e status memory ends)
+by_kind e status kinds (inr among) ends = inr (kind_of e, among, ends)
+
+module _ (words : List Text) {status : ℕ} where
+  pub unread_ends : (u : Unread) → IsUnread words u → EndsUnread u status → fault_of program words ≢ [] → EndsForOneOf (fault_of program words) status
+  unread_ends (unread.Parse e) why ends some = by_kind e status (fault_of program words) why.0 ends
+  unread_ends (unread.Room text) why ends some = absurd (some why.0)
+
+  pub taken_not_two : (u : Unread) → IsUnread words u → EndsUnread u status → takes program words ≡ true → words_ask words ≢ None → status ≢ 2
+  taken_not_two (unread.Parse e) why ends taken asks =
+      let three = memory_ends e status (why.1 taken) ends in
+      λ two. omega (arith, three, two)
+  taken_not_two (unread.Room text) why ends taken asks = absurd (asks why.1)
+
+  pub roomless_ends : (u : Unread) → IsUnread words u → EndsUnread u status → takes program words ≡ true → (status ≡ 2) ⊎ (status ≡ 3)
+  roomless_ends (unread.Parse e) why ends taken = inr (memory_ends e status (why.1 taken) ends)
+  roomless_ends (unread.Room text) why ends taken = inl ends

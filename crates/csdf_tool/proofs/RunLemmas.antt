@@ -89,5 +89,5 @@ module _ (order : Order) (bytes : List ℕ) (g : Graph) (f : ToolFault) (read : 
   pub refused_by_feed : IsUnreadOf g.actors f → IsFaultOfFile (IsRunTold order) f
   refused_by_feed unread = inr (bytes, inr (g, read, inl unread))
 
-  pub refused_by_texts : (feeds : List (List ℕ)) → RefusesRun g bytes feeds f → IsFaultOfFile (IsRunTold order) f
+  pub refused_by_texts : (feeds : List (List ℕ)) → RefusesRun order.room g bytes feeds f → IsFaultOfFile (IsRunTold order) f
   refused_by_texts feeds refuses = inr (bytes, inr (g, read, inr (feeds, refuses)))

@@ -1,13 +1,19 @@
 -- What the words of the command line ask for, by the meaning that clap gives to a command and its words.
-use Rattle.std.specs.Prelude.{ℕ, List, [], ◌∷◌, Option, Some, None, true, codes, if◌then◌else◌, option_and_then, unwrap_or}
+use Rattle.std.specs.Prelude.{◌≡◌, ℕ, List, [], ◌∷◌, Option, Some, None, true, codes, if◌then◌else◌, option_and_then, option_map, unwrap_or}
+use Rattle.std.specs.Option.{option_map_or}
 use Rattle.std.specs.Str.{bytes_eq}
 use Rattle.std.specs.Str.Parse.{digits_value, without_leading_plus}
-use Rattle.clap.specs.Words.{App, Row, Rule, Text, first_of, new_app, new_rule, subcommand_of, with_rule, with_subcommand}
+use Rattle.clap.specs.Words.{App, Row, Rule, Text, HasKind, fault_of, first_of, kind_of, new_app, new_rule, subcommand_of, takes, with_rule, with_subcommand}
 use Rattle.clap.specs.Simple.{on_top}
 use Rattle.clap.specs.ValueTests.{is_unsigned_in}
 use Rattle.clap.specs.declared.builder.value_parser.ValueParser.TheVariants.{Unsigned}
+use Rattle.clap.specs.declared.error.kind.ErrorKind.TheVariants.{OutOfMemory}
+use Rattle.csdf_analysis.specs.declared.room.Room.{Room}
+use Rattle.csdf_analysis.specs.declared.room.Room.TheVariants.{Least, Periods, Auto}
 use Rattle.csdf_tool.specs.declared.command.Request.{Request}
 use Rattle.csdf_tool.specs.declared.command.Request.TheVariants as request
+use Rattle.csdf_tool.specs.declared.command.Unread.{Unread}
+use Rattle.csdf_tool.specs.declared.command.Unread.TheVariants as unread
 use Rattle.csdf_tool.specs.declared.order.RunOrder.{RunOrder}
 use Rattle.csdf_answers.specs.declared.question.Question.{Question}
 use Rattle.csdf_answers.specs.declared.question.Question.TheVariants.{Check, Repetition, Schedule, Capacity, Dot}
@@ -26,7 +32,7 @@ number_option name least most = record (new_rule name) { long = Some name; value
 abbrev pub text_option : Text → Rule
 text_option name = record (new_rule name) { long = Some name; value_names = 1 }
 
--- the command that runs a graph asks for a folder too, and takes three numbers and another folder
+-- the command that runs a graph asks for a folder too, and takes three numbers, another folder and room
 abbrev pub on_files : App
 on_files = with_rule (on_graph (codes "run")) (record (new_rule (codes "DIR")) { required = true })
 
@@ -34,7 +40,7 @@ abbrev pub run_command : App
 run_command =
     let two = with_rule (with_rule on_files (number_option (codes "workers") 1 8)) (number_option (codes "periods") 1 1000) in
     let three = with_rule two (number_option (codes "firings") 0 1048576000) in
-    with_rule three (text_option (codes "out"))
+    with_rule (with_rule three (text_option (codes "out"))) (text_option (codes "room"))
 
 -- a program with a version, whose own name is not among the words
 abbrev pub no_commands : App
@@ -56,7 +62,7 @@ program = with_questions (with_subcommand no_commands run_command.top)
 
 -- ---- what they ask for
 
--- a run of the graph of a file over the token files of a folder, and the folder that the sinks' files are written to
+-- a run of the graph of a file over the token files of a folder, the folder that the sinks' files are written to, and the room of its channels
 pub record Order : Type 0 where
   pub graph : Text
   pub folder : Text
@@ -64,6 +70,7 @@ pub record Order : Type 0 where
   pub workers : ℕ
   pub periods : ℕ
   pub firings : Option ℕ
+  pub room : Room
 
 abbrev pub order_view : RunOrder → Order
 order_view o = record {
@@ -73,6 +80,7 @@ order_view o = record {
   workers = o.workers;
   periods = o.periods;
   firings = o.firings;
+  room = o.room;
 }
 
 pub data Asked : Type 0 where
@@ -105,15 +113,24 @@ word_or place rows other = unwrap_or (first_of place rows) other
 abbrev pub word_of : Text → List Row → Text
 word_of place rows = word_or place rows []
 
--- the run that the words after `run` ask for; the sinks' files go to the folder of the sources' where no other is named
-abbrev pub order_of : List Row → Order
-order_of rows = record {
+-- the room that a text names: `auto`, or a number of periods in its range
+abbrev pub room_in : Text → Option Room
+room_in text = if bytes_eq text (codes "auto") then Some Auto else option_map Periods (number_in 1 65535 text)
+
+-- the room that is asked for, the least capacities where none was given; nothing where the text names no room
+abbrev pub room_of : List Row → Option Room
+room_of rows = option_map_or room_in (first_of (codes "room") rows) (Some Least)
+
+-- the run that the words after `run` ask for, with this room; the sinks' files go to the folder of the sources' where no other is named
+abbrev pub order_of : List Row → Room → Order
+order_of rows room = record {
   graph = word_of (codes "GRAPH") rows;
   folder = word_of (codes "DIR") rows;
   sink_folder = word_or (codes "out") rows (word_of (codes "DIR") rows);
   workers = unwrap_or (number_of 1 8 (codes "workers") rows) 1;
   periods = unwrap_or (number_of 1 1000 (codes "periods") rows) 1;
   firings = number_of 0 1048576000 (codes "firings") rows;
+  room = room;
 }
 
 -- what a command but `run` asks for with the file that it names; no other command has a file alone
@@ -128,16 +145,25 @@ asked_by name path =
     else if bytes_eq name (codes "moves") then Moves path
     else Input
 
--- what a command asks for with the words after it
-unfoldable pub asked_of : Text → List Row → Asked
-asked_of name rows = if bytes_eq name (codes "run") then Run (order_of rows) else asked_by name (word_of (codes "GRAPH") rows)
+-- what a command asks for with the words after it, with this room
+unfoldable pub asked_with : Text → List Row → Room → Asked
+asked_with name rows room = if bytes_eq name (codes "run") then Run (order_of rows room) else asked_by name (word_of (codes "GRAPH") rows)
+
+-- what a command asks for with the words after it; nothing where they name no room
+abbrev pub asked_of : Text → List Row → Option Asked
+asked_of name rows = option_map (asked_with name rows) (room_of rows)
 
 -- what the command that was met asks for, and standard input where none was
-abbrev pub asked : Option (Text × List Row) → Asked
-asked None = Input
+abbrev pub asked : Option (Text × List Row) → Option Asked
+asked None = Some Input
 asked (Some met) = asked_of met.0 met.1
 
 -- what words ask for
-abbrev pub words_ask : List Text → Asked
-words_ask [] = Input
+abbrev pub words_ask : List Text → Option Asked
+words_ask [] = Some Input
 words_ask (word ∷ words) = asked (subcommand_of program (word ∷ words))
+
+-- why words are no request: the parser refuses them, and those that it takes only for want of memory, or it takes them and they name no room
+abbrev pub IsUnread : List Text → Unread → Type 0
+IsUnread words (unread.Parse error) = HasKind (fault_of program words) error × (takes program words ≡ true → kind_of error ≡ OutOfMemory)
+IsUnread words (unread.Room text) = (fault_of program words ≡ []) × (words_ask words ≡ None)

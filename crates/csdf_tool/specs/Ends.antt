@@ -1,7 +1,7 @@
 -- How the program ends: its exit status, and the line beside it on standard error.
 use Rattle.std.specs.Prelude.{◌≡◌, ◌⊎◌, ◌<◌, ℕ, List, ◌++◌, Bool, true, Option, Result, Err, IfErr, OnOk, length}
 use Rattle.std.specs.Io.KnownBytes.{Appends}
-use Rattle.clap.specs.Words.{Kinds, IsAmong}
+use Rattle.clap.specs.Words.{Kinds, IsAmong, kind_of}
 use Rattle.clap.specs.declared.error.kind.ErrorKind.{ErrorKind}
 use Rattle.clap.specs.declared.error.kind.ErrorKind.TheVariants.{DisplayHelp, DisplayVersion, OutOfMemory}
 use Rattle.csdf_answers.specs.declared.fault.ToolFault.{ToolFault}
@@ -9,6 +9,8 @@ use Rattle.csdf_answers.specs.declared.fault.ToolFault.TheVariants.{TooLong, Mem
 use Rattle.csdf_answers.specs.Faults.{fault_text, status_of}
 use Rattle.csdf_answers.specs.Printed.{newline}
 use Rattle.csdf_answers.specs.Session.{IsAnswer}
+use Rattle.csdf_tool.specs.declared.command.Unread.{Unread}
+use Rattle.csdf_tool.specs.declared.command.Unread.TheVariants as unread
 
 -- the fault's line was put at the end of what a device has taken, where that is known, or the device failed
 abbrev pub TellsLine : ToolFault → Option (List ℕ) → Option (List ℕ) → Bool → Type 0
@@ -46,3 +48,8 @@ EndsFor _ status = status ≡ 2
 -- the same for one of these reasons, unless memory ran out
 abbrev pub EndsForOneOf : Kinds → ℕ → Type 0
 EndsForOneOf kinds status = (status ≡ 3) ⊎ ((kind : ErrorKind) × IsAmong kind kinds × EndsFor kind status)
+
+-- how words that are no request end
+abbrev pub EndsUnread : Unread → ℕ → Type 0
+EndsUnread (unread.Parse error) status = EndsFor (kind_of error) status
+EndsUnread (unread.Room text) status = status ≡ 2

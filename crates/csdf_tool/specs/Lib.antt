@@ -1,4 +1,5 @@
 pub mod Carried
 pub mod CommandLine
 pub mod Ends
+pub mod Rooms
 pub mod Running

@@ -12,7 +12,7 @@ use Rattle.csdf_floor.specs.declared.fault.RunFault.TheVariants as run
 use Rattle.csdf_run.specs.declared.texts.Texts.{Texts}
 use Rattle.csdf_run.specs.declared.texts.TextsFault.{TextsFault}
 use Rattle.csdf_run.specs.declared.texts.TextsFault.TheVariants as texts
-use Rattle.csdf_analysis.specs.declared.room.Room.TheVariants.{Least}
+use Rattle.csdf_analysis.specs.declared.room.Room.{Room}
 use Rattle.csdf_run.specs.Texts.{IsRefusal, TellRun, TellSequentialRun}
 use Rattle.csdf_floor.specs.Work.{is_sink_kernel}
 use Rattle.csdf_answers.specs.declared.fault.Stream.TheVariants.{File}
@@ -88,30 +88,30 @@ texts_fault g texts.FeedCount = Mixed
 texts_fault g (texts.Feed a why) = token_fault (name_at (actor_names g.actors) a) why
 texts_fault g (texts.Run why) = run_fault why
 
--- the fault tells why the texts make no run
-abbrev pub RefusesRun : Graph → List ℕ → List (List ℕ) → ToolFault → Type 0
-RefusesRun g bytes feeds fault = (why : TextsFault) × IsRefusal Least bytes feeds why × (fault ≡ texts_fault g why)
+-- the fault tells why the texts make no run with this room
+abbrev pub RefusesRun : Room → Graph → List ℕ → List (List ℕ) → ToolFault → Type 0
+RefusesRun room g bytes feeds fault = (why : TextsFault) × IsRefusal room bytes feeds why × (fault ≡ texts_fault g why)
 
 -- ---- runs
 
 -- the texts tell the run that is asked for, of the graph of a file over one text for each source, and they are those of the sequential run
 pub record IsRunBy (order : Order) (g : Graph) (bytes : List ℕ) (feeds : List (List ℕ)) (t : Texts) : Type 0 where
   pub graph : IsGraphOf bytes (Ok g)
-  pub told : TellRun Least bytes feeds order.periods order.firings t
-  pub sequential : TellSequentialRun Least bytes feeds order.periods order.firings t
+  pub told : TellRun order.room bytes feeds order.periods order.firings t
+  pub sequential : TellSequentialRun order.room bytes feeds order.periods order.firings t
 
--- why a graph is not run: a token file is too long, or the texts make no run
-abbrev pub IsRefusedOn : Graph → List ℕ → ToolFault → Type 0
-IsRefusedOn g bytes fault = IsUnreadOf g.actors fault ⊎ ((feeds : List (List ℕ)) × RefusesRun g bytes feeds fault)
+-- why a graph is not run with this room: a token file is too long, or the texts make no run
+abbrev pub IsRefusedOn : Room → Graph → List ℕ → ToolFault → Type 0
+IsRefusedOn room g bytes fault = IsUnreadOf g.actors fault ⊎ ((feeds : List (List ℕ)) × RefusesRun room g bytes feeds fault)
 
 -- why a graph file is not run: those of the file come first
-abbrev pub IsRefusedFile : List ℕ → ToolFault → Type 0
-IsRefusedFile bytes fault =
+abbrev pub IsRefusedFile : Room → List ℕ → ToolFault → Type 0
+IsRefusedFile room bytes fault =
     ((why : GraphFault) × IsGraphOf bytes (Err why) × (fault ≡ fault_of why))
-    ⊎ ((g : Graph) × IsGraphOf bytes (Ok g) × IsRefusedOn g bytes fault)
+    ⊎ ((g : Graph) × IsGraphOf bytes (Ok g) × IsRefusedOn room g bytes fault)
 
 -- the report of a run that is asked for, of a graph file, or why there is none
 abbrev pub IsRunTold : Order → List ℕ → Result (List ℕ) ToolFault → Type 0
 IsRunTold order bytes (Ok report) =
     (g : Graph) × (feeds : List (List ℕ)) × (t : Texts) × IsRunBy order g bytes feeds t × (report ≡ t.report.items)
-IsRunTold order bytes (Err fault) = IsRefusedFile bytes fault
+IsRunTold order bytes (Err fault) = IsRefusedFile order.room bytes fault

@@ -1,17 +1,19 @@
 //! The command line.
 
-ghost use Rattle.std.specs.Prelude.{◌≡◌, ◌≤◌, [], true, false, codes, map, string_bytes, Ok, IfErr, IfOk, IfSome};
+ghost use Rattle.std.specs.Prelude.{◌≡◌, ◌≤◌, [], true, false, map, string_bytes, Ok, IfErr, IfOk, IfSome, MatchResult};
 ghost use Rattle.clap.specs.Words.{App, app_of, fault_of, found_of, kind_of, rows_of, rule_of, subcommand_of, subcommand_rows_of, takes, with_rule, FailsBy};
 ghost use Rattle.clap.specs.declared.builder.command.Command.TheViews.{out-Command as fields_of};
 ghost use Rattle.csdf_tool.specs.CommandLine.{on_graph, on_files, run_command, number_option, no_commands, with_command, with_questions, program};
-ghost use Rattle.csdf_tool.specs.CommandLine.{asked_view, asked_by, asked_of, asked, words_ask};
-ghost use Rattle.csdf_tool.specs.CommandLine.{number_in, number_of, order_of, order_view, text_option, word_of, word_or};
+ghost use Rattle.csdf_analysis.specs.Room.{HasSomePeriod};
+ghost use Rattle.csdf_tool.specs.CommandLine.{asked_view, asked_by, asked_of, asked_with, asked, words_ask, IsUnread};
+ghost use Rattle.csdf_tool.specs.CommandLine.{number_in, number_of, order_of, order_view, room_in, room_of, text_option, word_of, word_or};
 
 use crate::help;
 use crate::order::RunOrder;
 use clap::builder::ValueParser;
 use clap::error::ErrorKind;
 use clap::{Arg, ArgMatches, Command, Error};
+use csdf_analysis::Room;
 use csdf_answers::Question;
 use std::alloc::{AllocError, Global};
 
@@ -30,6 +32,15 @@ pub(crate) enum Request<'a> {
     Run(RunOrder<'a>),
 }
 
+/// Why words are no request.
+#[derive(Drop)]
+pub(crate) enum Unread<'a> {
+    /// The parser refuses them, or they ask for help or the version.
+    Parse(Error),
+    /// The room that they ask for is none.
+    Room(&'a str),
+}
+
 const GRAPH: &str = "GRAPH";
 
 const FOLDER: &str = "DIR";
@@ -41,6 +52,8 @@ const PERIODS: &str = "periods";
 const FIRINGS: &str = "firings";
 
 const OUT: &str = "out";
+
+const ROOM: &str = "room";
 
 /// A command with a graph file, and what its help ends with.
 fn on_graph<'a>(
@@ -88,14 +101,18 @@ fn with_option<'a>(
     with_arg(command, option)
 }
 
-/// A command with the option that names the folder of the sinks' files.
-fn with_out<'a>(alloc: Global, command: Command<'a>) -> Result<Command<'a>, AllocError>
-    ensures app { IfOk result (λ r. app_of r ≡ with_rule (app_of command.entry) (text_option (codes "out"))) }
+/// A command with one more option, which has a text.
+fn with_text<'a>(
+    alloc: Global,
+    command: Command<'a>,
+    name: &'a str,
+    word: &'a str,
+    help: &'a str,
+) -> Result<Command<'a>, AllocError>
+    ensures app { IfOk result (λ r. app_of r ≡ with_rule (app_of command.entry) (text_option name.entry.now)) }
     ensures globals { IfOk result (λ r. (fields_of r).has_globals ≡ (fields_of command.entry).has_globals) }
 {
-    let option = Arg::new(alloc, OUT).long(OUT).value_name("FOLDER").help(
-        "The folder that the sinks' files are written to: DIR where absent",
-    );
+    let option = Arg::new(alloc, name).long(name).value_name(word).help(help);
     with_arg(command, option)
 }
 
@@ -123,7 +140,10 @@ fn run_command<'a>(alloc: Global) -> Result<Command<'a>, AllocError>
     let command = with_option(alloc, command, PERIODS, "K", (1, 1000), periods)?;
     let firings = "The most firings of all actors: 0 to 1048576000, no limit where absent";
     let command = with_option(alloc, command, FIRINGS, "F", (0, 1_048_576_000), firings)?;
-    with_out(alloc, command)
+    let out = "The folder that the sinks' files are written to: DIR where absent";
+    let command = with_text(alloc, command, OUT, "FOLDER", out)?;
+    let room = "Room for so many periods: 1 to 65535, or auto; least capacities where absent";
+    with_text(alloc, command, ROOM, "M", room)
 }
 
 /// The program, and no command yet.
@@ -265,11 +285,43 @@ fn number_of(arguments: &ArgMatches<'_>, option: &str, least: u32, most: u32) ->
     }
 }
 
-/// The run that the words after `run` ask for.
+/// The room that a text names.
+fn room_in(text: &str) -> Option<Room>
+    ensures value { result ≡ room_in text.now }
+    ensures some { IfSome result HasSomePeriod }
+{
+    if text == "auto" {
+        return Some(Room::Auto);
+    }
+    match number_in(text, 1, 65_535) {
+        Some(periods) => Some(Room::Periods(periods)),
+        None => None,
+    }
+}
+
+/// The room that is asked for, the least capacities where none was given.
+///
+/// The error is a text that names no room.
+fn room_of<'a>(arguments: &ArgMatches<'a>) -> Result<Room, &'a str>
+    ensures value { MatchResult result (λ room. room_of (rows_of (found_of arguments.now)) ≡ Some room)
+        (λ _. room_of (rows_of (found_of arguments.now)) ≡ None) }
+    ensures some { IfOk result HasSomePeriod }
+{
+    match arguments.get_str(ROOM) {
+        Some(text) => match room_in(text) {
+            Some(room) => Ok(room),
+            None => Err(text),
+        },
+        None => Ok(Room::Least),
+    }
+}
+
+/// The run that the words after `run` ask for, with this room.
 ///
 /// The parser refuses a number out of its range; where one is read all the same, it counts as absent.
-fn order_of<'a>(arguments: &ArgMatches<'a>) -> RunOrder<'a>
-    ensures { order_view result ≡ order_of (rows_of (found_of arguments.now)) }
+fn order_of<'a>(arguments: &ArgMatches<'a>, room: Room) -> RunOrder<'a>
+    requires { HasSomePeriod room }
+    ensures { order_view result ≡ order_of (rows_of (found_of arguments.now)) room }
 {
     let folder = word_of(arguments, FOLDER);
     RunOrder {
@@ -279,43 +331,66 @@ fn order_of<'a>(arguments: &ArgMatches<'a>) -> RunOrder<'a>
         workers: number_of(arguments, WORKERS, 1, 8).unwrap_or(1),
         periods: number_of(arguments, PERIODS, 1, 1000).unwrap_or(1),
         firings: number_of(arguments, FIRINGS, 0, 1_048_576_000),
+        room,
     }
 }
 
-/// What a command asks for with the words after it.
-#[tactic(auto, unfolding(crate::specs::CommandLine::asked_of))]
-fn asked_of<'a>(command: &str, arguments: &ArgMatches<'a>) -> Request<'a>
-    ensures { asked_view result ≡ asked_of command.now (rows_of (found_of arguments.now)) }
+/// What a command asks for with the words after it, with this room.
+#[tactic(auto, unfolding(crate::specs::CommandLine::asked_with))]
+fn asked_with<'a>(command: &str, arguments: &ArgMatches<'a>, room: Room) -> Request<'a>
+    requires { HasSomePeriod room }
+    ensures { asked_view result ≡ asked_with command.now (rows_of (found_of arguments.now)) room }
 {
     match command {
-        "run" => Request::Run(order_of(arguments)),
+        "run" => Request::Run(order_of(arguments, room)),
         _ => asked_by(command, word_of(arguments, GRAPH)),
     }
 }
 
+/// What a command asks for with the words after it.
+///
+/// The error is a text that names no room.
+fn asked_of<'a>(command: &str, arguments: &ArgMatches<'a>) -> Result<Request<'a>, &'a str>
+    ensures { MatchResult result (λ r. asked_of command.now (rows_of (found_of arguments.now)) ≡ Some (asked_view r))
+        (λ _. asked_of command.now (rows_of (found_of arguments.now)) ≡ None) }
+{
+    match room_of(arguments) {
+        Ok(room) => Ok(asked_with(command, arguments, room)),
+        Err(text) => Err(text),
+    }
+}
+
 /// What the command that was met asks for, and standard input where none was.
-fn asked<'a>(matches: &ArgMatches<'a>) -> Request<'a>
-    ensures { asked_view result ≡ asked (subcommand_rows_of matches.now) }
+///
+/// The error is a text that names no room.
+fn asked<'a>(matches: &ArgMatches<'a>) -> Result<Request<'a>, &'a str>
+    ensures { MatchResult result (λ r. asked (subcommand_rows_of matches.now) ≡ Some (asked_view r))
+        (λ _. asked (subcommand_rows_of matches.now) ≡ None) }
 {
     match matches.subcommand() {
         Some((command, arguments)) => asked_of(command, arguments),
-        None => Request::Input,
+        None => Ok(Request::Input),
     }
 }
 
 /// What the words of a command line ask for; the program's own name is not among them.
 ///
-/// The error has the text to print: help or the version where they were asked for, or else why
-/// the words are refused.
-pub(crate) fn request_of<'a>(alloc: Global, words: &'a [String]) -> Result<Request<'a>, Error>
+/// The error of the parser has the text to print: help or the version where they were asked for, or
+/// else why the words are refused.
+pub(crate) fn request_of<'a>(alloc: Global, words: &'a [String]) -> Result<Request<'a>, Unread<'a>>
     ensures none { words.entry.now ≡ [] → result ≡ Ok Request.Input }
-    ensures asked { IfOk result (λ r. asked_view r ≡ words_ask (map string_bytes words.entry.now)) }
-    ensures taken { takes program (map string_bytes words.entry.now) ≡ true → IfErr result (λ e. kind_of e ≡ ErrorKind.OutOfMemory) }
-    ensures refused { FailsBy (fault_of program (map string_bytes words.entry.now)) result }
+    ensures asked { IfOk result (λ r. words_ask (map string_bytes words.entry.now) ≡ Some (asked_view r)) }
+    ensures read { IfOk result (λ r. fault_of program (map string_bytes words.entry.now) ≡ []) }
+    ensures unread { IfErr result (IsUnread (map string_bytes words.entry.now)) }
 {
     if words.is_empty() {
         return Ok(Request::Input);
     }
-    let matches = matches_of(alloc, words)?;
-    Ok(asked(&matches))
+    match matches_of(alloc, words) {
+        Ok(matches) => match asked(&matches) {
+            Ok(request) => Ok(request),
+            Err(text) => Err(Unread::Room(text)),
+        },
+        Err(error) => Err(Unread::Parse(error)),
+    }
 }

@@ -16,6 +16,11 @@ Reads DIR/NAME.in for each source NAME of the graph, one token a line. Once the 
 writes NAME.out for each sink NAME to DIR, or to the folder of --out, over a file that is there,
 and then prints a report. What the actors write is computed by their kernels.
 
+With --room each channel that has no capacity in the file gets room for its initial tokens and those
+of M periods, at most for 65535 tokens; auto is the greatest M with which no such channel has more
+than 4096 tokens of M periods, and at least 1. With more room more firings are made at a time, and
+memory holds more.
+
 Memory holds the tokens that are read and those that the sinks take; a firing leaves nothing else
 behind. More workers pay where single firings are long, of 16,384 products or more: lighter ones
 are made by one worker, however many there are.

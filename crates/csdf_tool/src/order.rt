@@ -1,6 +1,10 @@
 //! What the command to run asks for.
 
 ghost use Rattle.std.specs.Prelude.{◌≤◌};
+ghost use Rattle.csdf_analysis.specs.Room.{HasSomePeriod};
+ghost use Rattle.csdf_tool.specs.Rooms.{HasSomePeriod-prop};
+
+use csdf_analysis::Room;
 
 /// A run of the graph of a file over the token files of a folder, to files of a folder.
 #[derive(Clone, Copy)]
@@ -15,8 +19,11 @@ pub(crate) struct RunOrder<'a> {
     pub(crate) periods: u32,
     /// The most firings of all actors together.
     pub(crate) firings: Option<u32>,
+    /// The room of the channels that have no capacity in the file.
+    pub(crate) room: Room,
     ghost some_worker: { 1 ≤ workers },
     ghost few_workers: { workers ≤ 8 },
     ghost some_period: { 1 ≤ periods },
     ghost few_periods: { periods ≤ 1000 },
+    ghost some_room: { HasSomePeriod room } by { HasSomePeriod-prop room },
 }

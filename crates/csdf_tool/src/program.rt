@@ -7,13 +7,13 @@ ghost use Rattle.csdf_tool.specs.CommandLine.{program, asked_view, words_ask, Mo
 ghost use Rattle.csdf_tool.specs.Carried.{IsCarriedOut, IsRefusalOf};
 ghost use Rattle.csdf_answers.specs.Described.{IsDescription};
 ghost use Rattle.csdf_answers.specs.declared.question.Question.{Question};
-ghost use Rattle.csdf_tool.specs.Ends.{Ended, EndsAs, EndsBy, EndsFor, EndsForOneOf, IsFaultOfFile, IsFaultOfInput};
+ghost use Rattle.csdf_tool.specs.Ends.{Ended, EndsAs, EndsBy, EndsFor, EndsForOneOf, EndsUnread, IsFaultOfFile, IsFaultOfInput};
 ghost use Rattle.csdf_answers.specs.Explained.{IsExplained};
 ghost use Rattle.csdf_answers.specs.Faults.{status_of};
 ghost use Rattle.csdf_tool.specs.Running.{IsRunTold};
 ghost use Rattle.csdf_answers.specs.Session.{IsAnswer};
 
-use crate::command::{Request, request_of};
+use crate::command::{Request, Unread, request_of};
 use crate::files::file_bytes;
 use crate::run_files::run_files;
 use clap::Error;
@@ -121,8 +121,8 @@ fn print_help<O: Outlet>(alloc: Global, help: &Error, out: &mut O) -> Result<(),
     }
 }
 
-/// The exit status where the words are no request.
-fn status_of_words<O: Outlet, E: Outlet>(
+/// The exit status where the parser refuses the words.
+fn status_of_error<O: Outlet, E: Outlet>(
     alloc: Global,
     error: &Error,
     out: &mut O,
@@ -146,6 +146,37 @@ fn status_of_words<O: Outlet, E: Outlet>(
     }
 }
 
+/// Tells that a text names no room, and answers the exit status of refused words.
+fn refuse_room<E: Outlet>(text: &str, err: &mut E) -> u8
+    ensures { result ≡ 2 }
+{
+    let _ = write!(
+        Printer(err),
+        "error: invalid value '{text}' for '--room <M>': it is neither 'auto' nor in 1..=65535\n\n\
+        For more information, try '--help'.\n",
+    );
+    2
+}
+
+/// The exit status where the words are no request.
+fn status_of_words<O: Outlet, E: Outlet>(
+    alloc: Global,
+    unread: &Unread<'_>,
+    out: &mut O,
+    err: &mut E,
+) -> u8
+    ensures refused { (result ≡ 1) ⊎ (result ≡ 2) → out.new ≡ out.old }
+    ensures device { result ≡ 3 → (out.new ≡ out.old) ⊎ (O.failed out.new ≡ true) }
+    ensures answered { result ≡ 0 → err.new ≡ err.old }
+    ensures ends { EndsUnread unread.now result }
+    ensures lined { result ≡ 3 → (fault : ToolFault) × EndsAs fault result (E.written err.old) (E.written err.new) (E.failed err.new) }
+{
+    match unread {
+        Unread::Parse(error) => status_of_error(alloc, error, out, err),
+        Unread::Room(text) => refuse_room(text, err),
+    }
+}
+
 /// Runs the program on the words of its command line, without its own name, and answers the exit
 /// status: 0 where it is answered, 1 where an input is refused, 2 where the words are, 3 where a
 /// device or memory failed.
@@ -164,27 +195,28 @@ pub fn run_words<R: Files + AllocGlobal + Threads + Wait + Sync, I: Intake, O: O
     ensures device { result ≡ 3 → (out.new ≡ out.old) ⊎ (O.failed out.new ≡ true) }
     ensures answered { result ≡ 0 → err.new ≡ err.old }
     ensures lined { (result ≡ 1) ⊎ (result ≡ 3) → (fault : ToolFault) × EndsAs fault result (E.written err.old) (E.written err.new) (E.failed err.new) }
-    ensures taken { takes program (map string_bytes words.now) ≡ true → result ≢ 2 }
+    ensures taken { takes program (map string_bytes words.now) ≡ true → words_ask (map string_bytes words.now) ≢ None → result ≢ 2 }
+    ensures roomless { takes program (map string_bytes words.now) ≡ true → words_ask (map string_bytes words.now) ≡ None → (result ≡ 2) ⊎ (result ≡ 3) }
     ensures unread { fault_of program (map string_bytes words.now) ≢ [] → EndsForOneOf (fault_of program (map string_bytes words.now)) result }
     ensures moves { (path : List ℕ) → takes program (map string_bytes words.now) ≡ true
-        → words_ask (map string_bytes words.now) ≡ Moves path → result ≡ 0
+        → words_ask (map string_bytes words.now) ≡ Some (Moves path) → result ≡ 0
         → (bytes text : List ℕ) × IsAnswer bytes (Ok text) × Appends (O.written out.old) (O.written out.new) text }
     ensures told { (question : Question) (path : List ℕ) → takes program (map string_bytes words.now) ≡ true
-        → words_ask (map string_bytes words.now) ≡ Ask question path → result ≡ 0
+        → words_ask (map string_bytes words.now) ≡ Some (Ask question path) → result ≡ 0
         → (bytes text : List ℕ) × IsDescription question bytes (Ok text) × Appends (O.written out.old) (O.written out.new) text }
     ensures explained { (path : List ℕ) → takes program (map string_bytes words.now) ≡ true
-        → words_ask (map string_bytes words.now) ≡ Explain path → result ≡ 0
+        → words_ask (map string_bytes words.now) ≡ Some (Explain path) → result ≡ 0
         → (bytes text : List ℕ) × IsExplained bytes (Ok text) × Appends (O.written out.old) (O.written out.new) text }
     ensures ran { (order : Order) → takes program (map string_bytes words.now) ≡ true
-        → words_ask (map string_bytes words.now) ≡ Run order → result ≡ 0
+        → words_ask (map string_bytes words.now) ≡ Some (Run order) → result ≡ 0
         → (bytes text : List ℕ) × IsRunTold order bytes (Ok text) × Appends (O.written out.old) (O.written out.new) text }
-    ensures moves_refused { (path : List ℕ) → words_ask (map string_bytes words.now) ≡ Moves path → result ≡ 1
+    ensures moves_refused { (path : List ℕ) → words_ask (map string_bytes words.now) ≡ Some (Moves path) → result ≡ 1
         → (fault : ToolFault) × IsFaultOfFile IsAnswer fault × EndsAs fault result (E.written err.old) (E.written err.new) (E.failed err.new) }
-    ensures told_refused { (question : Question) (path : List ℕ) → words_ask (map string_bytes words.now) ≡ Ask question path → result ≡ 1
+    ensures told_refused { (question : Question) (path : List ℕ) → words_ask (map string_bytes words.now) ≡ Some (Ask question path) → result ≡ 1
         → (fault : ToolFault) × IsFaultOfFile (IsDescription question) fault × EndsAs fault result (E.written err.old) (E.written err.new) (E.failed err.new) }
-    ensures explained_refused { (path : List ℕ) → words_ask (map string_bytes words.now) ≡ Explain path → result ≡ 1
+    ensures explained_refused { (path : List ℕ) → words_ask (map string_bytes words.now) ≡ Some (Explain path) → result ≡ 1
         → (fault : ToolFault) × (fault ≡ ToolFault.TooLong) × EndsAs fault result (E.written err.old) (E.written err.new) (E.failed err.new) }
-    ensures ran_refused { (order : Order) → words_ask (map string_bytes words.now) ≡ Run order → result ≡ 1
+    ensures ran_refused { (order : Order) → words_ask (map string_bytes words.now) ≡ Some (Run order) → result ≡ 1
         → (fault : ToolFault) × IsFaultOfFile (IsRunTold order) fault × EndsAs fault result (E.written err.old) (E.written err.new) (E.failed err.new) }
     ensures played { words.now ≡ [] → result ≡ 0 → IfSome (I.left reader.old)
         (λ bytes. (text : List ℕ) × IsAnswer bytes (Ok text) × Appends (O.written out.old) (O.written out.new) text) }
@@ -193,6 +225,6 @@ pub fn run_words<R: Files + AllocGlobal + Threads + Wait + Sync, I: Intake, O: O
 {
     match request_of(rt.alloc(), words) {
         Ok(request) => status_after(rt.alloc(), carry_out(rt, request, reader, out), err),
-        Err(error) => status_of_words(rt.alloc(), &error, out, err),
+        Err(unread) => status_of_words(rt.alloc(), &unread, out, err),
     }
 }

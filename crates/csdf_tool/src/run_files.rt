@@ -5,7 +5,6 @@ ghost use Rattle.std.specs.Io.KnownBytes.{Appends};
 ghost use Rattle.csdf_model.specs.Graph.{actor_view};
 ghost use Rattle.csdf_graph.specs.GraphText.{IsGraphOf};
 ghost use Rattle.csdf_core.specs.Layout.{is_source_kernel};
-ghost use Rattle.csdf_analysis.specs.declared.room.Room.TheVariants.{Least};
 ghost use Rattle.csdf_run.specs.Texts.{TellRun, TellSequentialRun, source_count, texts_in};
 ghost use Rattle.csdf_floor.specs.Work.{is_sink_kernel};
 ghost use Rattle.csdf_tool.specs.CommandLine.{order_view};
@@ -18,7 +17,7 @@ use crate::files::{feed_bytes, file_bytes, write_file};
 use crate::order::RunOrder;
 use csdf_answers::{Name, Stream, ToolFault, accept_fault, actor_name};
 use csdf_graph::{Actor, Graph, Kernel, Outlet, TokenFault, read_graph, write_bytes};
-use csdf_run::{RunFault, Texts, TextsFault, run_texts};
+use csdf_run::{RunFault, Texts, TextsFault, run_texts_with_room};
 use std::alloc::{AllocError, Global};
 use std::rt::Files;
 use std::sync::Wait;
@@ -105,13 +104,14 @@ fn texts_of<R: AllocGlobal + Threads + Wait + Sync>(
     feeds: &[Vec<u8>],
     order: RunOrder<'_>,
 ) -> Result<Texts, ToolFault>
-    ensures told { IfOk result (TellRun Least bytes.now (texts_in feeds.now) order.entry.periods order.entry.firings) }
-    ensures sequential { IfOk result (TellSequentialRun Least bytes.now (texts_in feeds.now) order.entry.periods order.entry.firings) }
-    ensures refused { IfErr result (λ fault. fault ≢ ToolFault.Memory → RefusesRun graph.now bytes.now (texts_in feeds.now) fault) }
+    ensures told { IfOk result (TellRun order.entry.room bytes.now (texts_in feeds.now) order.entry.periods order.entry.firings) }
+    ensures sequential { IfOk result (TellSequentialRun order.entry.room bytes.now (texts_in feeds.now) order.entry.periods order.entry.firings) }
+    ensures refused { IfErr result (λ fault. fault ≢ ToolFault.Memory → RefusesRun order.entry.room graph.now bytes.now (texts_in feeds.now) fault) }
 {
     let alloc = rt.alloc();
-    let (workers, periods) = (order.workers, order.periods);
-    match run_texts(rt, alloc, bytes, feeds, workers, periods, order.firings) {
+    let (workers, periods, firings) = (order.workers, order.periods, order.firings);
+    let room = order.room;
+    match run_texts_with_room(rt, alloc, bytes, feeds, workers, periods, firings, room) {
         Ok(texts) => Ok(texts),
         Err(fault) => Err(texts_fault(alloc, graph, fault)?),
     }

@@ -6,8 +6,8 @@ use Rattle.csdf_tool.specs.CommandLine.{program}
 use Rattle.csdf_tool.proofs.CommandExamples.{no_words_no_fault}
 use Rattle.csdf_tool.proofs.command.request_of.Goals as goal
 
-pub returns-then-is_empty-clause-refused : goal.returns-then-is_empty-clause-refused
-returns-then-is_empty-clause-refused c =
+pub returns-then-is_empty-clause-read : goal.returns-then-is_empty-clause-read
+returns-then-is_empty-clause-read c =
     let zero : length c.args.words.now ≡ 0 = grind (arith, nat_tests, c.is_empty.ensures) in
     let none : c.args.words.now ≡ [] = nil_from_length _ zero in
     ap (λ words. fault_of program (map string_bytes words)) none ∙ no_words_no_fault

@@ -9,9 +9,11 @@ returns-clause-app c =
     let one = c.in_ok-command-2.ensures.app ∙ ap (λ (a : App). with_rule a (number_option (codes "workers") 1 8)) c.in_ok-command.ensures.app in
     let two = c.in_ok-command-3.ensures.app ∙ ap (λ (a : App). with_rule a (number_option (codes "periods") 1 1000)) one in
     let three = c.in_ok-command-4.ensures.app ∙ ap (λ (a : App). with_rule a (number_option (codes "firings") 0 1048576000)) two in
-    IfOk-weaker c.with_out.result _ _ (λ r h. h ∙ ap (λ (a : App). with_rule a (text_option (codes "out"))) three) c.with_out.ensures.app
+    let four = c.in_ok-command-5.ensures.app ∙ ap (λ (a : App). with_rule a (text_option (codes "out"))) three in
+    IfOk-weaker c.with_text-2.result _ _ (λ r h. h ∙ ap (λ (a : App). with_rule a (text_option (codes "room"))) four) c.with_text-2.ensures.app
 
 pub returns-clause-local : goal.returns-clause-local
 returns-clause-local c =
     let two = c.in_ok-command-3.ensures.globals ∙ c.in_ok-command-2.ensures.globals ∙ c.in_ok-command.ensures.local in
-    IfOk-weaker c.with_out.result _ _ (λ r h. h ∙ c.in_ok-command-4.ensures.globals ∙ two) c.with_out.ensures.globals
+    let four = c.in_ok-command-5.ensures.globals ∙ c.in_ok-command-4.ensures.globals ∙ two in
+    IfOk-weaker c.with_text-2.result _ _ (λ r h. h ∙ four) c.with_text-2.ensures.globals

@@ -1,10 +1,11 @@
 use Rattle.std.proofs.Common.{arith}
 use Rattle.std.proofs.lemmas.Grind.{common_steps}
-use Rattle.std.proofs.Common.{◌≡◌, ap, ◌∙◌}
+use Rattle.std.proofs.Common.{◌≡◌, Some, None, ap, map, string_bytes, sym, ◌∙◌}
 use Rattle.csdf_tool.specs.CommandLine.{Moves, Ask, Explain, Run, asked_view}
 use Rattle.csdf_tool.specs.CommandLine.{Input as NoWords}
 use Rattle.csdf_tool.specs.declared.command.Request.TheVariants.{Input}
-use Rattle.csdf_tool.proofs.EndLemmas.{at_zero, carried_as, lined, refused, refused_as, input_refused}
+use Rattle.csdf_tool.proofs.EndLemmas.{at_zero, carried_as, lined, one_asked, refused, refused_as, input_refused}
+use Rattle.csdf_tool.proofs.EndLemmas.{roomless_ends, taken_not_two, unread_ends}
 use Rattle.csdf_tool.proofs.program.run_words.Goals as goal
 
 pub returns-in-Ok-clause-lined : goal.returns-in-Ok-clause-lined
@@ -13,46 +14,46 @@ returns-in-Ok-clause-lined g c = lined _ c.status_after.ensures.ends
 pub returns-in-Ok-clause-moves : goal.returns-in-Ok-clause-moves
 returns-in-Ok-clause-moves g c = λ path taken asks zero.
     at_zero c.carry_out.result _ c.status_after.ensures.ends zero
-    (carried_as (g.I.Intake.left c.args.reader.now) c.carry_out.result (Moves path) (c.in-Ok.ensures.asked ∙ asks) (g.O.Outlet.written c.args.out.now) _
+    (carried_as (g.I.Intake.left c.args.reader.now) c.carry_out.result (Moves path) (one_asked c.in-Ok.ensures.asked asks) (g.O.Outlet.written c.args.out.now) _
     c.carry_out.ensures.carried)
 
 pub returns-in-Ok-clause-moves_refused : goal.returns-in-Ok-clause-moves_refused
 returns-in-Ok-clause-moves_refused g c = λ path asks one.
     refused c.carry_out.result _ c.status_after.ensures.ends one
-    (refused_as (g.I.Intake.left c.args.reader.now) c.carry_out.result (Moves path) (c.in-Ok.ensures.asked ∙ asks) c.carry_out.ensures.refused)
+    (refused_as (g.I.Intake.left c.args.reader.now) c.carry_out.result (Moves path) (one_asked c.in-Ok.ensures.asked asks) c.carry_out.ensures.refused)
 
 pub returns-in-Ok-clause-told : goal.returns-in-Ok-clause-told
 returns-in-Ok-clause-told g c = λ question path taken asks zero.
     at_zero c.carry_out.result _ c.status_after.ensures.ends zero
-    (carried_as (g.I.Intake.left c.args.reader.now) c.carry_out.result (Ask question path) (c.in-Ok.ensures.asked ∙ asks) (g.O.Outlet.written c.args.out.now) _
+    (carried_as (g.I.Intake.left c.args.reader.now) c.carry_out.result (Ask question path) (one_asked c.in-Ok.ensures.asked asks) (g.O.Outlet.written c.args.out.now) _
     c.carry_out.ensures.carried)
 
 pub returns-in-Ok-clause-told_refused : goal.returns-in-Ok-clause-told_refused
 returns-in-Ok-clause-told_refused g c = λ question path asks one.
     refused c.carry_out.result _ c.status_after.ensures.ends one
-    (refused_as (g.I.Intake.left c.args.reader.now) c.carry_out.result (Ask question path) (c.in-Ok.ensures.asked ∙ asks) c.carry_out.ensures.refused)
+    (refused_as (g.I.Intake.left c.args.reader.now) c.carry_out.result (Ask question path) (one_asked c.in-Ok.ensures.asked asks) c.carry_out.ensures.refused)
 
 pub returns-in-Ok-clause-explained : goal.returns-in-Ok-clause-explained
 returns-in-Ok-clause-explained g c = λ path taken asks zero.
     at_zero c.carry_out.result _ c.status_after.ensures.ends zero
-    (carried_as (g.I.Intake.left c.args.reader.now) c.carry_out.result (Explain path) (c.in-Ok.ensures.asked ∙ asks) (g.O.Outlet.written c.args.out.now) _
+    (carried_as (g.I.Intake.left c.args.reader.now) c.carry_out.result (Explain path) (one_asked c.in-Ok.ensures.asked asks) (g.O.Outlet.written c.args.out.now) _
     c.carry_out.ensures.carried)
 
 pub returns-in-Ok-clause-explained_refused : goal.returns-in-Ok-clause-explained_refused
 returns-in-Ok-clause-explained_refused g c = λ path asks one.
     refused c.carry_out.result _ c.status_after.ensures.ends one
-    (refused_as (g.I.Intake.left c.args.reader.now) c.carry_out.result (Explain path) (c.in-Ok.ensures.asked ∙ asks) c.carry_out.ensures.refused)
+    (refused_as (g.I.Intake.left c.args.reader.now) c.carry_out.result (Explain path) (one_asked c.in-Ok.ensures.asked asks) c.carry_out.ensures.refused)
 
 pub returns-in-Ok-clause-ran : goal.returns-in-Ok-clause-ran
 returns-in-Ok-clause-ran g c = λ order taken asks zero.
     at_zero c.carry_out.result _ c.status_after.ensures.ends zero
-    (carried_as (g.I.Intake.left c.args.reader.now) c.carry_out.result (Run order) (c.in-Ok.ensures.asked ∙ asks) (g.O.Outlet.written c.args.out.now) _
+    (carried_as (g.I.Intake.left c.args.reader.now) c.carry_out.result (Run order) (one_asked c.in-Ok.ensures.asked asks) (g.O.Outlet.written c.args.out.now) _
     c.carry_out.ensures.carried)
 
 pub returns-in-Ok-clause-ran_refused : goal.returns-in-Ok-clause-ran_refused
 returns-in-Ok-clause-ran_refused g c = λ order asks one.
     refused c.carry_out.result _ c.status_after.ensures.ends one
-    (refused_as (g.I.Intake.left c.args.reader.now) c.carry_out.result (Run order) (c.in-Ok.ensures.asked ∙ asks) c.carry_out.ensures.refused)
+    (refused_as (g.I.Intake.left c.args.reader.now) c.carry_out.result (Run order) (one_asked c.in-Ok.ensures.asked asks) c.carry_out.ensures.refused)
 
 pub returns-in-Ok-clause-played : goal.returns-in-Ok-clause-played
 returns-in-Ok-clause-played g c = λ none zero.
@@ -70,10 +71,22 @@ returns-in-Ok-clause-faulty g c = λ none one.
     (input_refused c.carry_out.result _ (refused_as (g.I.Intake.left c.args.reader.now) c.carry_out.result NoWords (ap asked_view input) c.carry_out.ensures.refused))
 
 pub returns-in-Err-clause-taken : goal.returns-in-Err-clause-taken
-returns-in-Err-clause-taken g c = grind (arith, common_steps)
+returns-in-Err-clause-taken g c =
+    taken_not_two (map string_bytes c.args.words.now) c.in-Err.unread c.in-Err.ensures.unread c.status_of_words.ensures.ends
+
+pub returns-in-Err-clause-roomless : goal.returns-in-Err-clause-roomless
+returns-in-Err-clause-roomless g c = λ taken none.
+    roomless_ends (map string_bytes c.args.words.now) c.in-Err.unread c.in-Err.ensures.unread c.status_of_words.ensures.ends taken
+
+pub returns-in-Ok-clause-roomless : goal.returns-in-Ok-clause-roomless
+returns-in-Ok-clause-roomless g c = λ taken none.
+    let asks = c.in-Ok.ensures.asked in
+    let no : None ≡ Some (asked_view c.in-Ok.request) = sym none ∙ asks in
+    absurd (cc)
 
 pub returns-in-Err-clause-unread : goal.returns-in-Err-clause-unread
-returns-in-Err-clause-unread g c = grind (arith, common_steps)
+returns-in-Err-clause-unread g c =
+    unread_ends (map string_bytes c.args.words.now) c.in-Err.unread c.in-Err.ensures.unread c.status_of_words.ensures.ends
 
 pub returns-in-Ok-clause-refused : goal.returns-in-Ok-clause-refused
 returns-in-Ok-clause-refused g c = grind (arith, common_steps)
