@@ -1,5 +1,5 @@
 #!/usr/bin/env python3
-"""Sees that what README, docs/GUIDE and docs/FORMATS show of the program is what it prints.
+"""Sees that what the READMEs, docs/GUIDE and docs/FORMATS show of the program is what it prints.
 
 usage: told.py PROGRAM        prints what is wrong, a line each; nothing where all is well
 
@@ -102,6 +102,19 @@ def readme() -> None:
             if "/" not in line and line not in told.splitlines():
                 say(f"README: {command}: {line} is not in\n{told}")
     see(13, len(answer("schedule", small / "graph.toml").splitlines()), "README: the firings of a period")
+
+
+def examples() -> None:
+    document = next((TOP / "examples").glob("README*")).read_text()
+    told = answer("moves", TOP / "examples" / "pair.toml").splitlines()
+    shows(document, "\n".join(told[:4]), "examples: the script of pair.toml")
+    see(20, len(told), "examples: its replies")
+    folders = re.findall(r"^\| `(\w+)(\.toml)?` .*\| ([\d ]+) \|$", document, re.M)
+    for name, file, vector in folders:
+        told = answer("repetition", TOP / "examples" / (name + (file or "/graph.toml")))
+        see(vector.split(), [line.split()[1] for line in told.splitlines()], f"examples: the vector of {name}")
+    if len(folders) < 7:
+        say(f"examples: vectors of {folders} alone")
 
 
 def guide_excerpts() -> None:
@@ -211,6 +224,7 @@ def formats_explanations() -> None:
 
 def main() -> None:
     readme()
+    examples()
     guide_excerpts()
     guide_answers()
     guide_runs()
