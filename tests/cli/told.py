@@ -127,6 +127,19 @@ def guide_excerpts() -> None:
                 say(f"GUIDE: no example has {table}")
 
 
+def guide_patterns() -> None:
+    """What comes out of two copies is what one actor makes."""
+    folder = TOP / "examples" / "two_copies"
+    alone = ROOM / "alone.toml"
+    alone.write_text(
+        'actor = [{ name = "src", kernel = "source" }, { name = "snk", kernel = "sink" },\n'
+        '  { name = "all", kernel = "fir", weights = [4, 3, 2, 1], shift = 0 }]\n'
+        'channel = [{ name = "x", from = "src", to = "all", produce = [4], consume = [4] },\n'
+        '  { name = "y", from = "all", to = "snk", produce = [1], consume = [1] }]\n'
+    )
+    see(run(alone, "--periods", "6", folder=folder)[1], run(folder / "graph.toml", "--periods", "3", folder=folder)[1], "GUIDE: two copies")
+
+
 def guide_answers() -> None:
     graph = METER / "graph.toml"
     for command in ("repetition", "capacity"):
@@ -226,6 +239,7 @@ def main() -> None:
     readme()
     examples()
     guide_excerpts()
+    guide_patterns()
     guide_answers()
     guide_runs()
     formats_cells()
