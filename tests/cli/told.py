@@ -184,6 +184,20 @@ def guide_runs() -> None:
     see(whole + run(graph, "--periods", "4")[0], answer("run", graph, METER, "--periods", "4", "--out", live), "GUIDE: a link to standard output")
 
 
+def guide_room() -> None:
+    graph = METER / "graph.toml"
+    told, files = run(graph, "--periods", "4", "--room", "4")
+    see({"meter.out": lines(35, 87, 63, 31)}, files, "GUIDE: a run with room")
+    see(["ending complete", "left written 16 taken 16 held 0"], [told.splitlines()[0], told.splitlines()[2].split(" peak")[0]], "GUIDE: its report")
+    branches = TOP / "examples" / "two_branches"
+    for words, many in (([], 3), (["--room", "3"], 5), (["--room", "4"], 6), (["--room", "auto"], 6)):
+        files = run(branches / "graph.toml", "--periods", "6", *words, folder=branches)[1]
+        see({"snk.out": lines(11, 22), "tap.out": lines(*range(1, many + 1))}, files, f"GUIDE: two branches {words}")
+    few = edited(branches / "graph.toml", top="cells = 5\n")
+    for words, ending in (([], "dry"), (["--room", "6"], "starved")):
+        see(ending, run(few, "--periods", "6", *words, folder=branches)[0].split()[1], f"GUIDE: five cells {words}")
+
+
 def formats_cells() -> None:
     graph = graph_in(FORMATS, "### Cells")
     told = answer("moves", graph).splitlines()
@@ -242,6 +256,7 @@ def main() -> None:
     guide_patterns()
     guide_answers()
     guide_runs()
+    guide_room()
     formats_cells()
     formats_capacities()
     formats_kernels()
