@@ -136,16 +136,24 @@ echo "fn main() { edited }" > "$launched/crates/csdf/edit"
 echo "fn main() { }  " > "$main"
 launch "a source that is edited while it is built" 7 5 "$room/words_told" "$room/built" with_rt
 launch "the edit is built" 7 6 "$room/words_told" "$room/built" with_rt
+echo > "$launched/crates/csdf/src/more.rt"
+launch "a source more" 7 7 "$room/words_told" "$room/built" with_rt
+mv "$launched/crates/csdf/src/more.rt" "$room/more.rt"
+launch "a source that is gone" 7 8 "$room/words_told" "$room/built" with_rt
+echo "fn main() { other }" > "$room/other.rt"
+touch -r "$main" "$room/other.rt"
+cp -p "$room/other.rt" "$main"
+launch "a source in place of one of its time" 7 9 "$room/words_told" "$room/built" with_rt
 echo > "$launched/crates/csdf/src/bad.rt"
-launch "a build that fails" 3 6 /dev/null "$room/begun" with_rt
+launch "a build that fails" 3 9 /dev/null "$room/begun" with_rt
 rm "$launched/crates/csdf/src/bad.rt"
 mkdir -p "$launched/completions" "$launched/docs"
 cp "$top"/completions/* "$launched/completions/"
 cp "$top/docs/csdf.1" "$launched/docs/"
 echo "csdf: installed under $room/prefix" > "$room/installed"
-launch "install" 0 6 /dev/null "$room/installed" with_rt --install "$room/prefix"
+launch "install" 0 9 /dev/null "$room/installed" with_rt --install "$room/prefix"
 echo "csdf: usage: ./csdf --install PREFIX" > "$room/usage"
-launch "install, and not where" 2 6 /dev/null "$room/usage" with_rt --install
+launch "install, and not where" 2 9 /dev/null "$room/usage" with_rt --install
 (cd "$room/prefix" && find . -type f | LC_ALL=C sort) > "$room/out"
 "$room/prefix/bin/csdf" three >> "$room/out"
 status="$?"
