@@ -489,7 +489,7 @@ impl Book {
     }
 
     /// Makes room for the actor's next n firings, which read so many tokens, and the closing of its
-    /// outputs. The journal is not kept.
+    /// outputs.
     fn make_room_for(
         &mut self,
         alloc: Global,
@@ -628,36 +628,6 @@ impl Book {
         Ok(())
     }
 
-    /// Makes some of the actor's next firings, of which the first may begin: at least one, and at most
-    /// so many. It makes one where no block can be had.
-    pub(crate) fn make_some(
-        &mut self,
-        actor: u32,
-        most: u32,
-        counts: &mut Counts,
-        outputs: &mut Outputs,
-    ) -> Result<u32, AllocError>
-        requires exists { actor < length self.old.shown.core.plan.sources }
-        requires idle { stage self.old.shown.core.now actor ≡ Idle }
-        requires accepted { refusal self.old.shown.core.plan self.old.shown.core.now (Begin actor) ≡ None }
-        requires some { 0 < most }
-        ensures some { IfOk result (λ n. 0 < n) }
-        ensures most { IfOk result (λ n. n ≤ most) }
-        ensures made { IfOk result (λ n. HasMade self.old.shown self.new.shown actor n (made_moves self.old.shown actor n)) }
-        ensures room { OnOk result (length (outputs_at self.old.shown.core.plan.channels actor) ≤ self.new.room) }
-        ensures unchanged { OnErr result (self.new.shown ≡ self.old.shown) }
-        ensures room_stays { OnErr result (self.old.room ≤ self.new.room) }
-    {
-        let block = self.block(actor, most);
-        let n = block.firings;
-        if n == 0 {
-            self.make_one(actor, counts, outputs)?;
-            return Ok(1);
-        }
-        self.make(actor, n, block.needed as usize, counts, outputs)?;
-        Ok(n)
-    }
-
     /// Whether the actor's next firing may begin.
     fn may_begin(&self, actor: u32) -> bool
         ensures { IsTrue result ↔ (refusal self.now.shown.core.plan self.now.shown.core.now (Begin actor) ≡ None) }
@@ -666,8 +636,8 @@ impl Book {
         self.core.can_begin(actor).is_ok()
     }
 
-    /// Makes some of the actor's next firings, at most so many. It makes none where the next one may not
-    /// begin, or memory runs out.
+    /// Makes the actor's next firing and tells 1, or 0 where none more is wanted, it may not begin, or memory
+    /// runs out: then nothing is made.
     fn make_more(
         &mut self,
         actor: u32,
@@ -687,15 +657,15 @@ impl Book {
         if most == 0 || !self.may_begin(actor) {
             return 0;
         }
-        match self.make_some(actor, most, counts, outputs) {
-            Ok(n) => n,
+        match self.make_one(actor, counts, outputs) {
+            Ok(()) => 1,
             Err(_error) => 0,
         }
     }
 
-    /// Makes the actor's next firings, of which the first may begin, until so many are made or the next
-    /// one may not begin. It makes fewer where memory runs out after the first.
-    pub(crate) fn make_many(
+    /// Makes the actor's next firings one by one, of which the first may begin, until so many are made or
+    /// the next one may not begin. It makes fewer where memory runs out after the first.
+    fn make_singly(
         &mut self,
         actor: u32,
         most: u32,
@@ -713,7 +683,8 @@ impl Book {
         ensures unchanged { OnErr result (self.new.shown ≡ self.old.shown) }
     {
         let _ = &self.work;
-        let mut made = self.make_some(actor, most, counts, outputs)?;
+        self.make_one(actor, counts, outputs)?;
+        let mut made = 1;
         for _firing in 1..most {
             let more = self.make_more(actor, most - made, counts, outputs);
             if more == 0 {
@@ -722,6 +693,35 @@ impl Book {
             made += more;
         }
         Ok(made)
+    }
+
+    /// Makes the actor's next firings, of which the first may begin, until so many are made or the next
+    /// one may not begin: as one block, or one by one where no block can be had, and then fewer where
+    /// memory runs out after the first.
+    pub(crate) fn make_many(
+        &mut self,
+        actor: u32,
+        most: u32,
+        counts: &mut Counts,
+        outputs: &mut Outputs,
+    ) -> Result<u32, AllocError>
+        requires exists { actor < length self.old.shown.core.plan.sources }
+        requires idle { stage self.old.shown.core.now actor ≡ Idle }
+        requires accepted { refusal self.old.shown.core.plan self.old.shown.core.now (Begin actor) ≡ None }
+        requires some { 0 < most }
+        ensures some { IfOk result (λ n. 0 < n) }
+        ensures most { IfOk result (λ n. n ≤ most) }
+        ensures made { IfOk result (λ n. HasMade self.old.shown self.new.shown actor n (made_moves self.old.shown actor n)) }
+        ensures room { OnOk result (length (outputs_at self.old.shown.core.plan.channels actor) ≤ self.new.room) }
+        ensures unchanged { OnErr result (self.new.shown ≡ self.old.shown) }
+    {
+        let block = self.block(actor, most);
+        let n = block.firings;
+        if n == 0 {
+            return self.make_singly(actor, most, counts, outputs);
+        }
+        self.make(actor, n, block.needed as usize, counts, outputs)?;
+        Ok(n)
     }
 
     /// Closes the channel, whose producer is idle and makes no firing more.

@@ -5,7 +5,7 @@ use Rattle.csdf_floor.specs.Floor.{FloorView}
 use Rattle.csdf_floor.specs.Inside.{BookView, IsBook}
 use Rattle.csdf_floor.specs.Making.{HasMade, made_moves}
 use Rattle.csdf_floor.proofs.MoreFirings.{made_more}
-use Rattle.csdf_floor.proofs.book.Book.make_many.Goals as goal
+use Rattle.csdf_floor.proofs.book.Book.make_singly.Goals as goal
 
 pub loop-firing-preserved : goal.loop-firing-preserved
 loop-firing-preserved c =

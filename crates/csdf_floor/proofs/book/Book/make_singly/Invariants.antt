@@ -1,7 +1,7 @@
 use Rattle.std.proofs.Common.{◌≤◌, ◌<◌, length}
 use Rattle.csdf_core.specs.Ports.{outputs_at}
 use Rattle.csdf_floor.specs.Making.{HasMade, made_moves}
-use Rattle.csdf_floor.proofs.book.Book.make_many.Given as goal
+use Rattle.csdf_floor.proofs.book.Book.make_singly.Given as goal
 
 abbrev pub invariant-loop-firing : goal.invariant-loop-firing
 invariant-loop-firing l = record {
