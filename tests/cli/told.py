@@ -184,6 +184,13 @@ def guide_runs() -> None:
     see(whole + run(graph, "--periods", "4")[0], answer("run", graph, METER, "--periods", "4", "--out", live), "GUIDE: a link to standard output")
 
 
+def guide_costs() -> None:
+    (ROOM / "cd.in").write_text(lines(*range(1, 147001)))
+    told, files = run(TOP / "examples" / "cd_to_dat" / "graph.toml", "--periods", "1000", folder=ROOM)
+    shows(GUIDE, told.splitlines()[-1], "GUIDE: the long run")
+    see(160000, len(files.get("dat.out", "").splitlines()), "GUIDE: what it writes")
+
+
 def guide_room() -> None:
     graph = METER / "graph.toml"
     told, files = run(graph, "--periods", "4", "--room", "4")
@@ -256,6 +263,7 @@ def main() -> None:
     guide_patterns()
     guide_answers()
     guide_runs()
+    guide_costs()
     guide_room()
     formats_cells()
     formats_capacities()
