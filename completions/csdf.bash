@@ -12,7 +12,7 @@ _csdf() {
     "run --workers") mapfile -t COMPREPLY < <(compgen -W "1 2 3 4 5 6 7 8" -- "$word") ;;
     "run --periods" | "run --firings") ;;
     "run --out") mapfile -t COMPREPLY < <(compgen -d -- "$word") ;;
-    "run --room") mapfile -t COMPREPLY < <(compgen -W auto -- "$word") ;;
+    *" --room") mapfile -t COMPREPLY < <(compgen -W auto -- "$word") ;;
     help\ *) mapfile -t COMPREPLY < <(compgen -W \
       "run moves check repetition schedule capacity dot explain" -- "$word") ;;
     *)
@@ -21,6 +21,8 @@ _csdf() {
       elif [[ "$command" == run ]]; then
         mapfile -t COMPREPLY < <(compgen -W \
           "--workers --periods --firings --out --room --help" -- "$word")
+      elif [[ "$command" =~ ^(schedule|capacity|dot)$ ]]; then
+        mapfile -t COMPREPLY < <(compgen -W "--room --help" -- "$word")
       else
         mapfile -t COMPREPLY < <(compgen -W "--help" -- "$word")
       fi

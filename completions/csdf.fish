@@ -16,4 +16,4 @@ complete -c csdf -n "__fish_seen_subcommand_from run" -x -l workers -a "1 2 3 4 
 complete -c csdf -n "__fish_seen_subcommand_from run" -x -l periods -d "How many periods to run, 1 to 1000"
 complete -c csdf -n "__fish_seen_subcommand_from run" -x -l firings -d "The most firings of all actors, 0 to 1048576000"
 complete -c csdf -n "__fish_seen_subcommand_from run" -x -l out -a "(__fish_complete_directories)" -d "The folder that the files of the sinks are written to"
-complete -c csdf -n "__fish_seen_subcommand_from run" -x -l room -a auto -d "Room for so many periods, 1 to 65535, or auto"
+complete -c csdf -n "__fish_seen_subcommand_from run schedule capacity dot" -x -l room -a auto -d "Room for so many periods, 1 to 65535, or auto"

@@ -10,6 +10,8 @@ use Rattle.csdf_analysis.specs.declared.fault.AcceptFault.TheVariants as accept
 use Rattle.csdf_analysis.specs.Acceptance.{Accepted, IsAccepted, cells_of}
 use Rattle.csdf_analysis.specs.Period.{IsScheduleOf}
 use Rattle.csdf_analysis.specs.Repetition.{IsRepetition, IsRefused}
+use Rattle.csdf_analysis.specs.declared.room.Room.{Room}
+use Rattle.csdf_analysis.specs.Room.{IsWithRoom}
 use Rattle.csdf_answers.specs.declared.fault.ToolFault.{ToolFault}
 use Rattle.csdf_answers.specs.declared.question.Question.{Question}
 use Rattle.csdf_answers.specs.declared.question.Question.TheVariants as question
@@ -64,10 +66,10 @@ abbrev pub ByRepetition : Graph → (List ℕ → List ℕ → List ℕ) → Res
 ByRepetition g text_of (Ok text) = (r : List ℕ) × (q : List ℕ) × IsRepetition g.actors g.channels r q × (text ≡ text_of r q)
 ByRepetition g text_of (Err fault) = RefusesRepetition g fault
 
--- what is told of the graph as accepted, or why it is not
-abbrev pub ByAcceptance : Graph → (Accepted → List ℕ → Type 0) → Result (List ℕ) ToolFault → Type 0
-ByAcceptance g Tells (Ok text) = (a : Accepted) × IsAccepted a × (a.graph ≡ g) × Tells a text
-ByAcceptance g Tells (Err fault) = RefusesGraph g fault
+-- what is told of the graph as accepted with this room, or why it is not
+abbrev pub ByAcceptance : Room → Graph → (Accepted → List ℕ → Type 0) → Result (List ℕ) ToolFault → Type 0
+ByAcceptance room g Tells (Ok text) = (a : Accepted) × IsAccepted a × IsWithRoom room a.q g a.graph × Tells a text
+ByAcceptance room g Tells (Err fault) = RefusesGraph g fault
 
 -- the text is the schedule of a period
 abbrev pub TellsSchedule : Accepted → List ℕ → Type 0
@@ -87,25 +89,25 @@ IsCheck g = ByRepetition g (λ r q. check_text (length g.actors) (length g.chann
 abbrev pub IsRepetitionTold : Graph → Result (List ℕ) ToolFault → Type 0
 IsRepetitionTold g = ByRepetition g (λ r q. repetition_text r q (enumerate_from 0 (actor_names g.actors)))
 
-abbrev pub IsScheduleTold : Graph → Result (List ℕ) ToolFault → Type 0
-IsScheduleTold g = ByAcceptance g TellsSchedule
+abbrev pub IsScheduleTold : Room → Graph → Result (List ℕ) ToolFault → Type 0
+IsScheduleTold room g = ByAcceptance room g TellsSchedule
 
-abbrev pub IsCapacityTold : Graph → Result (List ℕ) ToolFault → Type 0
-IsCapacityTold g = ByAcceptance g TellsCapacity
+abbrev pub IsCapacityTold : Room → Graph → Result (List ℕ) ToolFault → Type 0
+IsCapacityTold room g = ByAcceptance room g TellsCapacity
 
-abbrev pub IsDotTold : Graph → Result (List ℕ) ToolFault → Type 0
-IsDotTold g = ByAcceptance g TellsDot
+abbrev pub IsDotTold : Room → Graph → Result (List ℕ) ToolFault → Type 0
+IsDotTold room g = ByAcceptance room g TellsDot
 
--- the answer to a question about a graph, or its first fault
-abbrev pub IsTold : Question → Graph → Result (List ℕ) ToolFault → Type 0
-IsTold question.Check g = IsCheck g
-IsTold question.Repetition g = IsRepetitionTold g
-IsTold question.Schedule g = IsScheduleTold g
-IsTold question.Capacity g = IsCapacityTold g
-IsTold question.Dot g = IsDotTold g
+-- the answer to a question about a graph, with this room where it is accepted, or its first fault
+abbrev pub IsTold : Question → Room → Graph → Result (List ℕ) ToolFault → Type 0
+IsTold question.Check room g = IsCheck g
+IsTold question.Repetition room g = IsRepetitionTold g
+IsTold question.Schedule room g = IsScheduleTold room g
+IsTold question.Capacity room g = IsCapacityTold room g
+IsTold question.Dot room g = IsDotTold room g
 
 -- the answer to a question about a graph file, or its first fault: those of the file come first
-abbrev pub IsDescription : Question → List ℕ → Result (List ℕ) ToolFault → Type 0
-IsDescription question bytes answer =
+abbrev pub IsDescription : Question → Room → List ℕ → Result (List ℕ) ToolFault → Type 0
+IsDescription question room bytes answer =
     (graph : Result Graph GraphFault) × IsGraphOf bytes graph
-    × MatchResult graph (λ g. IsTold question g answer) (λ fault. answer ≡ Err (fault_of fault))
+    × MatchResult graph (λ g. IsTold question room g answer) (λ fault. answer ≡ Err (fault_of fault))

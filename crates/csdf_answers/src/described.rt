@@ -3,6 +3,7 @@
 ghost use Rattle.std.specs.Prelude.{◌≡◌, ◌≢◌, ℕ, List, true, Ok, Err, string_bytes, IfErr, IfOk, OnOk};
 ghost use Rattle.std.specs.Io.KnownBytes.{Appends};
 ghost use Rattle.csdf_analysis.specs.Repetition.{IsRepetition};
+ghost use Rattle.csdf_analysis.specs.Room.{HasSomePeriod};
 ghost use Rattle.csdf_answers.specs.Described.{RefusesRepetition, IsCheck, IsRepetitionTold, IsScheduleTold, IsCapacityTold, IsDotTold, IsTold, IsDescription};
 ghost use Rattle.csdf_answers.specs.Faults.{Tells};
 ghost use Rattle.csdf_answers.specs.declared.fault.Stream.{Stream};
@@ -11,8 +12,8 @@ use crate::drawing::dot_text;
 use crate::fault::ToolFault;
 use crate::question::{Question, capacity_text, check_text, repetition_text, schedule_text};
 use crate::sending::send;
-use crate::session::{accept_fault, accepted_of};
-use csdf_analysis::{Vector, repetition};
+use crate::session::{accept_fault, accepted_in};
+use csdf_analysis::{Room, Vector, repetition};
 use csdf_graph::{Graph, Outlet, read_graph};
 use std::alloc::Global;
 
@@ -45,55 +46,65 @@ fn repetition_of(alloc: Global, graph: &Graph) -> Result<String, ToolFault>
     Ok(text)
 }
 
-/// The schedule of a period, or why there is none.
-fn schedule_of(alloc: Global, graph: Graph) -> Result<String, ToolFault>
-    ensures { Tells string_bytes result (IsScheduleTold graph) }
+/// The schedule of a period with this room, or why there is none.
+fn schedule_of(alloc: Global, graph: &Graph, room: Room) -> Result<String, ToolFault>
+    requires { HasSomePeriod room }
+    ensures { Tells string_bytes result (IsScheduleTold room graph.now) }
 {
-    let accepted = accepted_of(alloc, graph)?;
+    let accepted = accepted_in(alloc, graph, room)?;
     let text = schedule_text(alloc, &accepted)?;
     Ok(text)
 }
 
-/// The least capacities, or why there are none.
-fn capacity_of(alloc: Global, graph: Graph) -> Result<String, ToolFault>
-    ensures { Tells string_bytes result (IsCapacityTold graph) }
+/// The capacities with this room, or why there are none.
+fn capacity_of(alloc: Global, graph: &Graph, room: Room) -> Result<String, ToolFault>
+    requires { HasSomePeriod room }
+    ensures { Tells string_bytes result (IsCapacityTold room graph.now) }
 {
-    let accepted = accepted_of(alloc, graph)?;
+    let accepted = accepted_in(alloc, graph, room)?;
     let text = capacity_text(alloc, &accepted)?;
     Ok(text)
 }
 
-/// The drawing of the graph, or why it is not accepted.
-fn dot_of(alloc: Global, graph: Graph) -> Result<String, ToolFault>
-    ensures { Tells string_bytes result (IsDotTold graph) }
+/// The drawing of the graph with this room, or why it is not accepted.
+fn dot_of(alloc: Global, graph: &Graph, room: Room) -> Result<String, ToolFault>
+    requires { HasSomePeriod room }
+    ensures { Tells string_bytes result (IsDotTold room graph.now) }
 {
-    let accepted = accepted_of(alloc, graph)?;
+    let accepted = accepted_in(alloc, graph, room)?;
     let text = dot_text(alloc, &accepted)?;
     Ok(text)
 }
 
-/// The answer to a question about a graph, or why there is none.
-fn told(alloc: Global, question: Question, graph: Graph) -> Result<String, ToolFault>
-    ensures { Tells string_bytes result (IsTold question graph) }
+/// The answer to a question about a graph with this room, or why there is none.
+fn told(alloc: Global, question: Question, graph: &Graph, room: Room) -> Result<String, ToolFault>
+    requires { HasSomePeriod room }
+    ensures { Tells string_bytes result (IsTold question room graph.now) }
 {
     match question {
-        Question::Check => check_of(alloc, &graph),
-        Question::Repetition => repetition_of(alloc, &graph),
-        Question::Schedule => schedule_of(alloc, graph),
-        Question::Capacity => capacity_of(alloc, graph),
-        Question::Dot => dot_of(alloc, graph),
+        Question::Check => check_of(alloc, graph),
+        Question::Repetition => repetition_of(alloc, graph),
+        Question::Schedule => schedule_of(alloc, graph, room),
+        Question::Capacity => capacity_of(alloc, graph, room),
+        Question::Dot => dot_of(alloc, graph, room),
     }
 }
 
-/// The answer to a question about a graph file, or its first fault.
-fn description_of(alloc: Global, question: Question, bytes: &[u8]) -> Result<String, ToolFault>
-    ensures { Tells string_bytes result (IsDescription question bytes.now) }
+/// The answer to a question about a graph file with this room, or its first fault.
+fn description_of(
+    alloc: Global,
+    question: Question,
+    bytes: &[u8],
+    room: Room,
+) -> Result<String, ToolFault>
+    requires { HasSomePeriod room }
+    ensures { Tells string_bytes result (IsDescription question room bytes.now) }
 {
     let graph = read_graph(alloc, bytes)?;
-    told(alloc, question, graph)
+    told(alloc, question, &graph, room)
 }
 
-/// Writes the answer to a question about the graph of a file.
+/// Writes the answer to a question about the graph of a file, which has its least capacities.
 ///
 /// The error is the first fault of [`read_graph`], then of [`repetition`] for
 /// [`Question::Check`] and [`Question::Repetition`] or of [`accept`](csdf_analysis::accept) for
@@ -106,16 +117,40 @@ pub fn describe<O: Outlet>(
     bytes: &[u8],
     writer: &mut O,
 ) -> Result<(), ToolFault>
-    ensures written { OnOk result ((text : List ℕ) × IsDescription question bytes.now (Ok text)
+    ensures written { OnOk result ((text : List ℕ) × IsDescription question Room.Least bytes.now (Ok text)
         × Appends (O.written writer.old) (O.written writer.new) text) }
     ensures unmarked { OnOk result (O.failed writer.new ≡ O.failed writer.old) }
     ensures refused { IfErr result (λ fault. fault ≢ ToolFault.Memory → fault ≢ ToolFault.Device Stream.Output
-        → IsDescription question bytes.now (Err fault)) }
+        → IsDescription question Room.Least bytes.now (Err fault)) }
     ensures unwritten { IfErr result (λ fault. fault ≢ ToolFault.Device Stream.Output → writer.new ≡ writer.old) }
     ensures failed { result ≡ Err (ToolFault.Device Stream.Output)
-        → ((text : List ℕ) × IsDescription question bytes.now (Ok text)) × (O.failed writer.new ≡ true) }
+        → ((text : List ℕ) × IsDescription question Room.Least bytes.now (Ok text)) × (O.failed writer.new ≡ true) }
 {
-    let text = description_of(alloc, question, bytes)?;
+    describe_with_room(alloc, question, bytes, Room::Least, writer)
+}
+
+/// As [`describe`], where the channels that have no capacity in the file have this room.
+///
+/// It is the room of the schedule, the capacities and the drawing; the other answers need none. The
+/// errors are those of [`describe`]: room is no cause of one.
+pub fn describe_with_room<O: Outlet>(
+    alloc: Global,
+    question: Question,
+    bytes: &[u8],
+    room: Room,
+    writer: &mut O,
+) -> Result<(), ToolFault>
+    requires { HasSomePeriod room }
+    ensures written { OnOk result ((text : List ℕ) × IsDescription question room bytes.now (Ok text)
+        × Appends (O.written writer.old) (O.written writer.new) text) }
+    ensures unmarked { OnOk result (O.failed writer.new ≡ O.failed writer.old) }
+    ensures refused { IfErr result (λ fault. fault ≢ ToolFault.Memory → fault ≢ ToolFault.Device Stream.Output
+        → IsDescription question room bytes.now (Err fault)) }
+    ensures unwritten { IfErr result (λ fault. fault ≢ ToolFault.Device Stream.Output → writer.new ≡ writer.old) }
+    ensures failed { result ≡ Err (ToolFault.Device Stream.Output)
+        → ((text : List ℕ) × IsDescription question room bytes.now (Ok text)) × (O.failed writer.new ≡ true) }
+{
+    let text = description_of(alloc, question, bytes, room)?;
     send(writer, text.as_bytes())?;
     Ok(())
 }

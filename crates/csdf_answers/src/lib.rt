@@ -18,7 +18,7 @@ mod turns;
 mod words;
 
 pub use csdf_misfits::explain_fault;
-pub use described::describe;
+pub use described::{describe, describe_with_room};
 pub use explained::explain;
 pub use fault::{Name, Stream, ToolFault, unread};
 pub use question::{Question, actor_name};

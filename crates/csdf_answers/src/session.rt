@@ -4,6 +4,7 @@ ghost use Rattle.std.specs.Prelude.{◌≡◌, ◌≢◌, length, map, replicate
 ghost use Rattle.csdf_model.specs.Graph.{actor_view};
 ghost use Rattle.csdf_graph.specs.ScriptText.{script_view};
 ghost use Rattle.csdf_analysis.specs.Acceptance.{IsAccepted};
+ghost use Rattle.csdf_analysis.specs.Room.{HasSomePeriod, IsWithRoom};
 ghost use Rattle.csdf_core.specs.Shows.{Shows};
 ghost use Rattle.csdf_core.specs.State.{opening};
 ghost use Rattle.csdf_answers.specs.Faults.{Gives, accept_fault};
@@ -14,7 +15,7 @@ ghost use Rattle.csdf_answers.specs.Session.{lines_from, supply_of, plan_in, Ref
 use crate::fault::{Name, ToolFault};
 use crate::line::{Line, line_in};
 use crate::printed::name_at;
-use csdf_analysis::{AcceptFault, Accepted, accept};
+use csdf_analysis::{AcceptFault, Accepted, Room, accept, accept_in_room};
 use csdf_core::{Core, Setup};
 use csdf_graph::{Actor, Graph, Kernel, Script};
 use std::alloc::{AllocError, Global};
@@ -72,6 +73,20 @@ pub(crate) fn accepted_of(alloc: Global, graph: Graph) -> Result<Accepted, ToolF
     match accept(alloc, graph) {
         Ok(accepted) => Ok(accepted),
         Err((graph, fault)) => Err(accept_fault(alloc, &graph, fault)?),
+    }
+}
+
+/// The graph with this room and its capacities, or why it is not accepted.
+pub(crate) fn accepted_in(alloc: Global, graph: &Graph, room: Room) -> Result<Accepted, ToolFault>
+    requires { HasSomePeriod room }
+    ensures graph { IfOk result (λ accepted. IsWithRoom room accepted.q graph.now accepted.graph) }
+    ensures accepted { IfOk result IsAccepted }
+    ensures refused { IfErr result (λ fault. fault ≢ ToolFault.Memory → RefusesGraph graph.now fault) }
+{
+    let copy = graph.try_copy(alloc)?;
+    match accept_in_room(alloc, copy, room) {
+        Ok(accepted) => Ok(accepted),
+        Err(fault) => Err(accept_fault(alloc, graph, fault)?),
     }
 }
 

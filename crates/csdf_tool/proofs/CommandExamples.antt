@@ -10,23 +10,23 @@ use Rattle.csdf_tool.specs.CommandLine.{program, asked_by, asked_with, room_in, 
 abbrev on : Text → List Text
 on command = command ∷ codes "a.toml" ∷ []
 
-check_asks : words_ask (on (codes "check")) ≡ Some (Ask Check (codes "a.toml"))
+check_asks : words_ask (on (codes "check")) ≡ Some (Ask Check Least (codes "a.toml"))
 unfolding clap_on_literals asked_by asked_with
 check_asks = refl
 
-repetition_asks : words_ask (on (codes "repetition")) ≡ Some (Ask Repetition (codes "a.toml"))
+repetition_asks : words_ask (on (codes "repetition")) ≡ Some (Ask Repetition Least (codes "a.toml"))
 unfolding clap_on_literals asked_by asked_with
 repetition_asks = refl
 
-schedule_asks : words_ask (on (codes "schedule")) ≡ Some (Ask Schedule (codes "a.toml"))
+schedule_asks : words_ask (on (codes "schedule")) ≡ Some (Ask Schedule Least (codes "a.toml"))
 unfolding clap_on_literals asked_by asked_with
 schedule_asks = refl
 
-capacity_asks : words_ask (on (codes "capacity")) ≡ Some (Ask Capacity (codes "a.toml"))
+capacity_asks : words_ask (on (codes "capacity")) ≡ Some (Ask Capacity Least (codes "a.toml"))
 unfolding clap_on_literals asked_by asked_with
 capacity_asks = refl
 
-dot_asks : words_ask (on (codes "dot")) ≡ Some (Ask Dot (codes "a.toml"))
+dot_asks : words_ask (on (codes "dot")) ≡ Some (Ask Dot Least (codes "a.toml"))
 unfolding clap_on_literals asked_by asked_with
 dot_asks = refl
 
@@ -38,6 +38,22 @@ moves_asks : words_ask (on (codes "moves")) ≡ Some (Moves (codes "a.toml"))
 unfolding clap_on_literals asked_by asked_with
 moves_asks = refl
 
+capacity_with_room_asks : words_ask (codes "capacity" ∷ codes "a.toml" ∷ codes "--room" ∷ codes "64" ∷ []) ≡ Some (Ask Capacity (Periods 64) (codes "a.toml"))
+unfolding clap_on_literals asked_by asked_with
+capacity_with_room_asks = refl
+
+schedule_with_room_asks : words_ask (codes "schedule" ∷ codes "--room=auto" ∷ codes "a.toml" ∷ []) ≡ Some (Ask Schedule Auto (codes "a.toml"))
+unfolding clap_on_literals asked_by asked_with
+schedule_with_room_asks = refl
+
+dot_with_room_asks : words_ask (codes "dot" ∷ codes "--room=1" ∷ codes "a.toml" ∷ []) ≡ Some (Ask Dot (Periods 1) (codes "a.toml"))
+unfolding clap_on_literals asked_by asked_with
+dot_with_room_asks = refl
+
+check_with_room_is_refused : takes program (codes "check" ∷ codes "a.toml" ∷ codes "--room" ∷ codes "2" ∷ []) ≡ false
+unfolding clap_on_literals
+check_with_room_is_refused = refl
+
 pub no_words_no_fault : fault_of program [] ≡ []
 unfolding clap_on_literals
 no_words_no_fault = refl
@@ -47,7 +63,7 @@ abbrev file_of : Option Asked → Text
 file_of None = []
 file_of (Some Input) = []
 file_of (Some (Moves path)) = path
-file_of (Some (Ask question path)) = path
+file_of (Some (Ask question room path)) = path
 file_of (Some (Explain path)) = path
 file_of (Some (Run order)) = order.graph
 

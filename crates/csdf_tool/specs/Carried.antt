@@ -18,7 +18,7 @@ PutsOut IsAnswerTo before after = (bytes : List ℕ) × (text : List ℕ) × IsA
 abbrev pub IsCarriedOut : Asked → Option (List ℕ) → Option (List ℕ) → Option (List ℕ) → Type 0
 IsCarriedOut Input left before after = IfSome left (λ bytes. (text : List ℕ) × IsAnswer bytes (Ok text) × Appends before after text)
 IsCarriedOut (Moves path) left before after = PutsOut IsAnswer before after
-IsCarriedOut (Ask question path) left before after = PutsOut (IsDescription question) before after
+IsCarriedOut (Ask question room path) left before after = PutsOut (IsDescription question room) before after
 IsCarriedOut (Explain path) left before after = PutsOut IsExplained before after
 IsCarriedOut (Run order) left before after = PutsOut (IsRunTold order) before after
 
@@ -31,6 +31,6 @@ pub record IsInputRefused (left : Option (List ℕ)) (fault : ToolFault) : Type 
 abbrev pub IsRefusalOf : Asked → Option (List ℕ) → ToolFault → Type 0
 IsRefusalOf Input left fault = IsInputRefused left fault
 IsRefusalOf (Moves path) left fault = IsFaultOfFile IsAnswer fault
-IsRefusalOf (Ask question path) left fault = IsFaultOfFile (IsDescription question) fault
+IsRefusalOf (Ask question room path) left fault = IsFaultOfFile (IsDescription question room) fault
 IsRefusalOf (Explain path) left fault = fault ≡ TooLong
 IsRefusalOf (Run order) left fault = IsFaultOfFile (IsRunTold order) fault

@@ -36,11 +36,15 @@ text_option name = record (new_rule name) { long = Some name; value_names = 1 }
 abbrev pub on_files : App
 on_files = with_rule (on_graph (codes "run")) (record (new_rule (codes "DIR")) { required = true })
 
+-- the option for room
+abbrev pub with_room : App → App
+with_room a = with_rule a (text_option (codes "room"))
+
 abbrev pub run_command : App
 run_command =
     let two = with_rule (with_rule on_files (number_option (codes "workers") 1 8)) (number_option (codes "periods") 1 1000) in
     let three = with_rule two (number_option (codes "firings") 0 1048576000) in
-    with_rule (with_rule three (text_option (codes "out"))) (text_option (codes "room"))
+    with_room (with_rule three (text_option (codes "out")))
 
 -- a program with a version, whose own name is not among the words
 abbrev pub no_commands : App
@@ -49,12 +53,16 @@ no_commands = on_top (λ s. record s { no_binary_name = true; has_version = true
 abbrev pub with_command : App → Text → App
 with_command a name = with_subcommand a (on_graph name).top
 
+-- the same with a command that takes room
+abbrev pub with_roomy_command : App → Text → App
+with_roomy_command a name = with_subcommand a (with_room (on_graph name)).top
+
 -- a program with the commands that answer a question or play a script
 abbrev pub with_questions : App → App
 with_questions a =
     let two = with_command (with_command a (codes "moves")) (codes "check") in
-    let four = with_command (with_command two (codes "repetition")) (codes "schedule") in
-    let six = with_command (with_command four (codes "capacity")) (codes "dot") in
+    let four = with_roomy_command (with_command two (codes "repetition")) (codes "schedule") in
+    let six = with_roomy_command (with_roomy_command four (codes "capacity")) (codes "dot") in
     with_command six (codes "explain")
 
 abbrev pub program : App
@@ -86,14 +94,14 @@ order_view o = record {
 pub data Asked : Type 0 where
   Input : Asked
   Moves : Text → Asked
-  Ask : Question → Text → Asked
+  Ask : Question → Room → Text → Asked
   Explain : Text → Asked
   Run : Order → Asked
 
 abbrev pub asked_view : Request → Asked
 asked_view request.Input = Input
 asked_view (request.Moves path) = Moves path.now
-asked_view (request.Ask question path) = Ask question path.now
+asked_view (request.Ask inquiry) = Ask inquiry.question inquiry.room inquiry.graph.now
 asked_view (request.Explain path) = Explain path.now
 asked_view (request.Run order) = Run (order_view order)
 
@@ -133,21 +141,21 @@ order_of rows room = record {
   room = room;
 }
 
--- what a command but `run` asks for with the file that it names; no other command has a file alone
-unfoldable pub asked_by : Text → Text → Asked
-asked_by name path =
-    if bytes_eq name (codes "check") then Ask Check path
-    else if bytes_eq name (codes "repetition") then Ask Repetition path
-    else if bytes_eq name (codes "schedule") then Ask Schedule path
-    else if bytes_eq name (codes "capacity") then Ask Capacity path
-    else if bytes_eq name (codes "dot") then Ask Dot path
+-- what a command but `run` asks for with this room and the file that it names; no other command has a file alone
+unfoldable pub asked_by : Text → Room → Text → Asked
+asked_by name room path =
+    if bytes_eq name (codes "check") then Ask Check room path
+    else if bytes_eq name (codes "repetition") then Ask Repetition room path
+    else if bytes_eq name (codes "schedule") then Ask Schedule room path
+    else if bytes_eq name (codes "capacity") then Ask Capacity room path
+    else if bytes_eq name (codes "dot") then Ask Dot room path
     else if bytes_eq name (codes "explain") then Explain path
     else if bytes_eq name (codes "moves") then Moves path
     else Input
 
 -- what a command asks for with the words after it, with this room
 unfoldable pub asked_with : Text → List Row → Room → Asked
-asked_with name rows room = if bytes_eq name (codes "run") then Run (order_of rows room) else asked_by name (word_of (codes "GRAPH") rows)
+asked_with name rows room = if bytes_eq name (codes "run") then Run (order_of rows room) else asked_by name room (word_of (codes "GRAPH") rows)
 
 -- what a command asks for with the words after it; nothing where they name no room
 abbrev pub asked_of : Text → List Row → Option Asked

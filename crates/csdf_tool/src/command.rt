@@ -3,13 +3,13 @@
 ghost use Rattle.std.specs.Prelude.{◌≡◌, ◌≤◌, [], true, false, map, string_bytes, Ok, IfErr, IfOk, IfSome, MatchResult};
 ghost use Rattle.clap.specs.Words.{App, app_of, fault_of, found_of, kind_of, rows_of, rule_of, subcommand_of, subcommand_rows_of, takes, with_rule, FailsBy};
 ghost use Rattle.clap.specs.declared.builder.command.Command.TheViews.{out-Command as fields_of};
-ghost use Rattle.csdf_tool.specs.CommandLine.{on_graph, on_files, run_command, number_option, no_commands, with_command, with_questions, program};
+ghost use Rattle.csdf_tool.specs.CommandLine.{on_graph, on_files, run_command, number_option, no_commands, with_command, with_questions, with_room, with_roomy_command, program};
 ghost use Rattle.csdf_analysis.specs.Room.{HasSomePeriod};
-ghost use Rattle.csdf_tool.specs.CommandLine.{asked_view, asked_by, asked_of, asked_with, asked, words_ask, IsUnread};
+ghost use Rattle.csdf_tool.specs.CommandLine.{Ask, asked_view, asked_by, asked_of, asked_with, asked, words_ask, IsUnread};
 ghost use Rattle.csdf_tool.specs.CommandLine.{number_in, number_of, order_of, order_view, room_in, room_of, text_option, word_of, word_or};
 
 use crate::help;
-use crate::order::RunOrder;
+use crate::order::{Inquiry, RunOrder};
 use clap::builder::ValueParser;
 use clap::error::ErrorKind;
 use clap::{Arg, ArgMatches, Command, Error};
@@ -25,7 +25,7 @@ pub(crate) enum Request<'a> {
     /// To play the script of this file.
     Moves(&'a str),
     /// To answer a question about the graph of this file.
-    Ask(Question, &'a str),
+    Ask(Inquiry<'a>),
     /// To explain why the graph of this file is refused.
     Explain(&'a str),
     /// To run the graph of a file.
@@ -116,6 +116,15 @@ fn with_text<'a>(
     with_arg(command, option)
 }
 
+/// A command with the option for room.
+fn with_room<'a>(alloc: Global, command: Command<'a>) -> Result<Command<'a>, AllocError>
+    ensures app { IfOk result (λ r. app_of r ≡ with_room (app_of command.entry)) }
+    ensures globals { IfOk result (λ r. (fields_of r).has_globals ≡ (fields_of command.entry).has_globals) }
+{
+    let room = "Room for so many periods: 1 to 65535, or auto; least capacities where absent";
+    with_text(alloc, command, ROOM, "M", room)
+}
+
 /// The command that runs a graph, and no option yet.
 fn on_files<'a>(alloc: Global) -> Result<Command<'a>, AllocError>
     ensures app { IfOk result (λ command. app_of command ≡ on_files) }
@@ -142,8 +151,7 @@ fn run_command<'a>(alloc: Global) -> Result<Command<'a>, AllocError>
     let command = with_option(alloc, command, FIRINGS, "F", (0, 1_048_576_000), firings)?;
     let out = "The folder that the sinks' files are written to: DIR where absent";
     let command = with_text(alloc, command, OUT, "FOLDER", out)?;
-    let room = "Room for so many periods: 1 to 65535, or auto; least capacities where absent";
-    with_text(alloc, command, ROOM, "M", room)
+    with_room(alloc, command)
 }
 
 /// The program, and no command yet.
@@ -187,6 +195,49 @@ fn then_command<'a>(
     }
 }
 
+/// A command with a graph file and the option for room.
+fn on_roomy_graph<'a>(
+    alloc: Global,
+    name: &'a str,
+    about: &'a str,
+    more: &'a str,
+) -> Result<Command<'a>, AllocError>
+    ensures app { IfOk result (λ command. app_of command ≡ with_room (on_graph name.entry.now)) }
+    ensures local { IfOk result (λ command. (fields_of command).has_globals ≡ false) }
+{
+    let command = on_graph(alloc, name, about, more)?;
+    with_room(alloc, command)
+}
+
+/// The program with one more command on a graph file, which takes room.
+fn with_roomy_command<'a>(
+    alloc: Global,
+    program: Command<'a>,
+    name: &'a str,
+    about: &'a str,
+    more: &'a str,
+) -> Result<Command<'a>, AllocError>
+    ensures { IfOk result (λ r. app_of r ≡ with_roomy_command (app_of program.entry) name.entry.now) }
+{
+    program.subcommand(on_roomy_graph(alloc, name, about, more)?)
+}
+
+/// The same, where there is a program yet.
+fn then_roomy_command<'a>(
+    alloc: Global,
+    program: Result<Command<'a>, AllocError>,
+    name: &'a str,
+    about: &'a str,
+    more: &'a str,
+) -> Result<Command<'a>, AllocError>
+    ensures { (before : App) → IfOk program.entry (λ p. app_of p ≡ before) → IfOk result (λ r. app_of r ≡ with_roomy_command before name.entry.now) }
+{
+    match program {
+        Ok(program) => with_roomy_command(alloc, program, name, about, more),
+        Err(error) => Err(error),
+    }
+}
+
 /// The program with the commands that answer a question or play a script.
 fn with_questions<'a>(alloc: Global, program: Command<'a>) -> Result<Command<'a>, AllocError>
     ensures { IfOk result (λ r. app_of r ≡ with_questions (app_of program.entry)) }
@@ -198,11 +249,11 @@ fn with_questions<'a>(alloc: Global, program: Command<'a>) -> Result<Command<'a>
     let about = "Print each actor's cycles and firings in a period";
     let program = then_command(alloc, program, "repetition", about, help::REPETITION);
     let about = "Print the actor of each firing of a period";
-    let program = then_command(alloc, program, "schedule", about, help::SCHEDULE);
+    let program = then_roomy_command(alloc, program, "schedule", about, help::SCHEDULE);
     let about = "Print the least channel capacities";
-    let program = then_command(alloc, program, "capacity", about, help::CAPACITY);
+    let program = then_roomy_command(alloc, program, "capacity", about, help::CAPACITY);
     let about = "Print the graph for Graphviz, which draws it";
-    let program = then_command(alloc, program, "dot", about, help::DOT);
+    let program = then_roomy_command(alloc, program, "dot", about, help::DOT);
     let about = "Tell why a graph is refused, or that it is accepted";
     then_command(alloc, program, "explain", about, help::EXPLAIN)
 }
@@ -224,17 +275,31 @@ fn matches_of<'a>(alloc: Global, words: &'a [String]) -> Result<ArgMatches<'a>, 
     program(alloc)?.try_get_matches_from(words)
 }
 
-/// What a command but `run` asks for with the file that it names. No other command has a file alone.
+/// A question about the graph of a file, with this room.
+fn asking<'a>(question: Question, room: Room, graph: &'a str) -> Request<'a>
+    requires { HasSomePeriod room }
+    ensures { asked_view result ≡ Ask question room graph.entry.now }
+{
+    Request::Ask(Inquiry {
+        question,
+        graph,
+        room,
+    })
+}
+
+/// What a command but `run` asks for with this room and the file that it names. No other command has
+/// a file alone.
 #[tactic(auto, unfolding(crate::specs::CommandLine::asked_by))]
-fn asked_by<'a>(command: &str, graph: &'a str) -> Request<'a>
-    ensures { asked_view result ≡ asked_by command.now graph.entry.now }
+fn asked_by<'a>(command: &str, room: Room, graph: &'a str) -> Request<'a>
+    requires { HasSomePeriod room }
+    ensures { asked_view result ≡ asked_by command.now room graph.entry.now }
 {
     match command {
-        "check" => Request::Ask(Question::Check, graph),
-        "repetition" => Request::Ask(Question::Repetition, graph),
-        "schedule" => Request::Ask(Question::Schedule, graph),
-        "capacity" => Request::Ask(Question::Capacity, graph),
-        "dot" => Request::Ask(Question::Dot, graph),
+        "check" => asking(Question::Check, room, graph),
+        "repetition" => asking(Question::Repetition, room, graph),
+        "schedule" => asking(Question::Schedule, room, graph),
+        "capacity" => asking(Question::Capacity, room, graph),
+        "dot" => asking(Question::Dot, room, graph),
         "explain" => Request::Explain(graph),
         "moves" => Request::Moves(graph),
         _ => Request::Input,
@@ -343,7 +408,7 @@ fn asked_with<'a>(command: &str, arguments: &ArgMatches<'a>, room: Room) -> Requ
 {
     match command {
         "run" => Request::Run(order_of(arguments, room)),
-        _ => asked_by(command, word_of(arguments, GRAPH)),
+        _ => asked_by(command, room, word_of(arguments, GRAPH)),
     }
 }
 

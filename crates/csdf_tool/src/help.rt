@@ -65,8 +65,9 @@ prints 'src 2 4' where the source src has two phases and makes four firings in a
 
 pub(crate) const SCHEDULE: &str = "\
 Prints an actor on each line, firing after firing: at each place the first one in file order that
-is able to fire under the least capacities and has firings of the period left. There are as many
-cells as these capacities add up to: with fewer, a run may end starved.
+is able to fire under the least capacities, or those of a run with --room, and has firings of the
+period left. There are as many cells as these capacities add up to: with fewer, a run may end
+starved.
 
 Exit status: 0 answered, 1 the graph or its file was refused, as by csdf capacity, 2 these words
 were, 3 a file or memory failed.
@@ -84,6 +85,9 @@ Least is lexicographically, in file order: the first channel gets the least capa
 have, then the second one, and so on. The total need not be the least: with the channels in another
 order it may be less.
 
+With --room the capacities are those of a run with it: each channel that has no capacity in the file
+has room for its initial tokens and those of M periods, at most for 65535 tokens.
+
 Exit status: 0 it can, 1 it cannot or is too large, or the file was refused, 2 these words were,
 3 a file or memory failed.
 
@@ -91,8 +95,9 @@ Example: csdf capacity graph.toml
 prints 'NAME capacity' for each channel, and 'cells N' for the cells that all of them share.";
 
 pub(crate) const DOT: &str = "\
-Prints the graph with the firings of a period and the least capacities, in the language DOT. A dot
-stands for a token that a channel begins with, or for as many as the number before it says.
+Prints the graph with the firings of a period and the least capacities, or those of a run with
+--room, in the language DOT. A dot stands for a token that a channel begins with, or for as many as
+the number before it says.
 
 Exit status: 0 answered, 1 the graph or its file was refused, as by csdf capacity, 2 these words
 were, 3 a file or memory failed.

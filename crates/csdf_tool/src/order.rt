@@ -1,10 +1,22 @@
-//! What the command to run asks for.
+//! What the commands ask for that take more than a file.
 
 ghost use Rattle.std.specs.Prelude.{◌≤◌};
 ghost use Rattle.csdf_analysis.specs.Room.{HasSomePeriod};
 ghost use Rattle.csdf_tool.specs.Rooms.{HasSomePeriod-prop};
 
 use csdf_analysis::Room;
+use csdf_answers::Question;
+
+/// A question about the graph of a file.
+#[derive(Clone, Copy)]
+pub(crate) struct Inquiry<'a> {
+    pub(crate) question: Question,
+    /// The graph file.
+    pub(crate) graph: &'a str,
+    /// The room of the channels that have no capacity in the file.
+    pub(crate) room: Room,
+    ghost some_room: { HasSomePeriod room } by { HasSomePeriod-prop room },
+}
 
 /// A run of the graph of a file over the token files of a folder, to files of a folder.
 #[derive(Clone, Copy)]

@@ -5,6 +5,7 @@ ghost use Rattle.std.specs.Io.KnownBytes.{Appends};
 ghost use Rattle.clap.specs.Words.{fault_of, kind_of, takes};
 ghost use Rattle.csdf_tool.specs.CommandLine.{program, asked_view, words_ask, Moves, Ask, Explain, Order, Run};
 ghost use Rattle.csdf_tool.specs.Carried.{IsCarriedOut, IsRefusalOf};
+ghost use Rattle.csdf_analysis.specs.declared.room.Room.{Room};
 ghost use Rattle.csdf_answers.specs.Described.{IsDescription};
 ghost use Rattle.csdf_answers.specs.declared.question.Question.{Question};
 ghost use Rattle.csdf_tool.specs.Ends.{Ended, EndsAs, EndsBy, EndsFor, EndsForOneOf, EndsUnread, IsFaultOfFile, IsFaultOfInput};
@@ -18,7 +19,7 @@ use crate::files::file_bytes;
 use crate::run_files::run_files;
 use clap::Error;
 use clap::error::ErrorKind;
-use csdf_answers::{Stream, ToolFault, describe, explain, play_script, unread};
+use csdf_answers::{Stream, ToolFault, describe_with_room, explain, play_script, unread};
 use csdf_graph::{Intake, Outlet, read_bytes, write_bytes};
 use std::alloc::Global;
 use std::fmt;
@@ -64,7 +65,10 @@ fn carry_out<R: Files + AllocGlobal + Threads + Wait + Sync, I: Intake, O: Outle
     match request {
         Request::Input => play_input(alloc, reader, out),
         Request::Moves(path) => play_script(alloc, &file_bytes(rt, path)?, out),
-        Request::Ask(question, path) => describe(alloc, question, &file_bytes(rt, path)?, out),
+        Request::Ask(inquiry) => {
+            let bytes = file_bytes(rt, inquiry.graph)?;
+            describe_with_room(alloc, inquiry.question, &bytes, inquiry.room, out)
+        }
         Request::Explain(path) => explain(alloc, &file_bytes(rt, path)?, out),
         Request::Run(order) => run_files(rt, order, out),
     }
@@ -201,9 +205,9 @@ pub fn run_words<R: Files + AllocGlobal + Threads + Wait + Sync, I: Intake, O: O
     ensures moves { (path : List ℕ) → takes program (map string_bytes words.now) ≡ true
         → words_ask (map string_bytes words.now) ≡ Some (Moves path) → result ≡ 0
         → (bytes text : List ℕ) × IsAnswer bytes (Ok text) × Appends (O.written out.old) (O.written out.new) text }
-    ensures told { (question : Question) (path : List ℕ) → takes program (map string_bytes words.now) ≡ true
-        → words_ask (map string_bytes words.now) ≡ Some (Ask question path) → result ≡ 0
-        → (bytes text : List ℕ) × IsDescription question bytes (Ok text) × Appends (O.written out.old) (O.written out.new) text }
+    ensures told { (question : Question) (room : Room) (path : List ℕ) → takes program (map string_bytes words.now) ≡ true
+        → words_ask (map string_bytes words.now) ≡ Some (Ask question room path) → result ≡ 0
+        → (bytes text : List ℕ) × IsDescription question room bytes (Ok text) × Appends (O.written out.old) (O.written out.new) text }
     ensures explained { (path : List ℕ) → takes program (map string_bytes words.now) ≡ true
         → words_ask (map string_bytes words.now) ≡ Some (Explain path) → result ≡ 0
         → (bytes text : List ℕ) × IsExplained bytes (Ok text) × Appends (O.written out.old) (O.written out.new) text }
@@ -212,8 +216,8 @@ pub fn run_words<R: Files + AllocGlobal + Threads + Wait + Sync, I: Intake, O: O
         → (bytes text : List ℕ) × IsRunTold order bytes (Ok text) × Appends (O.written out.old) (O.written out.new) text }
     ensures moves_refused { (path : List ℕ) → words_ask (map string_bytes words.now) ≡ Some (Moves path) → result ≡ 1
         → (fault : ToolFault) × IsFaultOfFile IsAnswer fault × EndsAs fault result (E.written err.old) (E.written err.new) (E.failed err.new) }
-    ensures told_refused { (question : Question) (path : List ℕ) → words_ask (map string_bytes words.now) ≡ Some (Ask question path) → result ≡ 1
-        → (fault : ToolFault) × IsFaultOfFile (IsDescription question) fault × EndsAs fault result (E.written err.old) (E.written err.new) (E.failed err.new) }
+    ensures told_refused { (question : Question) (room : Room) (path : List ℕ) → words_ask (map string_bytes words.now) ≡ Some (Ask question room path) → result ≡ 1
+        → (fault : ToolFault) × IsFaultOfFile (IsDescription question room) fault × EndsAs fault result (E.written err.old) (E.written err.new) (E.failed err.new) }
     ensures explained_refused { (path : List ℕ) → words_ask (map string_bytes words.now) ≡ Some (Explain path) → result ≡ 1
         → (fault : ToolFault) × (fault ≡ ToolFault.TooLong) × EndsAs fault result (E.written err.old) (E.written err.new) (E.failed err.new) }
     ensures ran_refused { (order : Order) → words_ask (map string_bytes words.now) ≡ Some (Run order) → result ≡ 1

@@ -23,14 +23,14 @@ returns-in_ok-file_bytes-in-Moves-clause-refused g c =
     refused_as left c.play_script.result (asked_view c.args.request) (sym (ap asked_view c.in-Moves.is))
     (refuses_file IsAnswer c.play_script.result _ c.play_script.ensures.refused)
 
-pub returns-in_ok-file_bytes-in-Ask-clause-carried : goal.returns-in_ok-file_bytes-in-Ask-clause-carried
-returns-in_ok-file_bytes-in-Ask-clause-carried g c =
+pub returns-in_ok-bytes-in-Ask-clause-carried : goal.returns-in_ok-bytes-in-Ask-clause-carried
+returns-in_ok-bytes-in-Ask-clause-carried g c =
     let left = g.I.Intake.left c.args.reader.now in
-    carried_as left c.describe.result (asked_view c.args.request) (sym (ap asked_view c.in-Ask.is)) (g.O.Outlet.written c.args.out.now) _
-    (puts_out (IsDescription c.in-Ask.question) c.describe.result _ _ _ c.describe.ensures.written)
+    carried_as left c.describe_with_room.result (asked_view c.args.request) (sym (ap asked_view c.in-Ask.is)) (g.O.Outlet.written c.args.out.now) _
+    (puts_out (IsDescription c.in-Ask.inquiry.question c.in-Ask.inquiry.room) c.describe_with_room.result _ _ _ c.describe_with_room.ensures.written)
 
-pub returns-in_ok-file_bytes-in-Ask-clause-refused : goal.returns-in_ok-file_bytes-in-Ask-clause-refused
-returns-in_ok-file_bytes-in-Ask-clause-refused g c =
+pub returns-in_ok-bytes-in-Ask-clause-refused : goal.returns-in_ok-bytes-in-Ask-clause-refused
+returns-in_ok-bytes-in-Ask-clause-refused g c =
     let left = g.I.Intake.left c.args.reader.now in
-    refused_as left c.describe.result (asked_view c.args.request) (sym (ap asked_view c.in-Ask.is))
-    (refuses_file (IsDescription c.in-Ask.question) c.describe.result _ c.describe.ensures.refused)
+    refused_as left c.describe_with_room.result (asked_view c.args.request) (sym (ap asked_view c.in-Ask.is))
+    (refuses_file (IsDescription c.in-Ask.inquiry.question c.in-Ask.inquiry.room) c.describe_with_room.result _ c.describe_with_room.ensures.refused)

@@ -23,15 +23,15 @@ returns-in-Ok-clause-moves_refused g c = λ path asks one.
     (refused_as (g.I.Intake.left c.args.reader.now) c.carry_out.result (Moves path) (one_asked c.in-Ok.ensures.asked asks) c.carry_out.ensures.refused)
 
 pub returns-in-Ok-clause-told : goal.returns-in-Ok-clause-told
-returns-in-Ok-clause-told g c = λ question path taken asks zero.
+returns-in-Ok-clause-told g c = λ question room path taken asks zero.
     at_zero c.carry_out.result _ c.status_after.ensures.ends zero
-    (carried_as (g.I.Intake.left c.args.reader.now) c.carry_out.result (Ask question path) (one_asked c.in-Ok.ensures.asked asks) (g.O.Outlet.written c.args.out.now) _
+    (carried_as (g.I.Intake.left c.args.reader.now) c.carry_out.result (Ask question room path) (one_asked c.in-Ok.ensures.asked asks) (g.O.Outlet.written c.args.out.now) _
     c.carry_out.ensures.carried)
 
 pub returns-in-Ok-clause-told_refused : goal.returns-in-Ok-clause-told_refused
-returns-in-Ok-clause-told_refused g c = λ question path asks one.
+returns-in-Ok-clause-told_refused g c = λ question room path asks one.
     refused c.carry_out.result _ c.status_after.ensures.ends one
-    (refused_as (g.I.Intake.left c.args.reader.now) c.carry_out.result (Ask question path) (one_asked c.in-Ok.ensures.asked asks) c.carry_out.ensures.refused)
+    (refused_as (g.I.Intake.left c.args.reader.now) c.carry_out.result (Ask question room path) (one_asked c.in-Ok.ensures.asked asks) c.carry_out.ensures.refused)
 
 pub returns-in-Ok-clause-explained : goal.returns-in-Ok-clause-explained
 returns-in-Ok-clause-explained g c = λ path taken asks zero.
