@@ -462,8 +462,8 @@ impl Book {
     {
         self.core.fire(actor, n, tokens);
         let is_sink = self.work.is_sink(actor);
-        let buffer = &self.reads[actor as usize];
-        self.sinks.append_where(is_sink, actor, buffer);
+        let taken = &self.reads[actor as usize];
+        self.sinks.append_where(is_sink, actor, taken);
         note_firings(&mut self.journal, actor, n, each, tokens);
     }
 

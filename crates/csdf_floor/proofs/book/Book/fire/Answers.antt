@@ -73,7 +73,7 @@ module _ (c : After-note_firings) where
       omega (arith, there, c.self.invariant.each_actor, length-map c.self.inside.reads.items (λ v. v.items))
 
   held : c.deref.result.now ≡ tokens
-  held = c.deref.ensures.value ∙ item_at c.self.inside.reads.items c.args.actor c.index-buffer.result.now within c.index-buffer.ensures
+  held = c.deref.ensures.value ∙ item_at c.self.inside.reads.items c.args.actor c.index-taken.result.now within c.index-taken.ensures
 
   took : c.append_where.new.self.lists ≡ sinks_after c.self.inside.work c.self.inside.sinks.lists c.args.actor tokens
   took =
