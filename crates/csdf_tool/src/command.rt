@@ -3,10 +3,11 @@
 ghost use Rattle.std.specs.Prelude.{◌≡◌, ◌≤◌, [], true, false, map, string_bytes, Ok, IfErr, IfOk, IfSome, MatchResult};
 ghost use Rattle.clap.specs.Words.{App, app_of, fault_of, found_of, kind_of, rows_of, rule_of, subcommand_of, subcommand_rows_of, takes, with_rule, FailsBy};
 ghost use Rattle.clap.specs.declared.builder.command.Command.TheViews.{out-Command as fields_of};
-ghost use Rattle.csdf_tool.specs.CommandLine.{on_graph, on_files, run_command, number_option, no_commands, with_command, with_questions, with_room, with_roomy_command, program};
+ghost use Rattle.csdf_tool.specs.CommandLine.{on_graph, on_files, run_command, number_option, text_option};
+ghost use Rattle.csdf_tool.specs.CommandLine.{no_commands, with_command, with_questions, with_room, with_roomy_command, program};
 ghost use Rattle.csdf_analysis.specs.Room.{HasSomePeriod};
 ghost use Rattle.csdf_tool.specs.CommandLine.{Ask, asked_view, asked_by, asked_of, asked_with, asked, words_ask, IsUnread};
-ghost use Rattle.csdf_tool.specs.CommandLine.{number_in, number_of, order_of, order_view, room_in, room_of, text_option, word_of, word_or};
+ghost use Rattle.csdf_tool.specs.CommandLine.{number_in, number_of, order_of, order_view, room_in, room_of, word_of, word_or};
 
 use crate::help;
 use crate::order::{Inquiry, RunOrder};

@@ -216,8 +216,10 @@ pub fn run_words<R: Files + AllocGlobal + Threads + Wait + Sync, I: Intake, O: O
         → (bytes text : List ℕ) × IsRunTold order bytes (Ok text) × Appends (O.written out.old) (O.written out.new) text }
     ensures moves_refused { (path : List ℕ) → words_ask (map string_bytes words.now) ≡ Some (Moves path) → result ≡ 1
         → (fault : ToolFault) × IsFaultOfFile IsAnswer fault × EndsAs fault result (E.written err.old) (E.written err.new) (E.failed err.new) }
-    ensures told_refused { (question : Question) (room : Room) (path : List ℕ) → words_ask (map string_bytes words.now) ≡ Some (Ask question room path) → result ≡ 1
-        → (fault : ToolFault) × IsFaultOfFile (IsDescription question room) fault × EndsAs fault result (E.written err.old) (E.written err.new) (E.failed err.new) }
+    ensures told_refused { (question : Question) (room : Room) (path : List ℕ)
+        → words_ask (map string_bytes words.now) ≡ Some (Ask question room path) → result ≡ 1
+        → (fault : ToolFault) × IsFaultOfFile (IsDescription question room) fault
+        × EndsAs fault result (E.written err.old) (E.written err.new) (E.failed err.new) }
     ensures explained_refused { (path : List ℕ) → words_ask (map string_bytes words.now) ≡ Some (Explain path) → result ≡ 1
         → (fault : ToolFault) × (fault ≡ ToolFault.TooLong) × EndsAs fault result (E.written err.old) (E.written err.new) (E.failed err.new) }
     ensures ran_refused { (order : Order) → words_ask (map string_bytes words.now) ≡ Some (Run order) → result ≡ 1

@@ -1,7 +1,8 @@
 //! Worked examples of questions.
 
 use crate::shared::{CHAIN, DISAGREEING, STUCK_CYCLE, expect_eq, line_of};
-use csdf_answers::{Question, describe};
+use csdf_analysis::Room;
+use csdf_answers::{Question, describe, describe_with_room};
 use csdf_graph::ToWriter;
 use std::process::Abort;
 use std::test::Fail;
@@ -59,6 +60,19 @@ fn questions_are_answered(rt: HostRuntime) -> Result<(), Fail> {
     for (question, graph, want) in &ANSWERS {
         expect(&rt, *question, *graph, *want)?;
     }
+    Ok(())
+}
+
+#[test]
+fn room_is_told(rt: HostRuntime) -> Result<(), Fail> {
+    let mut written = Vec::new(rt.alloc());
+    let mut writer = ToWriter::new(&mut written);
+    let (question, room) = (Question::Capacity, Room::Periods(2));
+    let text = match describe_with_room(rt.alloc(), question, CHAIN.as_bytes(), room, &mut writer) {
+        Ok(()) => String::from_utf8(written)?,
+        Err(fault) => line_of(&rt, &fault)?,
+    };
+    expect_eq(&rt, text.as_str(), "x 12\ny 4\ncells 16\n");
     Ok(())
 }
 
