@@ -18,6 +18,8 @@ _csdf() {
     *)
       if [[ "$word" != -* ]]; then
         mapfile -t COMPREPLY < <(compgen -f -- "$word")
+      elif [[ "$word" == - && "$COMP_CWORD" == 2 ]]; then
+        COMPREPLY=(-)
       elif [[ "$command" == run ]]; then
         mapfile -t COMPREPLY < <(compgen -W \
           "--workers --periods --firings --out --room --help" -- "$word")

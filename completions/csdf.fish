@@ -10,6 +10,7 @@ complete -c csdf -n "not __fish_seen_subcommand_from $commands" -f -a capacity -
 complete -c csdf -n "not __fish_seen_subcommand_from $commands" -f -a dot -d "Print the graph for Graphviz"
 complete -c csdf -n "not __fish_seen_subcommand_from $commands" -f -a explain -d "Tell why a graph is refused"
 complete -c csdf -n "not __fish_seen_subcommand_from $commands" -f -a help -d "Print help"
+complete -c csdf -n "__fish_seen_subcommand_from run moves check repetition schedule capacity dot explain" -a - -d "The graph on standard input"
 complete -c csdf -l help -d "Print help"
 complete -c csdf -n "not __fish_seen_subcommand_from $commands" -l version -d "Print the version"
 complete -c csdf -n "__fish_seen_subcommand_from run" -x -l workers -a "1 2 3 4 5 6 7 8" -d "How many workers fire"

@@ -96,6 +96,8 @@ csdf: device: crates/csdf/../../of_here
 EOF
 launch "unproved" 5 0 "$room/unproved_words" "$room/unproved" with_rt \
   --unproved run of_here --workers 2 --room auto --out there /of/anywhere --out=here
+printf '%s\n' run - "$launched/of_here" > "$room/unproved_words"
+launch "unproved, of standard input" 5 0 "$room/unproved_words" "$room/unproved" with_rt --unproved run - of_here
 printf '%s\n' help check > "$room/unproved_words"
 launch "unproved help" 5 0 "$room/unproved_words" "$room/unproved" with_rt --unproved help check
 cat > "$room/no_place" << EOF

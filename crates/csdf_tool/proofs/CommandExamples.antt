@@ -5,6 +5,7 @@ use Rattle.clap.proofs.OnLiterals.{clap_on_literals}
 use Rattle.csdf_answers.specs.declared.question.Question.TheVariants.{Check, Repetition, Schedule, Capacity, Dot}
 use Rattle.csdf_analysis.specs.declared.room.Room.{Room}
 use Rattle.csdf_analysis.specs.declared.room.Room.TheVariants.{Least, Periods, Auto}
+use Rattle.csdf_tool.specs.GraphFiles.{is_input}
 use Rattle.csdf_tool.specs.CommandLine.{program, asked_by, asked_with, room_in, words_ask, Asked, Input, Moves, Ask, Explain, Run}
 
 abbrev on : Text → List Text
@@ -49,6 +50,14 @@ schedule_with_room_asks = refl
 dot_with_room_asks : words_ask (codes "dot" ∷ codes "--room=1" ∷ codes "a.toml" ∷ []) ≡ Some (Ask Dot (Periods 1) (codes "a.toml"))
 unfolding clap_on_literals asked_by asked_with
 dot_with_room_asks = refl
+
+input_asks : words_ask (codes "check" ∷ codes "-" ∷ []) ≡ Some (Ask Check Least (codes "-"))
+unfolding clap_on_literals asked_by asked_with
+input_asks = refl
+
+words_that_name_input : map is_input (codes "-" ∷ codes "./-" ∷ codes "--" ∷ [] ∷ []) ≡ true ∷ false ∷ false ∷ false ∷ []
+unfolding clap_on_literals
+words_that_name_input = refl
 
 check_with_room_is_refused : takes program (codes "check" ∷ codes "a.toml" ∷ codes "--room" ∷ codes "2" ∷ []) ≡ false
 unfolding clap_on_literals

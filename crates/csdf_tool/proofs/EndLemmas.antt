@@ -9,6 +9,7 @@ use Rattle.clap.specs.declared.error.kind.ErrorKind.TheVariants.{OutOfMemory}
 use Rattle.csdf_tool.specs.declared.command.Unread.{Unread}
 use Rattle.csdf_tool.specs.declared.command.Unread.TheVariants as unread
 use Rattle.csdf_tool.specs.CommandLine.{Asked, IsUnread, program, words_ask}
+use Rattle.csdf_tool.specs.GraphFiles.{IsNamed}
 use Rattle.csdf_tool.specs.Ends.{Ended, EndsAs, EndsBy, EndsFor, EndsForOneOf, EndsUnread, IsFaultOfFile, IsFaultOfInput}
 use Rattle.std.specs.Io.KnownBytes.{Appends}
 use Rattle.csdf_answers.specs.declared.fault.Stream.TheVariants.{Output}
@@ -119,21 +120,22 @@ pub refuses_input : (answer : Result (Unit {0}) ToolFault) (left : Option (List 
 refuses_input (Ok u) left long other = tt
 refuses_input (Err f) left long other = λ one. record { long = λ is. long (ap Err is); other = other one }
 
--- ---- a file
+-- ---- what a word names
 
-module _ (IsAnswerTo : List ℕ → Result (List ℕ) ToolFault → Type 0) where
-  pub puts_out : (answer : Result (Unit {0}) ToolFault) (bytes : List ℕ) (before after : Option (List ℕ))
-      → OnOk answer ((text : List ℕ) × IsAnswerTo bytes (Ok text) × Appends before after text) → OnOk answer (PutsOut IsAnswerTo before after)
-  puts_out (Ok u) bytes before after h = (bytes, h.0, h.1, h.2)
-  puts_out (Err f) bytes before after h = tt
+module _ (IsAnswerTo : List ℕ → Result (List ℕ) ToolFault → Type 0) (word : Text) (left : Option (List ℕ)) where
+  pub puts_out : (answer : Result (Unit {0}) ToolFault) (bytes : List ℕ) (before after : Option (List ℕ)) → IsNamed word left bytes
+      → OnOk answer ((text : List ℕ) × IsAnswerTo bytes (Ok text) × Appends before after text) → OnOk answer (PutsOut IsAnswerTo word left before after)
+  puts_out (Ok u) bytes before after named h = (bytes, h.0, named, h.1, h.2)
+  puts_out (Err f) bytes before after named h = tt
 
-  pub refuses_file : (answer : Result (Unit {0}) ToolFault) (bytes : List ℕ)
+  pub refuses_file : (answer : Result (Unit {0}) ToolFault) (bytes : List ℕ) → IsNamed word left bytes
       → IfErr answer (λ f. f ≢ fault.Memory → f ≢ fault.Device Output → IsAnswerTo bytes (Err f))
-      → IfErr answer (λ f. status_of f ≡ 1 → IsFaultOfFile IsAnswerTo f)
-  refuses_file (Ok u) bytes h = tt
-  refuses_file (Err f) bytes h = λ one.
+      → IfErr answer (λ f. status_of f ≡ 1 → IsFaultOfFile IsAnswerTo word left f)
+  refuses_file (Ok u) bytes named h = tt
+  refuses_file (Err f) bytes named h = λ one.
       inr (
         bytes,
+        named,
         h (λ is. let three : status_of f ≡ 3 = ap status_of is in omega (arith, three, one))
             (λ is. let three : status_of f ≡ 3 = ap status_of is in omega (arith, three, one)),
       )

@@ -1,10 +1,11 @@
 -- The files of a run, and the faults that are told of them.
 use Rattle.std.proofs.Common.{◌≡◌, ◌≢◌, ℕ, suc, zero, ◌+◌, ◌<◌, true, false, cond, List, [], ◌∷◌, ◌++◌, length, map, drop, get_or, refl, ap, sym}
-use Rattle.std.proofs.Common.{subst, ◌∙◌, arith, append_assoc, inl, inr, Ok}
+use Rattle.std.proofs.Common.{subst, ◌∙◌, arith, append_assoc, inl, inr, Ok, Err, Option}
 use Rattle.std.proofs.lemmas.List.{get_or-drop, get_or-map, length-map}
 use Rattle.std.specs.String.{string_bytes}
 use Rattle.csdf_model.specs.Graph.{Actor, Graph, actor_view}
 use Rattle.csdf_graph.specs.GraphText.{IsGraphOf}
+use Rattle.csdf_graph.specs.declared.fault.GraphFault.{GraphFault}
 use Rattle.csdf_model.specs.declared.parts.Actor.{Actor as ActorCode}
 use Rattle.csdf_core.specs.Layout.{is_source_kernel}
 use Rattle.csdf_floor.specs.Work.{is_sink_kernel}
@@ -14,7 +15,8 @@ use Rattle.csdf_answers.specs.declared.fault.Stream.TheVariants.{Output, File}
 use Rattle.csdf_tool.specs.declared.run_files.SinkFile.{SinkFile}
 use Rattle.csdf_tool.specs.CommandLine.{Order}
 use Rattle.csdf_tool.specs.Ends.{IsFaultOfFile}
-use Rattle.csdf_answers.specs.Faults.{status_of}
+use Rattle.csdf_tool.specs.GraphFiles.{IsNamed}
+use Rattle.csdf_answers.specs.Faults.{fault_of, status_of}
 use Rattle.csdf_tool.specs.Running.{IsRunTold, IsUnread, IsUnreadOf, IsUnwritten, IsUnwrittenOf, RefusesRun, Written, file_view, out_file, sink_files}
 
 -- ---- sources
@@ -85,9 +87,13 @@ unwritten_of_ends files f (inl memory) = unwritten_ends [] f (inl memory)
 unwritten_of_ends files f (inr some) = unwritten_ends some.1.name f some.4
 
 -- why a graph file is not run
-module _ (order : Order) (bytes : List ℕ) (g : Graph) (f : ToolFault) (read : IsGraphOf bytes (Ok g)) where
-  pub refused_by_feed : IsUnreadOf g.actors f → IsFaultOfFile (IsRunTold order) f
-  refused_by_feed unread = inr (bytes, inr (g, read, inl unread))
+module _ (order : Order) (left : Option (List ℕ)) (bytes : List ℕ) (named : IsNamed order.graph left bytes) (f : ToolFault) where
+  pub refused_by_graph : (why : GraphFault) → IsGraphOf bytes (Err why) → f ≡ fault_of why → IsFaultOfFile (IsRunTold order) order.graph left f
+  refused_by_graph why read is = inr (bytes, named, inl (why, read, is))
 
-  pub refused_by_texts : (feeds : List (List ℕ)) → RefusesRun order.room g bytes feeds f → IsFaultOfFile (IsRunTold order) f
-  refused_by_texts feeds refuses = inr (bytes, inr (g, read, inr (feeds, refuses)))
+  module _ (g : Graph) (read : IsGraphOf bytes (Ok g)) where
+    pub refused_by_feed : IsUnreadOf g.actors f → IsFaultOfFile (IsRunTold order) order.graph left f
+    refused_by_feed unread = inr (bytes, named, inr (g, read, inl unread))
+
+    pub refused_by_texts : (feeds : List (List ℕ)) → RefusesRun order.room g bytes feeds f → IsFaultOfFile (IsRunTold order) order.graph left f
+    refused_by_texts feeds refuses = inr (bytes, named, inr (g, read, inr (feeds, refuses)))

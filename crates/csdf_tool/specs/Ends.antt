@@ -1,7 +1,7 @@
 -- How the program ends: its exit status, and the line beside it on standard error.
 use Rattle.std.specs.Prelude.{◌≡◌, ◌⊎◌, ◌<◌, ℕ, List, ◌++◌, Bool, true, Option, Result, Err, IfErr, OnOk, length}
 use Rattle.std.specs.Io.KnownBytes.{Appends}
-use Rattle.clap.specs.Words.{Kinds, IsAmong, kind_of}
+use Rattle.clap.specs.Words.{Kinds, Text, IsAmong, kind_of}
 use Rattle.clap.specs.declared.error.kind.ErrorKind.{ErrorKind}
 use Rattle.clap.specs.declared.error.kind.ErrorKind.TheVariants.{DisplayHelp, DisplayVersion, OutOfMemory}
 use Rattle.csdf_answers.specs.declared.fault.ToolFault.{ToolFault}
@@ -9,6 +9,7 @@ use Rattle.csdf_answers.specs.declared.fault.ToolFault.TheVariants.{TooLong, Mem
 use Rattle.csdf_answers.specs.Faults.{fault_text, status_of}
 use Rattle.csdf_answers.specs.Printed.{newline}
 use Rattle.csdf_answers.specs.Session.{IsAnswer}
+use Rattle.csdf_tool.specs.GraphFiles.{IsNamed, IsTooLong}
 use Rattle.csdf_tool.specs.declared.command.Unread.{Unread}
 use Rattle.csdf_tool.specs.declared.command.Unread.TheVariants as unread
 
@@ -34,9 +35,10 @@ pub record Ended (answer : Result (Unit {0}) ToolFault) (status : ℕ) (before a
 abbrev pub IsFaultOfInput : List ℕ → ToolFault → Type 0
 IsFaultOfInput bytes fault = ((fault ≡ TooLong) × (16777216 < length bytes)) ⊎ IsAnswer bytes (Err fault)
 
--- a file was too long, or some bytes have this fault by a command
-abbrev pub IsFaultOfFile : (List ℕ → Result (List ℕ) ToolFault → Type 0) → ToolFault → Type 0
-IsFaultOfFile IsAnswerTo fault = (fault ≡ TooLong) ⊎ ((bytes : List ℕ) × IsAnswerTo bytes (Err fault))
+-- what a word names is too long, or bytes that it names have this fault by a command
+abbrev pub IsFaultOfFile : (List ℕ → Result (List ℕ) ToolFault → Type 0) → Text → Option (List ℕ) → ToolFault → Type 0
+IsFaultOfFile IsAnswerTo word left fault =
+    IsTooLong word left fault ⊎ ((bytes : List ℕ) × IsNamed word left bytes × IsAnswerTo bytes (Err fault))
 
 -- how words that are refused for this reason end: help and the version are answered unless memory or a device fails, and no other words are
 abbrev pub EndsFor : ErrorKind → ℕ → Type 0

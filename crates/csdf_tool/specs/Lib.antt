@@ -1,5 +1,6 @@
 pub mod Carried
 pub mod CommandLine
 pub mod Ends
+pub mod GraphFiles
 pub mod Rooms
 pub mod Running

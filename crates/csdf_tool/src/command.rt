@@ -66,7 +66,9 @@ fn on_graph<'a>(
     ensures app { IfOk result (λ command. app_of command ≡ on_graph name.entry.now) }
     ensures local { IfOk result (λ command. (fields_of command).has_globals ≡ false) }
 {
-    let graph = Arg::new(alloc, GRAPH).required(true).help("The graph file");
+    let graph = Arg::new(alloc, GRAPH)
+        .required(true)
+        .help("The graph file; - is standard input");
     Command::new(alloc, name)
         .about(about)
         .after_help(more)

@@ -1,12 +1,13 @@
-//! Whole files, read and written.
+//! Whole files, read and written, and standard input.
 
-ghost use Rattle.std.specs.Prelude.{◌≡◌, ◌≢◌, true, IfErr, OnOk};
+ghost use Rattle.std.specs.Prelude.{◌≡◌, ◌≢◌, ◌<◌, ◌↔◌, true, false, length, Err, IfErr, IfOk, IfSome, OnOk};
 ghost use Rattle.std.specs.Io.KnownBytes.{Appends};
 ghost use Rattle.csdf_answers.specs.Faults.{status_of};
+ghost use Rattle.csdf_tool.specs.GraphFiles.{is_input, IsNamed, IsTooLong};
 ghost use Rattle.csdf_tool.specs.Running.{IsUnread, IsUnwritten};
 
 use csdf_answers::{Name, Stream, ToolFault, unread};
-use csdf_graph::{FromReader, InputFault, Outlet, ToWriter, read_bytes, write_bytes};
+use csdf_graph::{FromReader, InputFault, Intake, Outlet, ToWriter, read_bytes, write_bytes};
 use std::alloc::{AllocError, Global};
 use std::fs;
 use std::path::{AsPath, Path, PathBuf};
@@ -20,8 +21,22 @@ fn bytes_at<P: AsPath>(rt: &(impl Files + AllocGlobal), path: P) -> Result<Vec<u
     }
 }
 
+/// All bytes of standard input.
+pub(crate) fn input_bytes<I: Intake>(alloc: Global, reader: &mut I) -> Result<Vec<u8>, ToolFault>
+    ensures all { IfOk result (λ bytes. IfSome (I.left reader.old) (λ all. bytes.items ≡ all)) }
+    ensures device { result ≡ Err (ToolFault.Device Stream.Input) ↔ (I.failed reader.new ≡ true) }
+    ensures other { IfErr result (λ fault. fault ≢ ToolFault.Device Stream.Output) }
+    ensures one { IfErr result (λ fault. status_of fault ≡ 1 → fault ≡ ToolFault.TooLong) }
+    ensures long { result ≡ Err ToolFault.TooLong → IfSome (I.left reader.old) (λ all. 16777216 < length all) }
+{
+    match read_bytes(alloc, reader) {
+        Ok(bytes) => Ok(bytes),
+        Err(fault) => Err(unread(Stream::Input, fault)),
+    }
+}
+
 /// All bytes of a file that the command line names.
-pub(crate) fn file_bytes(rt: &(impl Files + AllocGlobal), path: &str) -> Result<Vec<u8>, ToolFault>
+fn file_bytes(rt: &(impl Files + AllocGlobal), path: &str) -> Result<Vec<u8>, ToolFault>
     ensures other { IfErr result (λ fault. fault ≢ ToolFault.Device Stream.Output) }
     ensures long { IfErr result (λ fault. status_of fault ≡ 1 → fault ≡ ToolFault.TooLong) }
 {
@@ -29,6 +44,25 @@ pub(crate) fn file_bytes(rt: &(impl Files + AllocGlobal), path: &str) -> Result<
     match bytes_at(rt, path) {
         Ok(bytes) => Ok(bytes),
         Err(fault) => Err(unread(Stream::File(name), fault)),
+    }
+}
+
+/// All bytes of a command's graph file: those of standard input where the word is `-`.
+pub(crate) fn graph_bytes<I: Intake>(
+    rt: &(impl Files + AllocGlobal),
+    word: &str,
+    reader: &mut I,
+) -> Result<Vec<u8>, ToolFault>
+    ensures named { IfOk result (λ bytes. IsNamed word.now (I.left reader.old) bytes.items) }
+    ensures long { IfErr result (λ fault. status_of fault ≡ 1 → IsTooLong word.now (I.left reader.old) fault) }
+    ensures other { IfErr result (λ fault. fault ≢ ToolFault.Device Stream.Output) }
+    ensures device { is_input word.now ≡ true → (result ≡ Err (ToolFault.Device Stream.Input) ↔ (I.failed reader.new ≡ true)) }
+    ensures untouched { is_input word.now ≡ false → reader.new ≡ reader.old }
+{
+    if word == "-" {
+        input_bytes(rt.alloc(), reader)
+    } else {
+        file_bytes(rt, word)
     }
 }
 

@@ -2,7 +2,8 @@
 //! statuses and an example.
 
 pub(crate) const PROGRAM: &str = "\
-Without a command, the script of the graph file on standard input is played.
+Without a command, the script of the graph file on standard input is played. A command reads the
+graph file from standard input where GRAPH is '-'; './-' is a file of that name.
 
 Exit status: 0 answered, 1 an input was refused, 2 these words were, 3 a file, memory or a run
 itself failed. With 1 and 3, one line on standard error says why.

@@ -11,16 +11,17 @@ ghost use Rattle.csdf_answers.specs.declared.question.Question.{Question};
 ghost use Rattle.csdf_tool.specs.Ends.{Ended, EndsAs, EndsBy, EndsFor, EndsForOneOf, EndsUnread, IsFaultOfFile, IsFaultOfInput};
 ghost use Rattle.csdf_answers.specs.Explained.{IsExplained};
 ghost use Rattle.csdf_answers.specs.Faults.{status_of};
+ghost use Rattle.csdf_tool.specs.GraphFiles.{IsNamed, IsTooLong};
 ghost use Rattle.csdf_tool.specs.Running.{IsRunTold};
 ghost use Rattle.csdf_answers.specs.Session.{IsAnswer};
 
 use crate::command::{Request, Unread, request_of};
-use crate::files::file_bytes;
+use crate::files::{graph_bytes, input_bytes};
 use crate::run_files::run_files;
 use clap::Error;
 use clap::error::ErrorKind;
-use csdf_answers::{Stream, ToolFault, describe_with_room, explain, play_script, unread};
-use csdf_graph::{Intake, Outlet, read_bytes, write_bytes};
+use csdf_answers::{Stream, ToolFault, describe_with_room, explain, play_script};
+use csdf_graph::{Intake, Outlet, write_bytes};
 use std::alloc::Global;
 use std::fmt;
 use std::fmt::Write;
@@ -43,9 +44,9 @@ pub(crate) fn play_input<I: Intake, O: Outlet>(
     ensures refused { IfErr result (λ fault. status_of fault ≡ 1 → fault ≢ ToolFault.TooLong
         → IfSome (I.left reader.old) (λ bytes. IsAnswer bytes (Err fault))) }
 {
-    match read_bytes(alloc, reader) {
+    match input_bytes(alloc, reader) {
         Ok(bytes) => play_script(alloc, &bytes, out),
-        Err(fault) => Err(unread(Stream::Input, fault)),
+        Err(fault) => Err(fault),
     }
 }
 
@@ -64,13 +65,13 @@ fn carry_out<R: Files + AllocGlobal + Threads + Wait + Sync, I: Intake, O: Outle
     let alloc = rt.alloc();
     match request {
         Request::Input => play_input(alloc, reader, out),
-        Request::Moves(path) => play_script(alloc, &file_bytes(rt, path)?, out),
+        Request::Moves(path) => play_script(alloc, &graph_bytes(rt, path, reader)?, out),
         Request::Ask(inquiry) => {
-            let bytes = file_bytes(rt, inquiry.graph)?;
+            let bytes = graph_bytes(rt, inquiry.graph, reader)?;
             describe_with_room(alloc, inquiry.question, &bytes, inquiry.room, out)
         }
-        Request::Explain(path) => explain(alloc, &file_bytes(rt, path)?, out),
-        Request::Run(order) => run_files(rt, order, out),
+        Request::Explain(path) => explain(alloc, &graph_bytes(rt, path, reader)?, out),
+        Request::Run(order) => run_files(rt, order, reader, out),
     }
 }
 
@@ -204,26 +205,31 @@ pub fn run_words<R: Files + AllocGlobal + Threads + Wait + Sync, I: Intake, O: O
     ensures unread { fault_of program (map string_bytes words.now) ≢ [] → EndsForOneOf (fault_of program (map string_bytes words.now)) result }
     ensures moves { (path : List ℕ) → takes program (map string_bytes words.now) ≡ true
         → words_ask (map string_bytes words.now) ≡ Some (Moves path) → result ≡ 0
-        → (bytes text : List ℕ) × IsAnswer bytes (Ok text) × Appends (O.written out.old) (O.written out.new) text }
+        → (bytes text : List ℕ) × IsNamed path (I.left reader.old) bytes × IsAnswer bytes (Ok text) × Appends (O.written out.old) (O.written out.new) text }
     ensures told { (question : Question) (room : Room) (path : List ℕ) → takes program (map string_bytes words.now) ≡ true
         → words_ask (map string_bytes words.now) ≡ Some (Ask question room path) → result ≡ 0
-        → (bytes text : List ℕ) × IsDescription question room bytes (Ok text) × Appends (O.written out.old) (O.written out.new) text }
+        → (bytes text : List ℕ) × IsNamed path (I.left reader.old) bytes × IsDescription question room bytes (Ok text)
+        × Appends (O.written out.old) (O.written out.new) text }
     ensures explained { (path : List ℕ) → takes program (map string_bytes words.now) ≡ true
         → words_ask (map string_bytes words.now) ≡ Some (Explain path) → result ≡ 0
-        → (bytes text : List ℕ) × IsExplained bytes (Ok text) × Appends (O.written out.old) (O.written out.new) text }
+        → (bytes text : List ℕ) × IsNamed path (I.left reader.old) bytes × IsExplained bytes (Ok text) × Appends (O.written out.old) (O.written out.new) text }
     ensures ran { (order : Order) → takes program (map string_bytes words.now) ≡ true
         → words_ask (map string_bytes words.now) ≡ Some (Run order) → result ≡ 0
-        → (bytes text : List ℕ) × IsRunTold order bytes (Ok text) × Appends (O.written out.old) (O.written out.new) text }
+        → (bytes text : List ℕ) × IsNamed order.graph (I.left reader.old) bytes × IsRunTold order bytes (Ok text)
+        × Appends (O.written out.old) (O.written out.new) text }
     ensures moves_refused { (path : List ℕ) → words_ask (map string_bytes words.now) ≡ Some (Moves path) → result ≡ 1
-        → (fault : ToolFault) × IsFaultOfFile IsAnswer fault × EndsAs fault result (E.written err.old) (E.written err.new) (E.failed err.new) }
+        → (fault : ToolFault) × IsFaultOfFile IsAnswer path (I.left reader.old) fault
+        × EndsAs fault result (E.written err.old) (E.written err.new) (E.failed err.new) }
     ensures told_refused { (question : Question) (room : Room) (path : List ℕ)
         → words_ask (map string_bytes words.now) ≡ Some (Ask question room path) → result ≡ 1
-        → (fault : ToolFault) × IsFaultOfFile (IsDescription question room) fault
+        → (fault : ToolFault) × IsFaultOfFile (IsDescription question room) path (I.left reader.old) fault
         × EndsAs fault result (E.written err.old) (E.written err.new) (E.failed err.new) }
     ensures explained_refused { (path : List ℕ) → words_ask (map string_bytes words.now) ≡ Some (Explain path) → result ≡ 1
-        → (fault : ToolFault) × (fault ≡ ToolFault.TooLong) × EndsAs fault result (E.written err.old) (E.written err.new) (E.failed err.new) }
+        → (fault : ToolFault) × IsTooLong path (I.left reader.old) fault
+        × EndsAs fault result (E.written err.old) (E.written err.new) (E.failed err.new) }
     ensures ran_refused { (order : Order) → words_ask (map string_bytes words.now) ≡ Some (Run order) → result ≡ 1
-        → (fault : ToolFault) × IsFaultOfFile (IsRunTold order) fault × EndsAs fault result (E.written err.old) (E.written err.new) (E.failed err.new) }
+        → (fault : ToolFault) × IsFaultOfFile (IsRunTold order) order.graph (I.left reader.old) fault
+        × EndsAs fault result (E.written err.old) (E.written err.new) (E.failed err.new) }
     ensures played { words.now ≡ [] → result ≡ 0 → IfSome (I.left reader.old)
         (λ bytes. (text : List ℕ) × IsAnswer bytes (Ok text) × Appends (O.written out.old) (O.written out.new) text) }
     ensures faulty { words.now ≡ [] → result ≡ 1 → (fault : ToolFault) × IfSome (I.left reader.old) (λ bytes. IsFaultOfInput bytes fault)

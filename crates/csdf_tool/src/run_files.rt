@@ -10,13 +10,14 @@ ghost use Rattle.csdf_floor.specs.Work.{is_sink_kernel};
 ghost use Rattle.csdf_tool.specs.CommandLine.{order_view};
 ghost use Rattle.csdf_tool.specs.Ends.{IsFaultOfFile};
 ghost use Rattle.csdf_answers.specs.Faults.{status_of};
+ghost use Rattle.csdf_tool.specs.GraphFiles.{IsNamed};
 ghost use Rattle.csdf_tool.specs.Running.{IsRefusedFile, IsRunBy, IsRunTold, IsUnreadOf, IsUnwrittenOf, RefusesRun};
 ghost use Rattle.csdf_tool.specs.Running.{file_view, run_fault, sink_files, texts_fault, token_fault};
 
-use crate::files::{feed_bytes, file_bytes, write_file};
+use crate::files::{feed_bytes, graph_bytes, write_file};
 use crate::order::RunOrder;
 use csdf_answers::{Name, Stream, ToolFault, accept_fault, actor_name};
-use csdf_graph::{Actor, Graph, Kernel, Outlet, TokenFault, read_graph, write_bytes};
+use csdf_graph::{Actor, Graph, Intake, Kernel, Outlet, TokenFault, read_graph, write_bytes};
 use csdf_run::{RunFault, Texts, TextsFault, run_texts_with_room};
 use std::alloc::{AllocError, Global};
 use std::rt::Files;
@@ -125,15 +126,18 @@ struct Ran {
 }
 
 /// Reads the files of a run, and runs.
-fn ran_by<R: Files + AllocGlobal + Threads + Wait + Sync>(
+fn ran_by<R: Files + AllocGlobal + Threads + Wait + Sync, I: Intake>(
     rt: &R,
     order: RunOrder<'_>,
+    reader: &mut I,
 ) -> Result<Ran, ToolFault>
-    ensures ran { IfOk result (λ ran. (bytes : List ℕ) × (feeds : List (List ℕ)) × IsRunBy (order_view order.entry) ran.graph bytes feeds ran.texts) }
-    ensures refused { IfErr result (λ fault. status_of fault ≡ 1 → IsFaultOfFile (IsRunTold (order_view order.entry)) fault) }
+    ensures ran { IfOk result (λ ran. (bytes : List ℕ) × (feeds : List (List ℕ)) × IsNamed order.entry.graph.now (I.left reader.old) bytes
+        × IsRunBy (order_view order.entry) ran.graph bytes feeds ran.texts) }
+    ensures refused { IfErr result (λ fault. status_of fault ≡ 1
+        → IsFaultOfFile (IsRunTold (order_view order.entry)) order.entry.graph.now (I.left reader.old) fault) }
     ensures other { IfErr result (λ fault. fault ≢ ToolFault.Device Stream.Output) }
 {
-    let bytes = file_bytes(rt, order.graph)?;
+    let bytes = graph_bytes(rt, order.graph, reader)?;
     let graph = read_graph(rt.alloc(), &bytes)?;
     let feeds = feeds_in(rt, order.folder, graph.actors())?;
     let texts = texts_of(rt, &graph, &bytes, &feeds, order)?;
@@ -199,20 +203,22 @@ fn write_sinks(
     Ok(())
 }
 
-/// Runs the graph of a file over the token files of a folder: writes what each sink took, and then
-/// the report.
-pub(crate) fn run_files<R: Files + AllocGlobal + Threads + Wait + Sync, O: Outlet>(
+/// Runs the graph of a file, or of standard input, over the token files of a folder: writes what
+/// each sink took, and then the report.
+pub(crate) fn run_files<R: Files + AllocGlobal + Threads + Wait + Sync, I: Intake, O: Outlet>(
     rt: &R,
     order: RunOrder<'_>,
+    reader: &mut I,
     out: &mut O,
 ) -> Result<(), ToolFault>
-    ensures written { OnOk result ((bytes text : List ℕ) × IsRunTold (order_view order.entry) bytes (Ok text)
-        × Appends (O.written out.old) (O.written out.new) text) }
+    ensures written { OnOk result ((bytes text : List ℕ) × IsNamed order.entry.graph.now (I.left reader.old) bytes
+        × IsRunTold (order_view order.entry) bytes (Ok text) × Appends (O.written out.old) (O.written out.new) text) }
     ensures unwritten { IfErr result (λ fault. fault ≢ ToolFault.Device Stream.Output → out.new ≡ out.old) }
     ensures failed { result ≡ Err (ToolFault.Device Stream.Output) → O.failed out.new ≡ true }
-    ensures refused { IfErr result (λ fault. status_of fault ≡ 1 → IsFaultOfFile (IsRunTold (order_view order.entry)) fault) }
+    ensures refused { IfErr result (λ fault. status_of fault ≡ 1
+        → IsFaultOfFile (IsRunTold (order_view order.entry)) order.entry.graph.now (I.left reader.old) fault) }
 {
-    let ran = ran_by(rt, order)?;
+    let ran = ran_by(rt, order, reader)?;
     write_sinks(rt, order, ran.graph.actors(), &ran.texts)?;
     match write_bytes(out, &ran.texts.report) {
         Ok(()) => Ok(()),

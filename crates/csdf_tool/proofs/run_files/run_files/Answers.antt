@@ -23,4 +23,4 @@ returns-in_err-write_sinks-clause-refused g c =
 pub returns-in-Ok-clause-written : goal.returns-in-Ok-clause-written
 returns-in-Ok-clause-written g c =
     let ran = c.in_ok-ran.ensures.ran in
-    (ran.0, c.deref.result.now, (c.in_ok-ran.ran.graph, ran.1, c.in_ok-ran.ran.texts, ran.2, c.deref.ensures.value), c.in-Ok.ensures.written)
+    (ran.0, c.deref.result.now, ran.2, (c.in_ok-ran.ran.graph, ran.1, c.in_ok-ran.ran.texts, ran.3, c.deref.ensures.value), c.in-Ok.ensures.written)
