@@ -1,0 +1,9 @@
+use Rattle.std.proofs.Common.{arith, rules}
+use Rattle.std.proofs.lemmas.Grind.{common_steps}
+use Rattle.csdf_tool.proofs.program.status_of_words.Goals as goal
+
+pub returns-in-Room-clause-answered : goal.returns-in-Room-clause-answered
+returns-in-Room-clause-answered g c = grind (arith, common_steps)
+
+pub returns-in-Room-clause-ends : goal.returns-in-Room-clause-ends
+returns-in-Room-clause-ends g c = search rules
