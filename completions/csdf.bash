@@ -22,7 +22,7 @@ _csdf() {
         COMPREPLY=(-)
       elif [[ "$command" == run ]]; then
         mapfile -t COMPREPLY < <(compgen -W \
-          "--workers --periods --firings --out --room --help" -- "$word")
+          "--workers --periods --until-dry --firings --out --room --help" -- "$word")
       elif [[ "$command" =~ ^(schedule|capacity|dot)$ ]]; then
         mapfile -t COMPREPLY < <(compgen -W "--room --help" -- "$word")
       else

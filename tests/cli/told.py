@@ -25,9 +25,9 @@ def say(wrong: str) -> None:
     found.append(wrong)
 
 
-def answer(*words: object) -> str:
-    """What the program prints, on standard output and on standard error."""
-    ran = subprocess.run([PROGRAM, *map(str, words)], cwd=TOP, capture_output=True, text=True)
+def answer(*words: object, at: Path = TOP) -> str:
+    """What the program prints in a folder, on standard output and on standard error."""
+    ran = subprocess.run([PROGRAM, *map(str, words)], cwd=at, capture_output=True, text=True)
     return ran.stdout + ran.stderr
 
 
@@ -169,11 +169,12 @@ def guide_runs() -> None:
     see({"meter.out": whole}, files, "GUIDE: what the run writes")
     ends = (
         ("dry", graph, ["--periods", "5"], whole),
+        ("dry", graph, ["--until-dry"], whole),
         ("stopped", graph, ["--periods", "4", "--firings", "60"], lines(35)),
         ("starved", edited(graph, top="cells = 7\n"), ["--periods", "4"], ""),
     )
     for ending, file, words, wanted in ends:
-        if ending != "starved" and f"with `{' '.join(words)}` here" not in GUIDE:
+        if ending != "starved" and f"with `{' '.join(words)}`" not in GUIDE:
             say(f"GUIDE: {ending} does not say {words}")
         told, files = run(file, *words)
         see((f"ending {ending}", {"meter.out": wanted}), (told.splitlines()[0], files), f"GUIDE: {ending}")
@@ -246,6 +247,8 @@ def formats_explanations() -> None:
     tight = TOP / "tests" / "cli" / "cases" / "explain_too_tight" / "graph.toml"
     shows(FORMATS, answer("explain", tight), "FORMATS: too tight")
     shows(FORMATS, answer("explain", edited(tight, ("produce = [2]", "produce = [2, 1]"))), "FORMATS: phases")
+    faulty = TOP / "tests" / "cli" / "cases" / "explain_tokens_syntax"
+    shows(FORMATS, answer("explain", "graph.toml", "tokens", at=faulty), "FORMATS: a faulty token file")
     drawn = answer("dot", METER / "graph.toml").splitlines()
     shows(FORMATS, "\n".join(drawn[:3]), "FORMATS: the head of a drawing")
     see("}", drawn[-1], "FORMATS: the end of a drawing")

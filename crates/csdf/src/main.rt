@@ -3,7 +3,7 @@
 #![tactic(auto)]
 
 use csdf_bytes::{FromReader, ToWriter};
-use csdf_tool::run_words;
+use csdf_tool::{HostDisk, run_words};
 use std::env::{self, Env};
 use std::io;
 use std::process::ExitCode;
@@ -19,7 +19,10 @@ fn main(rt: HostRuntime) -> ExitCode {
     let mut out = ToWriter::new(rt.stdout());
     let mut err = ToWriter::new(rt.stderr());
     match words_after_name(&rt) {
-        Ok(words) => ExitCode::from(run_words(&rt, &words, &mut reader, &mut out, &mut err)),
+        Ok(words) => {
+            let mut disk = HostDisk::new(&rt);
+            ExitCode::from(run_words(&rt, &mut disk, &words, &mut reader, &mut out, &mut err))
+        }
         Err(fault) if fault.kind() == io::ErrorKind::InvalidData => {
             let _ = eprintln!(rt; "error: invalid UTF-8 was detected in one or more arguments");
             ExitCode::from(2)

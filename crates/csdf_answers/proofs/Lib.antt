@@ -6,3 +6,4 @@ pub mod DotLemmas
 pub mod CircleLemmas
 pub mod ExplainLemmas
 pub mod ToldLemmas
+pub mod TokenNoteLemmas

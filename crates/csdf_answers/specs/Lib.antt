@@ -6,4 +6,5 @@ pub mod Faults
 pub mod Lines
 pub mod Printed
 pub mod Session
+pub mod TokenNotes
 pub mod Turns

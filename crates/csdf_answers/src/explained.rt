@@ -171,3 +171,26 @@ pub fn explain<O: Outlet>(alloc: Global, bytes: &[u8], writer: &mut O) -> Result
     send(writer, text.as_bytes())?;
     Ok(())
 }
+
+/// As [`explain`], and then more lines.
+///
+/// The errors are those of [`explain`].
+pub fn explain_with<O: Outlet>(
+    alloc: Global,
+    bytes: &[u8],
+    lines: &str,
+    writer: &mut O,
+) -> Result<(), ToolFault>
+    ensures written { OnOk result ((text : List ℕ) × IsExplained bytes.now (Ok text)
+        × Appends (O.written writer.old) (O.written writer.new) (text ++ lines.now)) }
+    ensures unmarked { OnOk result (O.failed writer.new ≡ O.failed writer.old) }
+    ensures refused { IfErr result (λ fault. (fault ≡ ToolFault.Memory) ⊎ (fault ≡ ToolFault.Device Stream.Output)) }
+    ensures unwritten { IfErr result (λ fault. fault ≢ ToolFault.Device Stream.Output → writer.new ≡ writer.old) }
+    ensures failed { result ≡ Err (ToolFault.Device Stream.Output)
+        → ((text : List ℕ) × IsExplained bytes.now (Ok text)) × (O.failed writer.new ≡ true) }
+{
+    let mut text = explanation_of(alloc, bytes)?;
+    text.push_str(lines)?;
+    send(writer, text.as_bytes())?;
+    Ok(())
+}

@@ -14,13 +14,15 @@ mod question;
 mod replay;
 mod sending;
 mod session;
+mod token_note;
 mod turns;
 mod words;
 
 pub use csdf_misfits::explain_fault;
 pub use described::{describe, describe_with_room};
-pub use explained::explain;
+pub use explained::{explain, explain_with};
 pub use fault::{Name, Stream, ToolFault, unread};
 pub use question::{Question, actor_name};
 pub use replay::play_script;
 pub use session::accept_fault;
+pub use token_note::{TokenFile, push_token_note};

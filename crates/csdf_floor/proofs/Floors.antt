@@ -33,7 +33,7 @@ floor_is f reads b between = record {
   kept = b.kept;
   peaks = λ c. ap (λ (ps : List ℕ). get_or ps c 0) b.peaks
       ∙ peaks_from_opening (program f.work).plan c f.journal
-      (playable_program f.work.accepted f.work.feeds f.work.periods f.work.firings b.work.accepted b.work.few_periods);
+      (playable_program f.work.accepted f.work.feeds f.work.periods f.work.firings b.work.accepted b.work.few_firings);
   sinks = b.sinks;
   between = between;
 }

@@ -26,6 +26,7 @@ pub mod Reports
 pub mod Settles
 pub mod Honestly
 pub mod Makings
+pub mod MostPeriods
 pub mod MadeFloors
 pub mod OneFirings
 pub mod MoreFirings

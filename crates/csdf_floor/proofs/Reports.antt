@@ -69,7 +69,7 @@ module _ (f : FloorView) (reads : List (List ℤ)) (b : IsBook f reads) (idle : 
   there = subst (λ u. c < length u.channels) b.kept.plan lt
 
   playable : IsPlayable w.plan
-  playable = playable_program f.work.accepted f.work.feeds f.work.periods f.work.firings b.work.accepted b.work.few_periods
+  playable = playable_program f.work.accepted f.work.feeds f.work.periods f.work.firings b.work.accepted b.work.few_firings
 
   at_rest : (a : ℕ) → a < length w.plan.sources → stage (present s) a ≡ Idle
   at_rest a near = ap (λ (p : Present). stage p a) (sym b.kept.shows.same) ∙ idle a (subst (λ u. a < length u.sources) (sym b.kept.plan) near)

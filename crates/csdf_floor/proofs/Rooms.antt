@@ -344,7 +344,7 @@ same_firings actors r s p q e one two =
     x ∙ ap (λ (ks : List ℕ). graph.phases_of actors k * get_or ks k 0) e ∙ sym y))
 
 -- a period has as many firings of each actor
-same_period : (a b : Accepted) → IsAccepted a → IsAccepted b → without_room a.graph ≡ without_room b.graph → a.q ≡ b.q
+pub same_period : (a b : Accepted) → IsAccepted a → IsAccepted b → without_room a.graph ≡ without_room b.graph → a.q ≡ b.q
 same_period a b one two e =
     let actors : a.graph.actors ≡ b.graph.actors = ap (λ (g : graph.Graph). g.actors) e in
     let channels : map bare a.graph.channels ≡ map bare b.graph.channels = ap (λ (g : graph.Graph). g.channels) e in
@@ -389,7 +389,7 @@ room_does_not_show a b feeds periods firings others one two ok1 ok2 e few h1 h2 
     let w : Program = program_for b feeds periods others in
     let differ = differ_in_room a b feeds periods firings others ok1 ok2 e in
     let p1 = playable_program a feeds periods firings ok1 few in
-    let p2 = playable_program b feeds periods others ok2 few in
+    let p2 = playable_program b feeds periods others ok2 (subst (All (λ q. periods * q ≤ 16384000)) (same_period a b ok1 ok2 e) few) in
     record {
       in_step = stay_in_step v w one two differ.alike h1 h2;
       same = λ all1 all2. (do_not_show v w one two differ h1 h2 all1 all2, do_not_count v w one two differ p1 p2 h1 h2 all1 all2);

@@ -80,7 +80,7 @@ module _ (f : FloorView) (reads : List (List ℤ)) (b : IsBook f reads) (between
   p = present (state_of w j)
 
   playable : IsPlayable w.plan
-  playable = playable_program f.work.accepted f.work.feeds f.work.periods f.work.firings b.work.accepted b.work.few_periods
+  playable = playable_program f.work.accepted f.work.feeds f.work.periods f.work.firings b.work.accepted b.work.few_firings
 
   honest : IsHonest w j
   honest = subst (IsHonest w) (sym journal) b.kept.honest
@@ -211,7 +211,7 @@ module _ (f : FloorView) (reads : List (List ℤ)) (b : IsBook f reads) (between
   completes ample none cells =
       let v : Program = program_for f.work.accepted f.work.feeds f.work.periods None in
       let all : AllSpent v.plan (present (state_of v j)) =
-      ends_complete f.work.accepted f.work.feeds f.work.periods j b.work.accepted b.work.few_periods ample
+      ends_complete f.work.accepted f.work.feeds f.work.periods j b.work.accepted b.work.few_firings ample
       (subst (λ (limit : Option ℕ). HasAmpleCells (program_for f.work.accepted f.work.feeds f.work.periods limit).plan) none cells)
       (subst (λ (limit : Option ℕ). IsHonest (program_for f.work.accepted f.work.feeds f.work.periods limit) j) none honest)
       (subst (λ (limit : Option ℕ). IsQuiet (program_for f.work.accepted f.work.feeds f.work.periods limit).plan

@@ -26,7 +26,7 @@ use Rattle.csdf_core.proofs.LayoutLemmas.{length-capacities, seen_at, rate_small
 use Rattle.csdf_floor.specs.Journal.{output_counts, program_for}
 use Rattle.csdf_floor.specs.Inside.{consumed_at, consumer, produced_at, production_at}
 use Rattle.std.proofs.lemmas.Bool.Decides.{eqb_tells, leb_tells}
-use Rattle.csdf_floor.specs.Work.{AreFeeds, IsFeed, feed_of, Work, IsWork, program, feeds_in}
+use Rattle.csdf_floor.specs.Work.{AreFeeds, FewInThousand, HasFewFirings, IsFeed, feed_of, Work, IsWork, program, feeds_in}
 use Rattle.csdf_floor.proofs.Graphs.{counts_of_graph}
 
 -- ---- kernels
@@ -61,19 +61,20 @@ firings_small g r q whole is = All-from_get_or (λ n. n ≤ 16384) q 0 (λ a lt.
     let small = All-get_or (λ n. n ≤ 1024) r a 0 (omega arith) is.small in
     subst (λ n. n ≤ 16384) (sym (is.firings.firings a lt)) (firing_fits _ (get_or r a 0) (phases_within g.actors a whole.fitting.actors) small))
 
-pub limit_fits : (periods q : ℕ) → periods ≤ 1000 → q ≤ 16384 → periods * q ≤ 16384000
-limit_fits periods q few small = let most : periods * q ≤ 1000 * 16384 = mul-le-mul few small in omega arith
+pub few_in_thousand : FewInThousand
+few_in_thousand a periods ok few = All-from_get_or (λ q. periods * q ≤ 16384000) a.q 0 (λ i lt.
+    let most : periods * get_or a.q i 0 ≤ 1000 * 16384 =
+    mul-le-mul few (All-get_or (λ n. n ≤ 16384) a.q i 0 lt (firings_small a.graph a.r a.q ok.well_formed ok.repetition)) in omega arith)
 
-pub playable_program : (a : Accepted) (feeds : List (List ℤ)) (periods : ℕ) (firings : Option ℕ) → IsAccepted a → periods ≤ 1000
+pub playable_program : (a : Accepted) (feeds : List (List ℤ)) (periods : ℕ) (firings : Option ℕ) → IsAccepted a → HasFewFirings a periods
     → IsPlayable (program_for a feeds periods firings).plan
 playable_program a feeds periods firings ok few =
-    let each = firings_small a.graph a.r a.q ok.well_formed ok.repetition in
     let len : length (map (λ q. periods * q) a.q) ≡ length a.graph.actors = length-map a.q (λ q. periods * q) ∙ ok.repetition.firings.each_actor in
     playable_setup a (map (λ q. periods * q) a.q) (map length feeds) firings ok len (All-from_get_or (λ n. n ≤ 16384000) (map (λ q. periods * q) a.q) 0 (λ i lt.
     let count = length-map a.q (λ q. periods * q) in
     let there : i < length a.q = omega arith in
     subst (λ n. n ≤ 16384000) (sym (get_or-map (λ q. periods * q) a.q i 0 0 there))
-    (limit_fits periods (get_or a.q i 0) few (All-get_or (λ n. n ≤ 16384) a.q i 0 there each))))
+    (All-get_or (λ q. periods * q ≤ 16384000) a.q i 0 there few)))
 
 -- ---- counts
 
@@ -178,7 +179,7 @@ pub ends_there : (w : Work) (c : ℕ) (d : Channel) → IsWork w → c < length 
     → ((get_or (program w).plan.channels c d).from < length (program w).plan.sources)
     × ((get_or (program w).plan.channels c d).to < length (program w).plan.sources)
 ends_there w c d is lt =
-    let playable : IsPlayable (program w).plan = playable_program w.accepted w.feeds w.periods w.firings is.accepted is.few_periods in
+    let playable : IsPlayable (program w).plan = playable_program w.accepted w.feeds w.periods w.firings is.accepted is.few_firings in
     All-get_or (λ (e : Channel). (e.from < length (program w).plan.sources) × (e.to < length (program w).plan.sources)) (program w).plan.channels c d lt
     (All-from_recursion (λ (e : Channel). (e.from < length (program w).plan.sources) × (e.to < length (program w).plan.sources)) (program w).plan.channels
     playable.ends)

@@ -1,6 +1,7 @@
 -- Laws of journals: what the order in which actors fire can't change.
 use Rattle.std.specs.Prelude.{ℕ, ◌≡◌, ◌≢◌, ◌<◌, ◌≤◌, ◌⊎◌, true, List, ℤ, pos, Some, length, map, slice_index_or, ◌++◌, ◌+◌, slice_index, ◌∷◌, [], ◌*◌, None}
 use Rattle.std.specs.Prelude.{Option}
+use Rattle.csdf_floor.specs.Work.{HasFewFirings}
 use Rattle.std.specs.List.{zip, AllByRecursion, AllZip}
 use Rattle.csdf_core.specs.declared.stage.Stage.TheVariants.{Idle}
 use Rattle.csdf_core.specs.declared.refusal.Refusal.TheVariants.{Stopped, NoCells}
@@ -181,7 +182,7 @@ CompletesAll =
 -- actor spent
 abbrev pub EndsComplete : Type 0
 EndsComplete =
-    (a : Accepted) (feeds : List (List ℤ)) (periods : ℕ) (journal : List Move) → IsAccepted a → periods ≤ 1000 → AreAmple a feeds periods
+    (a : Accepted) (feeds : List (List ℤ)) (periods : ℕ) (journal : List Move) → IsAccepted a → HasFewFirings a periods → AreAmple a feeds periods
     → HasAmpleCells (program_for a feeds periods None).plan → IsHonest (program_for a feeds periods None) journal
     → IsQuiet (program_for a feeds periods None).plan (present (state_of (program_for a feeds periods None) journal))
     → AllSpent (program_for a feeds periods None).plan (present (state_of (program_for a feeds periods None) journal))
@@ -203,7 +204,7 @@ pub record IsSequentialOutcome (w : Program) (journal : List Move) : Type 0 wher
 
 abbrev pub OrderDoesNotShow : Type 0
 OrderDoesNotShow =
-    (a : Accepted) (feeds : List (List ℤ)) (periods : ℕ) (firings : Option ℕ) (journal : List Move) → IsAccepted a → periods ≤ 1000
+    (a : Accepted) (feeds : List (List ℤ)) (periods : ℕ) (firings : Option ℕ) (journal : List Move) → IsAccepted a → HasFewFirings a periods
     → IsHonest (program_for a feeds periods firings) journal
     → IsQuiet (program_for a feeds periods firings).plan (present (state_of (program_for a feeds periods firings) journal))
     → IsSequentialOutcome (program_for a feeds periods firings) journal

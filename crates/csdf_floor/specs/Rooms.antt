@@ -1,5 +1,6 @@
 -- Laws of room: what the capacities, the number of cells and the limit on all firings can't change.
 use Rattle.std.specs.Prelude.{ℕ, ◌≡◌, ◌≤◌, ◌⊎◌, List, ℤ, Option, None, length, map}
+use Rattle.csdf_floor.specs.Work.{HasFewFirings}
 use Rattle.std.specs.List.{zip, AllByRecursion, AllZip}
 use Rattle.csdf_core.specs.Moves.{Move}
 use Rattle.csdf_core.specs.Plan.{Channel}
@@ -93,6 +94,6 @@ pub record IsRoomOutcome (a b : Accepted) (v w : Program) (one two : List Move) 
 abbrev pub RoomDoesNotShow : Type 0
 RoomDoesNotShow =
     (a b : Accepted) (feeds : List (List ℤ)) (periods : ℕ) (firings others : Option ℕ) (one two : List Move) → IsAccepted a → IsAccepted b
-    → without_room a.graph ≡ without_room b.graph → periods ≤ 1000
+    → without_room a.graph ≡ without_room b.graph → HasFewFirings a periods
     → IsHonest (program_for a feeds periods firings) one → IsHonest (program_for b feeds periods others) two
     → IsRoomOutcome a b (program_for a feeds periods firings) (program_for b feeds periods others) one two

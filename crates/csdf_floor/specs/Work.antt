@@ -1,5 +1,5 @@
 -- What a run is asked for.
-use Rattle.std.specs.Prelude.{ℕ, ◌≡◌, ◌≤◌, Bool, true, false, List, [], ℤ, Option, All, length, map, slice_index_or}
+use Rattle.std.specs.Prelude.{ℕ, ◌≡◌, ◌↔◌, ◌*◌, ◌≤◌, Bool, true, false, List, [], ℤ, Option, All, length, map, slice_index_or}
 use Rattle.std.specs.Global.{Vec}
 use Rattle.csdf_model.specs.declared.parts.Kernel.{Kernel}
 use Rattle.csdf_model.specs.declared.parts.Kernel.TheVariants as kernel
@@ -41,11 +41,23 @@ pub record AreFeeds (g : Graph) (feeds : List (List ℤ)) : Type 0 where
   pub short : All (λ feed. length feed ≤ 1000000) feeds
   pub only_sources : (a : ℕ) → is_source_of g a ≡ false → feed_of feeds a ≡ []
 
+-- in so many periods no actor makes more than 16,384,000 firings
+abbrev pub HasFewFirings : Accepted → ℕ → Type 0
+HasFewFirings a periods = All (λ q. periods * q ≤ 16384000) a.q
+
+-- how many periods a run of the graph may have: the most in which no actor makes more firings than that, and as many at most
+abbrev pub IsMostPeriods : Accepted → ℕ → Type 0
+IsMostPeriods a most = (n : ℕ) → (n ≤ most) ↔ ((n ≤ 16384000) × HasFewFirings a n)
+
+-- 1,000 periods of an accepted graph have few firings
+abbrev pub FewInThousand : Type 0
+FewInThousand = (a : Accepted) (periods : ℕ) → IsAccepted a → periods ≤ 1000 → HasFewFirings a periods
+
 pub record IsWork (w : Work) : Type 0 where
   pub accepted : IsAccepted w.accepted
   pub fed : AreFeeds w.accepted.graph w.feeds
   pub some_period : 1 ≤ w.periods
-  pub few_periods : w.periods ≤ 1000
+  pub few_firings : HasFewFirings w.accepted w.periods
 
 abbrev pub is_sink_kernel : Kernel → Bool
 is_sink_kernel kernel.Source = false

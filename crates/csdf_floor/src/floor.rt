@@ -11,7 +11,7 @@ ghost use Rattle.csdf_journal.specs.View.{is_kept, told};
 ghost use Rattle.csdf_kernel.specs.Value.{HasFilterInRange, value_of};
 ghost use Rattle.csdf_floor.specs.declared.fault.DeliverFault.TheVariants.{Memory};
 ghost use Rattle.csdf_floor.specs.Journal.{IsHonest};
-ghost use Rattle.csdf_floor.specs.Work.{AreFeeds, feeds_in, program};
+ghost use Rattle.csdf_floor.specs.Work.{AreFeeds, HasFewFirings, feeds_in, program};
 ghost use Rattle.csdf_floor.specs.Making.{made_moves, closes_made};
 ghost use Rattle.csdf_floor.specs.Outcome.{HasTotals, IsEndOf, IsOutcome, journal_in};
 ghost use Rattle.csdf_floor.specs.Floor.{HasGone, IsFloor, IsReady, IsStartAnswer, IsUnderWay, IsDeliverAnswer, closes, closes_after, ending_of};
@@ -64,7 +64,7 @@ fn opened(
 ) -> Result<Book, AllocError>
     requires fed { AreFeeds accepted.now.graph (feeds_in feeds.now) }
     requires some_period { 1 ≤ periods }
-    requires few_periods { periods ≤ 1000 }
+    requires few_firings { HasFewFirings accepted.now periods }
     ensures work { IfOk result (λ book. book.shown.work
         ≡ record { accepted = accepted.now; feeds = feeds_in feeds.now; periods = periods; firings = firings }) }
     ensures journal { IfOk result (λ book. book.shown.journal ≡ []) }
@@ -91,7 +91,7 @@ impl Floor {
     ) -> Result<Floor, AllocError>
         requires fed { AreFeeds accepted.now.graph (feeds_in feeds.now) }
         requires some_period { 1 ≤ periods }
-        requires few_periods { periods ≤ 1000 }
+        requires few_firings { HasFewFirings accepted.now periods }
         ensures work { IfOk result (λ floor. floor.work
             ≡ record { accepted = accepted.now; feeds = feeds_in feeds.now; periods = periods; firings = firings }) }
         ensures journal { IfOk result (λ floor. floor.journal
@@ -112,7 +112,7 @@ impl Floor {
     ) -> Result<Floor, AllocError>
         requires fed { AreFeeds accepted.now.graph (feeds_in feeds.now) }
         requires some_period { 1 ≤ periods }
-        requires few_periods { periods ≤ 1000 }
+        requires few_firings { HasFewFirings accepted.now periods }
         ensures work { IfOk result (λ floor. floor.work
             ≡ record { accepted = accepted.now; feeds = feeds_in feeds.now; periods = periods; firings = firings }) }
         ensures journal { IfOk result (λ floor. floor.journal

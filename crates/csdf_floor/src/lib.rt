@@ -9,6 +9,7 @@ mod fault;
 mod floor;
 mod jobs;
 mod laws;
+mod limits;
 mod lists;
 mod making;
 mod outcome;
@@ -28,6 +29,7 @@ pub use laws::{
     quiet_is_exhausted, room_does_not_show, runs_honestly, sequential_is_honest, stay_in_step,
     stays_counted, stays_within,
 };
+pub use limits::{few_in_thousand, may_run, most_periods};
 pub use outcome::{ChannelReport, Outcome};
 pub use printed::printed_report;
 pub use settling::settle;

@@ -68,7 +68,7 @@ impl Lists {
         }
     }
 
-    /// The same where it is wanted.
+    /// Appends the tokens to the actor's list where they are wanted, and else does nothing.
     pub(crate) fn append_where(&mut self, wanted: bool, actor: u32, tokens: &[i32])
         requires exists { actor < length self.old.lists }
         requires room { IsTrue wanted → length tokens.now ≤ slice_index self.old.rooms actor }

@@ -2,7 +2,7 @@
 
 ghost use Rattle.std.specs.Prelude.{◌≡◌, ◌≤◌, IfOk, length};
 ghost use Rattle.csdf_floor.specs.Journal.{program_for};
-ghost use Rattle.csdf_floor.specs.Work.{AreFeeds, feeds_in};
+ghost use Rattle.csdf_floor.specs.Work.{AreFeeds, HasFewFirings, feeds_in};
 ghost use Rattle.csdf_floor.specs.Outcome.{IsEndOf, IsSettleAnswer, HasTotals, HasHonestJournal, EndsSettled, TakesInOrder};
 ghost use Rattle.csdf_floor.specs.Outcome.{StaysWithinCapacities, LeavesClosedAlone, TellsSinks, TellsReport, TellsEnding};
 ghost use Rattle.csdf_floor.specs.Outcome.{IsAsSequentialRun, IsAsInAnyRoom, CompletesWhereAmple, journal_in};
@@ -35,7 +35,7 @@ pub fn settle(
 ) -> Result<Outcome, RunFault>
     requires fed { AreFeeds accepted.now.graph (feeds_in feeds.now) }
     requires some_period { 1 ≤ periods }
-    requires few_periods { periods ≤ 1000 }
+    requires few_firings { HasFewFirings accepted.now periods }
     requires totals { length totals.now ≡ length accepted.now.graph.actors }
     ensures answer { IsSettleAnswer
         (IsEndOf floor (record { accepted = accepted.now; feeds = feeds_in feeds.now; periods = periods; firings = firings }) totals.now) result }

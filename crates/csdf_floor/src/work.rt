@@ -11,7 +11,7 @@ ghost use Rattle.csdf_core.specs.Step.{is_source, producer};
 ghost use Rattle.csdf_kernel.specs.Value.{HasFilterInRange};
 ghost use Rattle.csdf_floor.specs.Journal.{output_counts};
 ghost use Rattle.csdf_floor.specs.Inside.{consumed_at, consumer, produced_at, production_at, put_into, taken_out_of};
-ghost use Rattle.csdf_floor.specs.Work.{AreFeeds, IsFeed, IsWork, feeds_in, feed_of, is_sink_kernel, is_source_of, program};
+ghost use Rattle.csdf_floor.specs.Work.{AreFeeds, HasFewFirings, IsFeed, IsWork, feeds_in, feed_of, is_sink_kernel, is_source_of, program};
 
 use crate::same::{are_same_feeds, is_same_accepted, is_same_limit};
 use csdf_analysis::Accepted;
@@ -21,7 +21,8 @@ use csdf_model::{Graph, Kernel};
 use std::alloc::{AllocError, Global};
 use std::marker::Model;
 
-/// So many periods of an accepted graph over the contents of its sources' files.
+/// What is run: an accepted graph, the contents of its sources' files, for how many periods, and the
+/// limit on all firings where there is one.
 pub(crate) struct Work {
     accepted: Accepted,
     feeds: Vec<Vec<i32>>,
@@ -71,7 +72,7 @@ fn part_of(feed: &[i32], from: usize, to: usize) -> &[i32]
 
 /// How many firings each actor makes in so many periods.
 fn limits_of(alloc: Global, accepted: &Accepted, periods: u32) -> Result<Vec<u32>, AllocError>
-    requires { periods ≤ 1000 }
+    requires { HasFewFirings accepted.now periods }
     ensures value { IfOk result (λ limits. limits.items ≡ map (λ q. periods * q) accepted.now.q) }
     ensures few { IfOk result (λ limits. All (λ n. n ≤ 16_384_000) limits.items) }
     ensures each_actor { length accepted.now.q ≡ length accepted.now.graph.actors }
@@ -215,7 +216,7 @@ impl Work {
     ) -> Result<Work, AllocError>
         requires fed { AreFeeds accepted.now.graph (feeds_in feeds.now) }
         requires some_period { 1 ≤ periods }
-        requires few_periods { periods ≤ 1000 }
+        requires few_firings { HasFewFirings accepted.now periods }
         ensures { IfOk result (λ work. work ≡ record { accepted = accepted.now; feeds = feeds_in feeds.now; periods = periods; firings = firings }) }
     {
         let accepted = accepted.try_copy(alloc)?;

@@ -4,6 +4,7 @@ pub mod Totals
 pub mod ChainLemmas
 pub mod Joins
 pub mod Fills
+pub mod Steps
 pub mod Lists
 pub mod Shares
 pub mod Moves
@@ -12,4 +13,5 @@ pub mod Tables
 pub mod Views
 pub mod Segments
 pub mod Opening
+pub mod InRow
 pub mod OneByOne

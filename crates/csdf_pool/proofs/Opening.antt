@@ -39,7 +39,7 @@ times-range_behind cell first (suc n) h =
     times-cons_other cell first (range_with_len (first + 1) n) (λ e. omega (arith, h, e))
     ∙ times-range_behind cell (first + 1) n (omega (arith, h))
 
-times-range_in : (cell first n : ℕ) → first ≤ cell → cell < first + n → times cell (range_with_len first n) ≡ 1
+pub times-range_in : (cell first n : ℕ) → first ≤ cell → cell < first + n → times cell (range_with_len first n) ≡ 1
 times-range_in cell first zero h k = absurd (omega (arith, h, k))
 times-range_in cell first (suc n) h k = elim (cases_lt first cell) [
   | inl before ↦

@@ -3,3 +3,4 @@ pub mod Chains
 pub mod Inside
 pub mod Pens
 pub mod Pool
+pub mod Rows

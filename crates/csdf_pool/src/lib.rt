@@ -10,6 +10,7 @@ mod fill;
 mod iters;
 mod pen;
 mod pool;
+mod rows;
 
 pub use ends::{Ends, splice};
 pub use iters::{Cells, Tokens};

@@ -20,6 +20,7 @@ use Rattle.csdf_run.specs.declared.texts.Texts.{Texts}
 use Rattle.csdf_floor.specs.Journal.{Program}
 use Rattle.csdf_floor.specs.Outcome.{IsEndBeside, sequential_list}
 use Rattle.csdf_analysis.specs.declared.room.Room.{Room}
+use Rattle.csdf_run.specs.declared.length.Length.{Length}
 use Rattle.csdf_run.specs.Texts.{◌>>=◌, AreTextsBeside, IsTextBeside, TellRun, TellSequentialRun, feed_in, feeds_from, sink_texts, sinks_among, text_at}
 use Rattle.csdf_floor.specs.Work.{AreFeeds, feed_of, feeds_in, is_sink_kernel, program}
 
@@ -218,14 +219,16 @@ lists_beside w o run Dry end a lt =
 lists_beside w o run Stopped end a lt = end.sinks a lt
 lists_beside w o run Starved end a lt = end.sinks a lt
 
-pub as_sequential : (room : Room) (bytes : List ℕ) (texts : List (List ℕ)) (periods : ℕ) (firings : Option ℕ) (t : Texts) → TellRun room bytes texts periods firings t
-    → TellSequentialRun room bytes texts periods firings t
-as_sequential room bytes texts periods firings t r = record {
+pub as_sequential : (room : Room) (bytes : List ℕ) (texts : List (List ℕ)) (how_long : Length) (firings : Option ℕ) (t : Texts) → TellRun room bytes texts how_long firings t
+    → TellSequentialRun room bytes texts how_long firings t
+as_sequential room bytes texts how_long firings t r = record {
   accepted = r.accepted;
   feeds = r.feeds;
+  periods = r.periods;
+  goes_on = r.goes_on;
   read = r.read;
   sinks = λ run is.
-      let w : Program = program (record { accepted = r.accepted; feeds = r.feeds; periods = periods; firings = firings }) in
+      let w : Program = program (record { accepted = r.accepted; feeds = r.feeds; periods = r.periods; firings = firings }) in
       let actors = r.accepted.graph.actors in
       let many : length w.plan.sources ≡ length actors = length-map actors (λ (actor : Actor). is_source_kernel actor.kernel) in
       let lists = lists_beside w r.outcome run r.outcome.ending (r.told.outcome.sequential run is) in

@@ -1,4 +1,5 @@
 pub mod FeedTexts
 pub mod RoomTexts
 pub mod Held
+pub mod Lengths
 pub mod Ends

@@ -1,6 +1,6 @@
 -- The sinks' texts of a complete run, whatever the room.
-use Rattle.std.proofs.Common.{◌≡◌, ℕ, ◌≤◌, List, ◌∷◌, map, refl, ap, sym, subst, ◌∙◌, Result, Ok, Err, Option, None, []}
-use Rattle.std.specs.Prelude.{ℤ, MatchResult}
+use Rattle.std.proofs.Common.{◌≡◌, ℕ, ◌*◌, ◌≤◌, List, ◌∷◌, map, refl, ap, sym, subst, ◌∙◌, Result, Ok, Err, Option, None, []}
+use Rattle.std.specs.Prelude.{ℤ, All, MatchResult}
 use Rattle.csdf_model.specs.Graph as graph
 use Rattle.csdf_model.specs.Graph.{Actor, Graph}
 use Rattle.csdf_graph.specs.declared.fault.GraphFault.{GraphFault}
@@ -18,11 +18,13 @@ use Rattle.csdf_floor.specs.Journal.{Program, program_for, state_of}
 use Rattle.csdf_floor.specs.Laws.{AllSpent}
 use Rattle.csdf_floor.specs.Outcome.{journal_in}
 use Rattle.csdf_floor.specs.Rooms.{DifferInRoom, without_room}
-use Rattle.csdf_floor.specs.Work.{feeds_in}
-use Rattle.csdf_floor.proofs.Rooms.{differ_in_room}
+use Rattle.csdf_floor.specs.Work.{HasFewFirings, feeds_in}
+use Rattle.csdf_floor.proofs.Rooms.{differ_in_room, same_period}
 use Rattle.csdf_floor.proofs.Works.{playable_program}
 use Rattle.csdf_run.specs.declared.texts.Texts.{Texts}
-use Rattle.csdf_run.specs.Texts.{TellRun, TellSameInAnyRoom, feeds_from, sink_texts, texts_in}
+use Rattle.csdf_run.specs.declared.length.Length.{Length}
+use Rattle.csdf_run.specs.Texts.{MayGoOn, TellRun, TellSameInAnyRoom, feeds_from, sink_texts, texts_in}
+use Rattle.csdf_run.proofs.Lengths.{may_run, one_length}
 
 -- a text is one graph
 one_of : {A : Type 0} (read : Result A GraphFault) (P : A → Result Graph GraphFault → Type 0) (g h : Graph) → ((x : A) → P x (Ok g) → P x (Ok h) → g ≡ h)
@@ -53,8 +55,8 @@ one_feeds : (actors others : List Actor) (texts : List (List ℕ)) (one two : Li
 one_feeds actors others texts one two e x y =
     let z : Ok one ≡ Ok two = sym x ∙ ap (λ (xs : List Actor). feeds_from 0 xs texts) e ∙ y in cc
 
-module _ (room other_room : Room) (bytes : List ℕ) (texts : List (List ℕ)) (periods : ℕ) (firings others : Option ℕ) (t u : Texts) (few : periods ≤ 1000)
-    (r : TellRun room bytes texts periods firings t) (s : TellRun other_room bytes texts periods others u) where
+module _ (room other_room : Room) (bytes : List ℕ) (texts : List (List ℕ)) (how_long : Length) (firings others : Option ℕ) (t u : Texts)
+    (may : MayGoOn room bytes how_long) (r : TellRun room bytes texts how_long firings t) (s : TellRun other_room bytes texts how_long others u) where
   abbrev a : Accepted
   a = r.accepted
 
@@ -73,28 +75,39 @@ module _ (room other_room : Room) (bytes : List ℕ) (texts : List (List ℕ)) (
   same_feeds : r.feeds ≡ s.feeds
   same_feeds = one_feeds a.graph.actors b.graph.actors texts r.feeds s.feeds same_actors r.read.tokens s.read.tokens
 
+  same_vector : a.q ≡ b.q
+  same_vector = same_period a b r.read.file.accepted s.read.file.accepted same_bare
+
+  same_length : r.periods ≡ s.periods
+  same_length = one_length how_long a b r.periods s.periods same_vector r.goes_on s.goes_on
+
+  few : HasFewFirings b s.periods
+  few = subst (HasFewFirings b) same_length
+      (subst (All (λ q. r.periods * q ≤ 16384000)) same_vector (may_run room bytes how_long a r.periods may r.goes_on r.read.file).1)
+
   abbrev w : Program
-  w = program_for a r.feeds periods firings
+  w = program_for a r.feeds r.periods firings
 
   abbrev v : Program
-  v = program_for b s.feeds periods others
+  v = program_for b s.feeds s.periods others
 
   differ : DifferInRoom w v
-  differ = subst (λ (feeds : List (List ℤ)). DifferInRoom w (program_for b feeds periods others)) same_feeds
-      (differ_in_room a b r.feeds periods firings others r.read.file.accepted s.read.file.accepted same_bare)
+  differ = subst (λ (n : ℕ). DifferInRoom w (program_for b s.feeds n others)) same_length
+      (subst (λ (feeds : List (List ℤ)). DifferInRoom w (program_for b feeds r.periods others)) same_feeds
+      (differ_in_room a b r.feeds r.periods firings others r.read.file.accepted s.read.file.accepted same_bare))
 
   same_texts : t.ending ≡ Complete → u.ending ≡ Complete → texts_in t.sinks.items ≡ texts_in u.sinks.items
   same_texts one two =
       let all : AllSpent v.plan (present (state_of v (journal_in s.outcome))) =
       subst (IsEnding v.plan (present (state_of v (journal_in s.outcome)))) (sym s.told.ending ∙ two) s.told.outcome.ending in
-      let playable = playable_program b s.feeds periods others s.read.file.accepted few in
+      let playable = playable_program b s.feeds s.periods others s.read.file.accepted few in
       let beside = r.told.outcome.rooms v (journal_in s.outcome) differ playable s.told.outcome.honest in
       let sinks : feeds_in r.outcome.sinks.items ≡ feeds_in s.outcome.sinks.items =
       (beside.complete (sym r.told.ending ∙ one) all).sinks ∙ sym s.told.outcome.sinks in
       r.told.sinks ∙ ap (sink_texts a.graph.actors) sinks ∙ ap (λ (xs : List Actor). sink_texts xs (feeds_in s.outcome.sinks.items)) same_actors
       ∙ sym s.told.sinks
 
-pub same_in_any_room : (room : Room) (bytes : List ℕ) (texts : List (List ℕ)) (periods : ℕ) (firings : Option ℕ) (t : Texts) → periods ≤ 1000
-    → TellRun room bytes texts periods firings t → TellSameInAnyRoom bytes texts periods t
-same_in_any_room room bytes texts periods firings t few r other_room others u s =
-    same_texts room other_room bytes texts periods firings others t u few r s
+pub same_in_any_room : (room : Room) (bytes : List ℕ) (texts : List (List ℕ)) (how_long : Length) (firings : Option ℕ) (t : Texts)
+    → MayGoOn room bytes how_long → TellRun room bytes texts how_long firings t → TellSameInAnyRoom bytes texts how_long t
+same_in_any_room room bytes texts how_long firings t may r other_room others u s =
+    same_texts room other_room bytes texts how_long firings others t u may r s

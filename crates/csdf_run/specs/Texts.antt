@@ -1,5 +1,5 @@
 -- A run from texts to texts: a graph file and the tokens for its sources, and what is told of the run.
-use Rattle.std.specs.Prelude.{ℕ, suc, ◌≡◌, ◌≢◌, if◌then◌else◌, List, [], ◌∷◌, ℤ, Option, Result, Ok, Err, count_by, drop, length, map, slice_index_or}
+use Rattle.std.specs.Prelude.{ℕ, suc, ◌≡◌, ◌≢◌, ◌≤◌, if◌then◌else◌, List, [], ◌∷◌, ℤ, Option, Result, Ok, Err, count_by, drop, length, map, slice_index_or}
 use Rattle.std.specs.Global.{Vec}
 use Rattle.std.specs.Result.{result_map_both}
 use Rattle.csdf_graph.specs.declared.fault.GraphFault.TheVariants as graph
@@ -23,7 +23,9 @@ use Rattle.csdf_floor.specs.Journal.{program_for}
 use Rattle.csdf_floor.specs.Outcome.{IsOutcome, sequential_list}
 use Rattle.csdf_floor.specs.Report.{names_of, report_text}
 use Rattle.csdf_floor.specs.Sequential.{IsSequential}
-use Rattle.csdf_floor.specs.Work.{Work, feed_of, feeds_in, is_sink_kernel}
+use Rattle.csdf_floor.specs.Work.{Work, HasFewFirings, IsMostPeriods, feed_of, feeds_in, is_sink_kernel}
+use Rattle.csdf_run.specs.declared.length.Length.{Length}
+use Rattle.csdf_run.specs.declared.length.Length.TheVariants.{Periods, UntilDry}
 
 -- the contents of texts
 abbrev pub texts_in : List (Vec ℕ) → List (List ℕ)
@@ -37,6 +39,16 @@ pub record IsFileOf (room : Room) (bytes : List ℕ) (a : Accepted) : Type 0 whe
   pub read : IsGraphOf bytes (Ok graph)
   pub roomy : IsWithRoom room a.q graph a.graph
   pub accepted : IsAccepted a
+
+-- a run goes on for so many periods of the graph
+abbrev pub GoesOnFor : Length → Accepted → ℕ → Type 0
+GoesOnFor (Periods n) a periods = periods ≡ n
+GoesOnFor UntilDry a periods = IsMostPeriods a periods
+
+-- a run of the file's graph may go on so long
+abbrev pub MayGoOn : Room → List ℕ → Length → Type 0
+MayGoOn room bytes (Periods n) = (1 ≤ n) × ((a : Accepted) → IsFileOf room bytes a → HasFewFirings a n)
+MayGoOn room bytes UntilDry = Unit {0}
 
 -- how many sources there are
 abbrev pub source_count : List Actor → ℕ
@@ -125,11 +137,13 @@ pub record TellOutcome (w : Work) (o : Outcome) (t : Texts) : Type 0 where
   pub sinks : texts_in t.sinks.items ≡ sink_texts w.accepted.graph.actors (feeds_in o.sinks.items)
   pub report : t.report.items ≡ report_text (names_of w.accepted.graph.channels) o.ending o.report.items
 
--- the texts tell an outcome of so many periods of the file's graph, accepted with this room, over the texts' tokens
-pub record TellRun (room : Room) (bytes : List ℕ) (texts : List (List ℕ)) (periods : ℕ) (firings : Option ℕ) (t : Texts) : Type 0 where
+-- the texts tell an outcome of a run of the file's graph, accepted with this room, over the texts' tokens, which goes on so long
+pub record TellRun (room : Room) (bytes : List ℕ) (texts : List (List ℕ)) (how_long : Length) (firings : Option ℕ) (t : Texts) : Type 0 where
   pub accepted : Accepted
   pub feeds : List (List ℤ)
+  pub periods : ℕ
   pub outcome : Outcome
+  pub goes_on : GoesOnFor how_long accepted periods
   pub read : AreTextsOf room bytes texts accepted feeds
   pub told : TellOutcome (work_for accepted feeds periods firings) outcome t
 
@@ -150,18 +164,20 @@ AreTextsBeside ending list (a ∷ sinks) [] = ⊥
 AreTextsBeside ending list (a ∷ sinks) (text ∷ texts) = IsTextBeside ending (list a) text × AreTextsBeside ending list sinks texts
 
 -- the sinks' texts are those of the sequential run of the file's graph over the texts' tokens, or of a front of it
-pub record TellSequentialRun (room : Room) (bytes : List ℕ) (texts : List (List ℕ)) (periods : ℕ) (firings : Option ℕ) (t : Texts) : Type 0 where
+pub record TellSequentialRun (room : Room) (bytes : List ℕ) (texts : List (List ℕ)) (how_long : Length) (firings : Option ℕ) (t : Texts) : Type 0 where
   pub accepted : Accepted
   pub feeds : List (List ℤ)
+  pub periods : ℕ
+  pub goes_on : GoesOnFor how_long accepted periods
   pub read : AreTextsOf room bytes texts accepted feeds
   pub sinks : (run : List ℕ) → IsSequential (program_for accepted feeds periods firings) run
       → AreTextsBeside t.ending (sequential_list (program_for accepted feeds periods firings) run) (sinks_among accepted.graph.actors) (texts_in t.sinks.items)
 
 -- ---- beside a run in another room
 
--- any other run of the same file over the same texts, in whatever room and with whatever limit on all firings, has the same texts of the sinks where both are
+-- any other run of the same file over the same texts that goes on as long, in whatever room and with whatever limit on all firings, has the same texts of the sinks where both are
 -- complete
-abbrev pub TellSameInAnyRoom : List ℕ → List (List ℕ) → ℕ → Texts → Type 0
-TellSameInAnyRoom bytes texts periods t =
-    (room : Room) (firings : Option ℕ) (other : Texts) → TellRun room bytes texts periods firings other → t.ending ≡ Complete → other.ending ≡ Complete
+abbrev pub TellSameInAnyRoom : List ℕ → List (List ℕ) → Length → Texts → Type 0
+TellSameInAnyRoom bytes texts how_long t =
+    (room : Room) (firings : Option ℕ) (other : Texts) → TellRun room bytes texts how_long firings other → t.ending ≡ Complete → other.ending ≡ Complete
     → texts_in t.sinks.items ≡ texts_in other.sinks.items

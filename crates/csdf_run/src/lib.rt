@@ -7,6 +7,7 @@ mod gate;
 mod hall;
 mod hand;
 mod hints;
+mod length;
 mod policy;
 mod request;
 mod run_floor;
@@ -17,8 +18,9 @@ mod worker;
 
 pub use csdf_floor::{
     ChannelReport, DeliverFault, Ending, Floor, Journal, Keeping, Outcome, RunFault, StartFault,
-    are_feeds, printed_report, settle,
+    are_feeds, may_run, most_periods, printed_report, settle,
 };
 pub use gate::{Gate, Open};
+pub use length::Length;
 pub use running::run;
 pub use texts::{Texts, TextsFault, run_texts, run_texts_with_room};

@@ -2,7 +2,7 @@
 
 ghost use Rattle.std.specs.Prelude.{◌≡◌, ◌≤◌, IfOk, length};
 ghost use Rattle.csdf_journal.specs.View.{is_kept};
-ghost use Rattle.csdf_floor.specs.Work.{AreFeeds, feeds_in};
+ghost use Rattle.csdf_floor.specs.Work.{AreFeeds, HasFewFirings, feeds_in};
 ghost use Rattle.csdf_floor.specs.Outcome.{IsOutcome};
 ghost use Rattle.csdf_run.specs.Texts.{work_for};
 
@@ -13,8 +13,8 @@ use csdf_graph::Graph;
 use std::alloc::{AllocError, Global};
 use std::marker::Model;
 
-/// So many periods of an accepted graph over the feeds of its sources, with a limit on all firings where
-/// there is one, by so many workers.
+/// What a run is asked for: an accepted graph, the feeds of its sources, the number of workers and of
+/// periods, and the limit on all firings where there is one.
 ///
 /// A contract sees the work: all but the number of workers, on which no outcome depends.
 #[derive(Drop)]
@@ -28,14 +28,15 @@ pub(crate) struct Request<'a> {
 
 impl<'a> Model for Request<'a> {
     ghost use Rattle.std.specs.Prelude.{◌≤◌};
-    ghost use Rattle.csdf_floor.specs.Work.{AreFeeds, Work, feeds_in};
+    ghost use Rattle.csdf_floor.specs.Work.{AreFeeds, HasFewFirings, Work, feeds_in};
     ghost use Rattle.csdf_run.specs.Texts.{work_for};
 
     ghost Value = { Work };
 
     ghost view = { λ r. work_for r.accepted.now (feeds_in r.feeds.now) r.periods r.firings };
 
-    ghost invariant = { λ r. AreFeeds r.accepted.now.graph (feeds_in r.feeds.now) × (1 ≤ r.periods) × (r.periods ≤ 1000) };
+    ghost invariant = { λ r. AreFeeds r.accepted.now.graph (feeds_in r.feeds.now) × (1 ≤ r.periods)
+        × HasFewFirings r.accepted.now r.periods };
 }
 
 impl<'a> Request<'a> {
@@ -48,7 +49,7 @@ impl<'a> Request<'a> {
     ) -> Request<'a>
         requires fed { AreFeeds accepted.now.graph (feeds_in feeds.now) }
         requires some_period { 1 ≤ periods }
-        requires few_periods { periods ≤ 1000 }
+        requires few_firings { HasFewFirings accepted.now periods }
         ensures { result ≡ work_for accepted.now (feeds_in feeds.now) periods firings }
     {
         Request {

@@ -3,7 +3,7 @@
 ghost use Rattle.std.specs.Prelude.{◌≡◌, ◌≤◌, ◌<◌, All, IfOk, IfSome, length, true};
 ghost use Rattle.csdf_journal.specs.View.{is_kept};
 ghost use Rattle.csdf_floor.specs.Journal.{program_for};
-ghost use Rattle.csdf_floor.specs.Work.{AreFeeds, feeds_in};
+ghost use Rattle.csdf_floor.specs.Work.{AreFeeds, HasFewFirings, feeds_in};
 ghost use Rattle.csdf_floor.specs.Outcome.{HasHonestJournal, EndsSettled, TakesInOrder, StaysWithinCapacities, LeavesClosedAlone};
 ghost use Rattle.csdf_floor.specs.Outcome.{TellsSinks, TellsReport, TellsEnding, IsAsSequentialRun, IsAsInAnyRoom, CompletesWhereAmple, IsOutcome};
 ghost use Rattle.csdf_run.specs.Workers.{AnswersForAll, HoldsNothing, IsEndAt, both};
@@ -295,7 +295,7 @@ fn outcome_as<K: Asked + Send + Sync, R: Threads + Wait + Sync, G: Gate>(
     Ok(outcome)
 }
 
-/// What [`run`] answers, in one word, with a journal that is kept or not.
+/// What [`run`] answers, with a journal that is kept or not.
 pub(crate) fn outcome_of<R: Threads + Wait + Sync, G: Gate>(
     rt: &R,
     alloc: Global,
@@ -336,7 +336,7 @@ pub fn run<R: Threads + Wait + Sync, G: Gate>(
     requires some_worker { 1 ≤ workers }
     requires few_workers { workers ≤ 8 }
     requires some_period { 1 ≤ periods }
-    requires few_periods { periods ≤ 1000 }
+    requires few_firings { HasFewFirings accepted.now periods }
     ensures honest { IfOk result (HasHonestJournal (program_for accepted.now (feeds_in feeds.now) periods firings)) }
     ensures settled { IfOk result (EndsSettled (program_for accepted.now (feeds_in feeds.now) periods firings)) }
     ensures order { IfOk result (TakesInOrder (program_for accepted.now (feeds_in feeds.now) periods firings)) }

@@ -5,13 +5,14 @@ ghost use Rattle.csdf_model.specs.Graph.{actor_view};
 ghost use Rattle.csdf_bytes.specs.TokenText.{token_line, token_text};
 ghost use Rattle.csdf_analysis.specs.Room.{HasSomePeriod};
 ghost use Rattle.csdf_core.specs.Layout.{is_source_kernel};
-ghost use Rattle.csdf_run.specs.Texts.{AreTextsOf, IsFeedFault, IsFileFault, IsFileOf, IsReadFault, IsRefusal, TellOutcome, TellRun, TellSameInAnyRoom, TellSequentialRun};
+ghost use Rattle.csdf_run.specs.Texts.{AreTextsOf, IsFeedFault, IsFileFault, IsFileOf, IsReadFault, IsRefusal, MayGoOn, TellOutcome, TellRun, TellSameInAnyRoom, TellSequentialRun};
 ghost use Rattle.csdf_run.specs.Texts.{feed_in, feeds_from, sink_texts, source_count, texts_in, work_for};
 ghost use Rattle.csdf_floor.specs.declared.outcome.Outcome.{Outcome as OutcomeCode};
 ghost use Rattle.csdf_floor.specs.Report.{names_of, report_text};
 ghost use Rattle.csdf_floor.specs.Work.{AreFeeds, feeds_in, is_sink_kernel};
 
 use crate::gate::Open;
+use crate::length::{Length, periods_of};
 use crate::request::Request;
 use crate::running::outcome_of;
 use csdf_analysis::{AcceptFault, Accepted, Room, accept_in_room};
@@ -252,8 +253,9 @@ fn run_request<R: Threads + Wait + Sync>(
 }
 
 /// Runs so many periods of the graph of a file by worker threads, over one text of tokens for each
-/// source, in file order. With `firings` given, no more firings than that are made. Channels have
-/// their least capacities.
+/// source, in file order. No actor may come to more than 16,384,000 firings in them, which holds of
+/// 1,000 periods of any graph (see [`most_periods`](csdf_floor::most_periods)). With `firings` given, no
+/// more firings than that are made. Channels have their least capacities.
 ///
 /// The refusals come in the order of [`TextsFault`]: those of [`read_graph`], those of [`accept`], a
 /// wrong number of texts, the first source whose text [`read_tokens`] refuses, and those of [`run`].
@@ -272,11 +274,10 @@ pub fn run_texts<R: Threads + Wait + Sync>(
 ) -> Result<Texts, TextsFault>
     requires some_worker { 1 ≤ workers }
     requires few_workers { workers ≤ 8 }
-    requires some_period { 1 ≤ periods }
-    requires few_periods { periods ≤ 1000 }
-    ensures run { IfOk result (TellRun Room.Least graph.now (texts_in feeds.now) periods firings) }
-    ensures sequential { IfOk result (TellSequentialRun Room.Least graph.now (texts_in feeds.now) periods firings) }
-    ensures rooms { IfOk result (TellSameInAnyRoom graph.now (texts_in feeds.now) periods) }
+    requires goes_on { MayGoOn Room.Least graph.now (Length.Periods periods) }
+    ensures run { IfOk result (TellRun Room.Least graph.now (texts_in feeds.now) (Length.Periods periods) firings) }
+    ensures sequential { IfOk result (TellSequentialRun Room.Least graph.now (texts_in feeds.now) (Length.Periods periods) firings) }
+    ensures rooms { IfOk result (TellSameInAnyRoom graph.now (texts_in feeds.now) (Length.Periods periods)) }
     ensures refused { IfErr result (IsRefusal Room.Least graph.now (texts_in feeds.now)) }
 {
     run_texts_with_room(
@@ -285,37 +286,38 @@ pub fn run_texts<R: Threads + Wait + Sync>(
         graph,
         feeds,
         workers,
-        periods,
+        Length::Periods(periods),
         firings,
         Room::Least,
     )
 }
 
-/// As [`run_texts`], where the channels that have no capacity in the file have this room.
+/// As [`run_texts`], where the channels that have no capacity in the file have this room, for so many
+/// periods or until a source has run dry.
 ///
 /// The refusals are those of [`run_texts`]: room is no cause of one. Where a run is complete, its sinks'
-/// texts are those of every other complete run of the same file, texts and periods, in whatever room.
+/// texts are those of every other complete run of the same file, texts and length, in whatever room.
 pub fn run_texts_with_room<R: Threads + Wait + Sync>(
     rt: &R,
     alloc: Global,
     graph: &[u8],
     feeds: &[Vec<u8>],
     workers: u32,
-    periods: u32,
+    how_long: Length,
     firings: Option<u32>,
     room: Room,
 ) -> Result<Texts, TextsFault>
     requires some_worker { 1 ≤ workers }
     requires few_workers { workers ≤ 8 }
-    requires some_period { 1 ≤ periods }
-    requires few_periods { periods ≤ 1000 }
     requires some_room { HasSomePeriod room }
-    ensures run { IfOk result (TellRun room graph.now (texts_in feeds.now) periods firings) }
-    ensures sequential { IfOk result (TellSequentialRun room graph.now (texts_in feeds.now) periods firings) }
-    ensures rooms { IfOk result (TellSameInAnyRoom graph.now (texts_in feeds.now) periods) }
+    requires goes_on { MayGoOn room graph.now how_long }
+    ensures run { IfOk result (TellRun room graph.now (texts_in feeds.now) how_long firings) }
+    ensures sequential { IfOk result (TellSequentialRun room graph.now (texts_in feeds.now) how_long firings) }
+    ensures rooms { IfOk result (TellSameInAnyRoom graph.now (texts_in feeds.now) how_long) }
     ensures refused { IfErr result (IsRefusal room graph.now (texts_in feeds.now)) }
 {
     let fed = fed_of(alloc, graph, feeds, room)?;
+    let periods = periods_of(how_long, &fed.accepted);
     let request = Request::new(&fed.accepted, &fed.feeds, workers, periods, firings);
     match run_request(rt, alloc, &request) {
         Ok(texts) => Ok(texts),

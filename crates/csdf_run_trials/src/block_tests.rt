@@ -4,7 +4,7 @@
 ghost use Rattle.std.specs.Prelude.{IfOk};
 
 use crate::shared::{accepted_in, expect_eq, feeds_of};
-use csdf_floor::{Floor, Keeping, StartFault, are_feeds};
+use csdf_floor::{Floor, Keeping, StartFault, are_feeds, may_run};
 use csdf_kernel::{Counts, Outputs};
 use std::alloc::Global;
 use std::process::Abort;
@@ -75,6 +75,7 @@ fn told_of(rt: &impl Abort, alloc: Global, keeping: Keeping) -> Result<String, F
     let accepted = accepted_in(alloc, LINE)?;
     let feeds = feeds_of(alloc, &[5, -6, 7, 8])?;
     assert!(rt; are_feeds(accepted.graph(), &feeds));
+    assert!(rt; may_run(&accepted, 4));
     let mut floor = Floor::with_journal(alloc, &accepted, &feeds, 4, None, keeping)?;
     turns(alloc, &mut floor)
 }

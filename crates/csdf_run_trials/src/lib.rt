@@ -14,6 +14,8 @@ mod job_tests;
 #[cfg(test)]
 mod kernel_tests;
 #[cfg(test)]
+mod length_tests;
+#[cfg(test)]
 mod memory_tests;
 #[cfg(test)]
 mod oracle_tests;

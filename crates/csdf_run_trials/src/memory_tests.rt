@@ -9,7 +9,8 @@ use csdf_analysis::Accepted;
 use csdf_core::Core;
 use csdf_kernel::{Done, Job, Outputs, eval, eval_into};
 use csdf_run::{
-    DeliverFault, Floor, Keeping, Open, Outcome, RunFault, StartFault, are_feeds, run_texts,
+    DeliverFault, Floor, Keeping, Open, Outcome, RunFault, StartFault, are_feeds, may_run,
+    run_texts,
 };
 use std::alloc::Global;
 use std::process::Abort;
@@ -54,6 +55,7 @@ fn floor_of<R: Abort>(
     feeds: &[Vec<i32>],
 ) -> Result<Floor, Fail> {
     assert!(rt; are_feeds(accepted.graph(), feeds));
+    assert!(rt; may_run(accepted, 1));
     Ok(Floor::new(alloc, accepted, feeds, 1, None)?)
 }
 
@@ -234,6 +236,7 @@ fn floor_without_journal<R: Abort>(
     feeds: &[Vec<i32>],
 ) -> Result<Floor, Fail> {
     assert!(rt; are_feeds(accepted.graph(), feeds));
+    assert!(rt; may_run(accepted, 1));
     Ok(Floor::with_journal(alloc, accepted, feeds, 1, None, Keeping::NotKept)?)
 }
 

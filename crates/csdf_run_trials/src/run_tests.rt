@@ -7,7 +7,9 @@ use csdf_analysis::Accepted;
 use csdf_core::Refusal;
 use csdf_graph::Kernel;
 use csdf_kernel::{Counts, Done, Inputs, Job};
-use csdf_run::{DeliverFault, Ending, Floor, Open, Outcome, RunFault, StartFault, are_feeds};
+use csdf_run::{
+    DeliverFault, Ending, Floor, Open, Outcome, RunFault, StartFault, are_feeds, may_run,
+};
 use std::alloc::Global;
 use std::process::Abort;
 use std::sync::Wait;
@@ -284,6 +286,7 @@ fn floor_of<R: Abort>(
 ) -> Result<Floor, Fail> {
     let feeds = feeds_of(alloc, feed)?;
     assert!(rt; are_feeds(accepted.graph(), &feeds));
+    assert!(rt; may_run(accepted, 2));
     Ok(Floor::new(alloc, accepted, &feeds, 2, None)?)
 }
 

@@ -7,7 +7,7 @@ ghost use Rattle.csdf_floor.specs.Floor.{IsReady};
 use csdf_analysis::{Accepted, accept};
 use csdf_graph::{Kernel, read_graph};
 use csdf_kernel::{Counts, Done, Inputs, Job, eval};
-use csdf_run::{Floor, Gate, Outcome, RunFault, are_feeds, printed_report, run, settle};
+use csdf_run::{Floor, Gate, Outcome, RunFault, are_feeds, may_run, printed_report, run, settle};
 use std::alloc::Global;
 use std::fmt::Debug;
 use std::process::Abort;
@@ -172,7 +172,8 @@ pub(crate) fn ran<R: Threads + Wait + Abort + Sync, G: Gate>(
 ) -> Result<Outcome, RunFault> {
     assert!(rt; are_feeds(accepted.graph(), feeds));
     assert!(rt; 1 <= workers && workers <= 8);
-    assert!(rt; 1 <= periods && periods <= 1000);
+    assert!(rt; 1 <= periods);
+    assert!(rt; may_run(accepted, periods));
     run(rt, alloc, accepted, feeds, workers, periods, firings, gate)
 }
 
@@ -188,7 +189,8 @@ pub(crate) fn settled<R: Abort>(
     totals: &[u32],
 ) -> Result<Outcome, RunFault> {
     assert!(rt; are_feeds(accepted.graph(), feeds));
-    assert!(rt; 1 <= periods && periods <= 1000);
+    assert!(rt; 1 <= periods);
     assert!(rt; totals.len() == accepted.graph().actors().len());
+    assert!(rt; may_run(accepted, periods));
     settle(alloc, floor, accepted, feeds, periods, firings, totals)
 }

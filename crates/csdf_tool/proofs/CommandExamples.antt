@@ -6,6 +6,8 @@ use Rattle.csdf_answers.specs.declared.question.Question.TheVariants.{Check, Rep
 use Rattle.csdf_analysis.specs.declared.room.Room.{Room}
 use Rattle.csdf_analysis.specs.declared.room.Room.TheVariants.{Least, Periods, Auto}
 use Rattle.csdf_tool.specs.GraphFiles.{is_input}
+use Rattle.csdf_run.specs.declared.length.Length.{Length}
+use Rattle.csdf_run.specs.declared.length.Length.TheVariants as lengths
 use Rattle.csdf_tool.specs.CommandLine.{program, asked_by, asked_with, room_in, words_ask, Asked, Input, Moves, Ask, Explain, Run}
 
 abbrev on : Text → List Text
@@ -31,9 +33,17 @@ dot_asks : words_ask (on (codes "dot")) ≡ Some (Ask Dot Least (codes "a.toml")
 unfolding clap_on_literals asked_by asked_with
 dot_asks = refl
 
-explain_asks : words_ask (on (codes "explain")) ≡ Some (Explain (codes "a.toml"))
-unfolding clap_on_literals asked_by asked_with
+explain_asks : words_ask (on (codes "explain")) ≡ Some (Explain (codes "a.toml") None)
+unfolding clap_on_literals asked_with
 explain_asks = refl
+
+explain_with_folder_asks : words_ask (codes "explain" ∷ codes "a.toml" ∷ codes "d" ∷ []) ≡ Some (Explain (codes "a.toml") (Some (codes "d")))
+unfolding clap_on_literals asked_with
+explain_with_folder_asks = refl
+
+explain_of_input_asks : words_ask (codes "explain" ∷ codes "-" ∷ [] ∷ []) ≡ Some (Explain (codes "-") (Some []))
+unfolding clap_on_literals asked_with
+explain_of_input_asks = refl
 
 moves_asks : words_ask (on (codes "moves")) ≡ Some (Moves (codes "a.toml"))
 unfolding clap_on_literals asked_by asked_with
@@ -73,7 +83,7 @@ file_of None = []
 file_of (Some Input) = []
 file_of (Some (Moves path)) = path
 file_of (Some (Ask question room path)) = path
-file_of (Some (Explain path)) = path
+file_of (Some (Explain path folder)) = path
 file_of (Some (Run order)) = order.graph
 
 -- each command has its meaning: it asks for something of the file that it names
@@ -97,6 +107,10 @@ two_files_are_refused : takes program (codes "check" ∷ codes "a.toml" ∷ code
 unfolding clap_on_literals
 two_files_are_refused = refl
 
+two_folders_are_refused : takes program (codes "explain" ∷ codes "a.toml" ∷ codes "d" ∷ codes "e" ∷ []) ≡ false
+unfolding clap_on_literals
+two_folders_are_refused = refl
+
 unknown_command_is_refused : takes program (on (codes "fly")) ≡ false
 unfolding clap_on_literals
 unknown_command_is_refused = refl
@@ -107,16 +121,19 @@ unknown_command_is_refused = refl
 abbrev run_on : List Text → List Text
 run_on options = codes "run" ∷ codes "a.toml" ∷ codes "d" ∷ options
 
-abbrev run_into : Text → ℕ → ℕ → Option ℕ → Room → Option Asked
-run_into sinks workers periods firings room = Some (Run (record {
+abbrev run_for : Length → Text → ℕ → Option ℕ → Room → Option Asked
+run_for how_long sinks workers firings room = Some (Run (record {
   graph = codes "a.toml";
   folder = codes "d";
   sink_folder = sinks;
   workers = workers;
-  periods = periods;
+  how_long = how_long;
   firings = firings;
   room = room;
 }))
+
+abbrev run_into : Text → ℕ → ℕ → Option ℕ → Room → Option Asked
+run_into sinks workers periods firings room = run_for (lengths.Periods periods) sinks workers firings room
 
 -- the sinks' files go to the folder of the sources' where no other is named, and there are the least capacities where no room is
 abbrev run_of : ℕ → ℕ → Option ℕ → Option Asked
@@ -146,6 +163,14 @@ auto_asks : words_ask (run_on (codes "--room=auto" ∷ [])) ≡ run_into (codes 
 unfolding clap_on_literals asked_with
 auto_asks = refl
 
+until_dry_asks : words_ask (run_on (codes "--until-dry" ∷ codes "--workers=2" ∷ [])) ≡ run_for lengths.UntilDry (codes "d") 2 None Least
+unfolding clap_on_literals asked_with
+until_dry_asks = refl
+
+two_lengths_ask_nothing : words_ask (run_on (codes "--until-dry" ∷ codes "--periods" ∷ codes "1" ∷ [])) ≡ None
+unfolding clap_on_literals asked_with
+two_lengths_ask_nothing = refl
+
 no_room_asks_nothing : words_ask (run_on (codes "--room" ∷ codes "0" ∷ [])) ≡ None
 unfolding clap_on_literals asked_with
 no_room_asks_nothing = refl
@@ -174,6 +199,10 @@ past_the_ends_is_refused :
     ++ map (is_taken (codes "--firings")) (codes "-1" ∷ codes "1048576001" ∷ []) ≡ false ∷ false ∷ false ∷ false ∷ false ∷ false ∷ false ∷ []
 unfolding clap_on_literals
 past_the_ends_is_refused = refl
+
+until_dry_is_no_option_of_check : takes program (codes "check" ∷ codes "a.toml" ∷ codes "--until-dry" ∷ []) ≡ false
+unfolding clap_on_literals
+until_dry_is_no_option_of_check = refl
 
 twice_is_refused : takes program (run_on (codes "--workers" ∷ codes "2" ∷ codes "--workers" ∷ codes "2" ∷ [])) ≡ false
 unfolding clap_on_literals

@@ -1,6 +1,6 @@
 -- The command that a parse met, and the words and numbers after it.
-use Rattle.std.proofs.Common.{◌≡◌, ◌≤◌, ◌<◌, ◌^◌, ℕ, Bool, true, false, cond, List, Option, Some, None, codes, option_map, refl, sym, ap, ap₂, ◌∙◌, Bor, arith}
-use Rattle.std.specs.Prelude.{Box, option_and_then, unwrap_or}
+use Rattle.std.proofs.Common.{◌≡◌, ◌≤◌, ◌<◌, ◌^◌, ℕ, Bool, true, false, cond, List, Option, Some, None, codes, option_map, refl, sym, subst, ap, ap₂, ◌∙◌, Bor, arith}
+use Rattle.std.specs.Prelude.{Box, IfSome, option_and_then, unwrap_or}
 use Rattle.std.specs.Option.{option_map_or}
 use Rattle.std.specs.Box.{box_value}
 use Rattle.std.specs.Str.Parse.{IsNumeral, digits_value, without_leading_plus}
@@ -84,6 +84,15 @@ named_in (Some b) = refl
 
 named_of : (m : ArgMatches) → subcommand_name_of m ≡ option_map (λ p. p.0) (subcommand_rows_of m)
 named_of m = named_in (out-ArgMatches m).subcommand
+
+-- the rows of the command that was met
+pub rows_met : (m : ArgMatches) (rows : List Row) (P : List Row → Type 0) → Some rows ≡ option_map (λ p. p.1) (subcommand_rows_of m) → P rows
+    → IfSome (subcommand_rows_of m) (λ met. P met.1)
+rows_met m rows P given holds = by (subcommand_rows_of m) given
+  where
+    by : (q : Option (Text × List Row)) → Some rows ≡ option_map (λ p. p.1) q → IfSome q (λ met. P met.1)
+    by None given = tt
+    by (Some p) given = let same : rows ≡ p.1 = cc in subst P same holds
 
 pub asked_met : (m : ArgMatches) (name : Text) (rows : List Row) → Some name ≡ subcommand_name_of m
     → Some rows ≡ option_map (λ p. p.1) (subcommand_rows_of m) → asked_of name rows ≡ asked (subcommand_rows_of m)

@@ -9,7 +9,8 @@ use Rattle.clap.specs.declared.error.kind.ErrorKind.TheVariants.{OutOfMemory}
 use Rattle.csdf_tool.specs.declared.command.Unread.{Unread}
 use Rattle.csdf_tool.specs.declared.command.Unread.TheVariants as unread
 use Rattle.csdf_tool.specs.CommandLine.{Asked, IsUnread, program, words_ask}
-use Rattle.csdf_tool.specs.GraphFiles.{IsNamed}
+use Rattle.csdf_tool.specs.Acts.{Asks, Devices}
+use Rattle.csdf_tool.specs.GraphFiles.{IsGivenBy, IsNamed, graph_reads}
 use Rattle.csdf_tool.specs.Ends.{Ended, EndsAs, EndsBy, EndsFor, EndsForOneOf, EndsUnread, IsFaultOfFile, IsFaultOfInput}
 use Rattle.std.specs.Io.KnownBytes.{Appends}
 use Rattle.csdf_answers.specs.declared.fault.Stream.TheVariants.{Output}
@@ -73,6 +74,12 @@ module _ {status : ℕ} {before after : Option (List ℕ)} {failed : Bool} where
   refused (Ok u) P h one p = absurd (let no : 1 ≡ 0 = sym one ∙ h.zero in cc)
   refused (Err f) P h one p = refused_by f P h.by one p
 
+-- where it is not 0, what holds of the answer's fault holds of one
+pub of_fault : {status : ℕ} {before after : Option (List ℕ)} {failed : Bool} (answer : Result (Unit {0}) ToolFault) (P : ToolFault → Type 0)
+    → Ended answer status before after failed → status ≢ 0 → IfErr answer P → (f : ToolFault) × P f
+of_fault (Ok u) P h some p = absurd (some h.zero)
+of_fault (Err f) P h some p = (f, p)
+
 -- ---- faults of standard input
 
 -- a fault is that the input is too long, or another
@@ -122,15 +129,15 @@ refuses_input (Err f) left long other = λ one. record { long = λ is. long (ap 
 
 -- ---- what a word names
 
-module _ (IsAnswerTo : List ℕ → Result (List ℕ) ToolFault → Type 0) (word : Text) (left : Option (List ℕ)) where
-  pub puts_out : (answer : Result (Unit {0}) ToolFault) (bytes : List ℕ) (before after : Option (List ℕ)) → IsNamed word left bytes
-      → OnOk answer ((text : List ℕ) × IsAnswerTo bytes (Ok text) × Appends before after text) → OnOk answer (PutsOut IsAnswerTo word left before after)
+module _ (IsAnswerTo : List ℕ → Result (List ℕ) ToolFault → Type 0) (word : Text) (d : Devices) where
+  pub puts_out : (answer : Result (Unit {0}) ToolFault) (bytes : List ℕ) (before after : Option (List ℕ)) → IsGivenBy word d bytes
+      → OnOk answer ((text : List ℕ) × IsAnswerTo bytes (Ok text) × Appends before after text) → OnOk answer (PutsOut IsAnswerTo word d before after)
   puts_out (Ok u) bytes before after named h = (bytes, h.0, named, h.1, h.2)
   puts_out (Err f) bytes before after named h = tt
 
-  pub refuses_file : (answer : Result (Unit {0}) ToolFault) (bytes : List ℕ) → IsNamed word left bytes
+  pub refuses_file : (answer : Result (Unit {0}) ToolFault) (bytes : List ℕ) → IsGivenBy word d bytes
       → IfErr answer (λ f. f ≢ fault.Memory → f ≢ fault.Device Output → IsAnswerTo bytes (Err f))
-      → IfErr answer (λ f. status_of f ≡ 1 → IsFaultOfFile IsAnswerTo word left f)
+      → IfErr answer (λ f. status_of f ≡ 1 → IsFaultOfFile IsAnswerTo word d f)
   refuses_file (Ok u) bytes named h = tt
   refuses_file (Err f) bytes named h = λ one.
       inr (
@@ -140,14 +147,19 @@ module _ (IsAnswerTo : List ℕ → Result (List ℕ) ToolFault → Type 0) (wor
             (λ is. let three : status_of f ≡ 3 = ap status_of is in omega (arith, three, one)),
       )
 
+-- bytes that came of a word, seen as a slice
+pub given_bytes : (word : Text) (d : Devices) {bytes seen : List ℕ} → IsNamed word d.left bytes → Asks d.before d.after (graph_reads word bytes) → bytes ≡ seen
+    → IsGivenBy word d seen
+given_bytes word d named files same = subst (IsGivenBy word d) same (record { named = named; files = files })
+
 -- ---- what is asked for by another name
 
-module _ (left : Option (List ℕ)) (answer : Result (Unit {0}) ToolFault) {asked : Asked} (other : Asked) (same : asked ≡ other) where
-  pub carried_as : (before after : Option (List ℕ)) → OnOk answer (IsCarriedOut asked left before after) → OnOk answer (IsCarriedOut other left before after)
-  carried_as before after h = subst (λ a. OnOk answer (IsCarriedOut a left before after)) same h
+module _ (d : Devices) (answer : Result (Unit {0}) ToolFault) {asked : Asked} (other : Asked) (same : asked ≡ other) where
+  pub carried_as : (before after : Option (List ℕ)) → OnOk answer (IsCarriedOut asked d before after) → OnOk answer (IsCarriedOut other d before after)
+  carried_as before after h = subst (λ a. OnOk answer (IsCarriedOut a d before after)) same h
 
-  pub refused_as : IfErr answer (λ f. status_of f ≡ 1 → IsRefusalOf asked left f) → IfErr answer (λ f. status_of f ≡ 1 → IsRefusalOf other left f)
-  refused_as h = subst (λ a. IfErr answer (λ f. status_of f ≡ 1 → IsRefusalOf a left f)) same h
+  pub refused_as : IfErr answer (λ f. status_of f ≡ 1 → IsRefusalOf asked d f) → IfErr answer (λ f. status_of f ≡ 1 → IsRefusalOf other d f)
+  refused_as h = subst (λ a. IfErr answer (λ f. status_of f ≡ 1 → IsRefusalOf a d f)) same h
 
 pub one_asked : {asks : Option Asked} {a b : Asked} → asks ≡ Some a → asks ≡ Some b → a ≡ b
 one_asked first second = cc
@@ -164,14 +176,17 @@ by_kind e status kinds (inr among) ends = inr (kind_of e, among, ends)
 module _ (words : List Text) {status : ℕ} where
   pub unread_ends : (u : Unread) → IsUnread words u → EndsUnread u status → fault_of program words ≢ [] → EndsForOneOf (fault_of program words) status
   unread_ends (unread.Parse e) why ends some = by_kind e status (fault_of program words) why.0 ends
-  unread_ends (unread.Room text) why ends some = absurd (some why.0)
+  unread_ends (unread.Room text) why ends some = absurd (some why.taken)
+  unread_ends unread.Lengths why ends some = absurd (some why.taken)
 
   pub taken_not_two : (u : Unread) → IsUnread words u → EndsUnread u status → takes program words ≡ true → words_ask words ≢ None → status ≢ 2
   taken_not_two (unread.Parse e) why ends taken asks =
       let three = memory_ends e status (why.1 taken) ends in
       λ two. omega (arith, three, two)
-  taken_not_two (unread.Room text) why ends taken asks = absurd (asks why.1)
+  taken_not_two (unread.Room text) why ends taken asks = absurd (asks why.nothing)
+  taken_not_two unread.Lengths why ends taken asks = absurd (asks why.nothing)
 
-  pub roomless_ends : (u : Unread) → IsUnread words u → EndsUnread u status → takes program words ≡ true → (status ≡ 2) ⊎ (status ≡ 3)
-  roomless_ends (unread.Parse e) why ends taken = inr (memory_ends e status (why.1 taken) ends)
-  roomless_ends (unread.Room text) why ends taken = inl ends
+  pub nothing_ends : (u : Unread) → IsUnread words u → EndsUnread u status → takes program words ≡ true → (status ≡ 2) ⊎ (status ≡ 3)
+  nothing_ends (unread.Parse e) why ends taken = inr (memory_ends e status (why.1 taken) ends)
+  nothing_ends (unread.Room text) why ends taken = inl ends
+  nothing_ends unread.Lengths why ends taken = inl ends

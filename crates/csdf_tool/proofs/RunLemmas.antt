@@ -1,7 +1,8 @@
 -- The files of a run, and the faults that are told of them.
-use Rattle.std.proofs.Common.{◌≡◌, ◌≢◌, ℕ, suc, zero, ◌+◌, ◌<◌, true, false, cond, List, [], ◌∷◌, ◌++◌, length, map, drop, get_or, refl, ap, sym}
+use Rattle.std.proofs.Common.{◌≡◌, ◌≢◌, ℕ, suc, zero, ◌+◌, ◌<◌, true, false, cond, List, [], ◌∷◌, ◌++◌, length, map, take, drop, get_or, refl, ap, sym}
 use Rattle.std.proofs.Common.{subst, ◌∙◌, arith, append_assoc, inl, inr, Ok, Err, Option}
-use Rattle.std.proofs.lemmas.List.{get_or-drop, get_or-map, length-map}
+use Rattle.std.specs.Prelude.{◌⊎◌}
+use Rattle.std.proofs.lemmas.List.{get_or-drop, get_or-map, length-map, map-append, take_more}
 use Rattle.std.specs.String.{string_bytes}
 use Rattle.csdf_model.specs.Graph.{Actor, Graph, actor_view}
 use Rattle.csdf_graph.specs.GraphText.{IsGraphOf}
@@ -12,12 +13,29 @@ use Rattle.csdf_floor.specs.Work.{is_sink_kernel}
 use Rattle.csdf_answers.specs.declared.fault.ToolFault.{ToolFault}
 use Rattle.csdf_answers.specs.declared.fault.ToolFault.TheVariants as fault
 use Rattle.csdf_answers.specs.declared.fault.Stream.TheVariants.{Output, File}
-use Rattle.csdf_tool.specs.declared.run_files.SinkFile.{SinkFile}
+use Rattle.csdf_analysis.specs.declared.room.Room.{Room}
+use Rattle.csdf_floor.proofs.Works.{few_in_thousand}
+use Rattle.csdf_run.specs.declared.length.Length.{Length}
+use Rattle.csdf_run.specs.declared.length.Length.TheVariants as lengths
+use Rattle.csdf_run.specs.Texts.{MayGoOn}
 use Rattle.csdf_tool.specs.CommandLine.{Order}
-use Rattle.csdf_tool.specs.Ends.{IsFaultOfFile}
+use Rattle.csdf_tool.specs.HowLong.{MayBeAsked}
 use Rattle.csdf_tool.specs.GraphFiles.{IsNamed}
 use Rattle.csdf_answers.specs.Faults.{fault_of, status_of}
-use Rattle.csdf_tool.specs.Running.{IsRunTold, IsUnread, IsUnreadOf, IsUnwritten, IsUnwrittenOf, RefusesRun, Written, file_view, out_file, sink_files}
+use Rattle.csdf_tool.specs.Acts.{Act, Asks}
+use Rattle.csdf_tool.specs.Running.{IsCutShort, IsUnput, IsUnread, IsUnreadActor, IsUnreadOf, RefusesFiles, RefusesRun, Written}
+use Rattle.csdf_tool.specs.GraphFiles.{graph_reads}
+use Rattle.csdf_tool.specs.Running.{feed_reads, out_file, put_fault, put_whole, run_reads, sink_files}
+use Rattle.csdf_tool.specs.declared.put_fault.PutFault.{PutFault}
+use Rattle.csdf_tool.specs.declared.put_fault.PutFault.TheVariants as put
+use Rattle.csdf_tool.proofs.DiskLemmas.{asks_more}
+
+-- ---- how long
+
+-- a run of any graph may go on as long as may be asked for
+pub may_go_on : (room : Room) (bytes : List ℕ) (how_long : Length) → MayBeAsked how_long → MayGoOn room bytes how_long
+may_go_on room bytes (lengths.Periods n) may = (may.0, λ a file. few_in_thousand a n file.accepted may.1)
+may_go_on room bytes lengths.UntilDry may = tt
 
 -- ---- sources
 
@@ -29,15 +47,42 @@ unread_here actors i d fault lt is source unread =
     let seen : get_or (map actor_view actors) i (actor_view d) ≡ actor_view d = get_or-map actor_view actors i d (actor_view d) lt ∙ ap actor_view (sym is) in
     inr (i, actor_view d, within, seen, (source, unread))
 
+-- and so of an actor at a place, if it is one
+pub unread_at : (actors : List ActorCode) (i : ℕ) (d : ActorCode) (fault : ToolFault) → i < length actors → d ≡ get_or actors i d
+    → IsUnreadActor (actor_view d) fault → IsUnreadOf (map actor_view actors) fault
+unread_at actors i d fault lt is (inl memory) = inl memory
+unread_at actors i d fault lt is (inr why) = unread_here actors i d fault lt is why.0 why.1
+
 -- ---- sinks
 
--- the file at a place was not written
-pub unwritten_here : (files : List SinkFile) (all : List Written) (i : ℕ) (d : SinkFile) (fault : ToolFault) → map file_view files ≡ all
-    → i < length files → d ≡ get_or files i d → IsUnwritten d.name fault → IsUnwrittenOf all fault
-unwritten_here files all i d fault same lt is unwritten =
-    let within : i < length (map file_view files) = omega (arith, lt, length-map files file_view) in
-    let seen : get_or (map file_view files) i (file_view d) ≡ file_view d = get_or-map file_view files i d (file_view d) lt ∙ ap file_view (sym is) in
-    subst (λ fs. IsUnwrittenOf fs fault) same (inr (i, file_view d, within, seen, unwritten))
+-- the graph file and then the token files
+pub run_asks : (order : Order) (g : Graph) (bytes seen : List ℕ) (actors : List Actor) (feeds others : List (List ℕ)) (a b c : Option (List Act))
+    → Asks a b (graph_reads order.graph bytes) → Asks b c (feed_reads order.folder actors feeds) → bytes ≡ seen → actors ≡ g.actors → feeds ≡ others
+    → Asks a c (run_reads order g seen others)
+run_asks order g bytes seen actors feeds others a b c read more same_bytes same_actors same_feeds =
+    asks_more a b c (graph_reads order.graph seen) (feed_reads order.folder g.actors others)
+    (subst (λ bs. Asks a b (graph_reads order.graph bs)) same_bytes read)
+    (subst (λ fs. Asks b c (feed_reads order.folder g.actors fs)) same_feeds
+    (subst (λ xs. Asks b c (feed_reads order.folder xs feeds)) same_actors more))
+
+-- one file after another
+pub files_next : (before now next : Option (List Act)) (files : List Written) (i : ℕ) (file : Written) → i < length files → get_or files i file ≡ file
+    → Asks before now (map put_whole (take i files)) → Asks now next (put_whole file ∷ []) → Asks before next (map put_whole (take (i + 1) files))
+files_next before now next files i file lt at so_far more =
+    let longer : take (i + 1) files ≡ take i files ++ file ∷ [] =
+    take_more files i file lt ∙ ap (λ (f : Written). take i files ++ f ∷ []) at in
+    subst (Asks before next) (sym (ap (map put_whole) longer ∙ map-append put_whole (take i files) (file ∷ [])))
+    (asks_more before now next (map put_whole (take i files)) (put_whole file ∷ []) so_far more)
+
+-- and one that was not put
+pub files_cut : (before now next : Option (List Act)) (files : List Written) (i : ℕ) (file : Written) (fault : ToolFault) → i < length files
+    → get_or files i file ≡ file → Asks before now (map put_whole (take i files)) → (acts : List Act) × Asks now next acts × IsUnput file acts fault
+    → (acts : List Act) × Asks before next acts × IsCutShort files acts fault
+files_cut before now next files i file fault lt at so_far cut = (
+  map put_whole (take i files) ++ cut.0,
+  asks_more before now next (map put_whole (take i files)) cut.0 so_far cut.1,
+  record { many = i; last = cut.0; acts_are = refl; cut = inr (file, lt, at, cut.2) },
+)
 
 drop_one : {A : Type 0} (n : ℕ) (xs : List A) → drop 1 (drop n xs) ≡ drop (suc n) xs
 drop_one zero xs = refl
@@ -77,23 +122,35 @@ not_memory f one is =
     let three : status_of f ≡ 3 = ap status_of is in
     omega (arith, three, one)
 
--- a file that was not written is a failure, and not one of standard output
-unwritten_ends : (file : List ℕ) (f : ToolFault) → IsUnwritten file f → (status_of f ≡ 3) × (f ≢ fault.Device Output)
-unwritten_ends file f (inl memory) = (ap status_of memory, λ e. let no : fault.Memory ≡ fault.Device Output = sym memory ∙ e in cc)
-unwritten_ends file f (inr device) = (ap status_of device, λ e. let no : fault.Device (File file) ≡ fault.Device Output = sym device ∙ e in cc)
+-- a file that was not put is a failure, and not one of standard output
+memory_ends : (f : ToolFault) → f ≡ fault.Memory → (status_of f ≡ 3) × (f ≢ fault.Device Output)
+memory_ends f memory = (ap status_of memory, λ e. let no : fault.Memory ≡ fault.Device Output = sym memory ∙ e in cc)
 
-pub unwritten_of_ends : (files : List Written) (f : ToolFault) → IsUnwrittenOf files f → (status_of f ≡ 3) × (f ≢ fault.Device Output)
-unwritten_of_ends files f (inl memory) = unwritten_ends [] f (inl memory)
-unwritten_of_ends files f (inr some) = unwritten_ends some.1.name f some.4
+unput_why : (name : List ℕ) (f : ToolFault) (why : PutFault) → f ≡ put_fault name why → (status_of f ≡ 3) × (f ≢ fault.Device Output)
+unput_why name f put.Memory is = memory_ends f is
+unput_why name f put.Device is = (ap status_of is, λ e. let no : fault.Device (File name) ≡ fault.Device Output = sym is ∙ e in cc)
+
+unput_ends : (file : Written) (acts : List Act) (f : ToolFault) → IsUnput file acts f → (status_of f ≡ 3) × (f ≢ fault.Device Output)
+unput_ends file acts f (inl none) = memory_ends f none.1
+unput_ends file acts f (inr some) = unput_why file.name f some.0 some.2
+
+cut_by : (files : List Written) (many : ℕ) (last : List Act) (f : ToolFault)
+    → ((last ≡ []) × (f ≡ fault.Memory)) ⊎ ((file : Written) × (many < length files) × (get_or files many file ≡ file) × IsUnput file last f)
+    → (status_of f ≡ 3) × (f ≢ fault.Device Output)
+cut_by files many last f (inl none) = memory_ends f none.1
+cut_by files many last f (inr some) = unput_ends some.0 last f some.3
+
+pub cut_ends : (files : List Written) (acts : List Act) (f : ToolFault) → IsCutShort files acts f → (status_of f ≡ 3) × (f ≢ fault.Device Output)
+cut_ends files acts f cut = cut_by files cut.many cut.last f cut.cut
 
 -- why a graph file is not run
 module _ (order : Order) (left : Option (List ℕ)) (bytes : List ℕ) (named : IsNamed order.graph left bytes) (f : ToolFault) where
-  pub refused_by_graph : (why : GraphFault) → IsGraphOf bytes (Err why) → f ≡ fault_of why → IsFaultOfFile (IsRunTold order) order.graph left f
+  pub refused_by_graph : (why : GraphFault) → IsGraphOf bytes (Err why) → f ≡ fault_of why → RefusesFiles order left f
   refused_by_graph why read is = inr (bytes, named, inl (why, read, is))
 
   module _ (g : Graph) (read : IsGraphOf bytes (Ok g)) where
-    pub refused_by_feed : IsUnreadOf g.actors f → IsFaultOfFile (IsRunTold order) order.graph left f
+    pub refused_by_feed : IsUnreadOf g.actors f → RefusesFiles order left f
     refused_by_feed unread = inr (bytes, named, inr (g, read, inl unread))
 
-    pub refused_by_texts : (feeds : List (List ℕ)) → RefusesRun order.room g bytes feeds f → IsFaultOfFile (IsRunTold order) order.graph left f
+    pub refused_by_texts : (feeds : List (List ℕ)) → RefusesRun order.room g bytes feeds f → RefusesFiles order left f
     refused_by_texts feeds refuses = inr (bytes, named, inr (g, read, inr (feeds, refuses)))

@@ -9,7 +9,8 @@ use Rattle.csdf_answers.specs.declared.fault.ToolFault.TheVariants.{TooLong, Mem
 use Rattle.csdf_answers.specs.Faults.{fault_text, status_of}
 use Rattle.csdf_answers.specs.Printed.{newline}
 use Rattle.csdf_answers.specs.Session.{IsAnswer}
-use Rattle.csdf_tool.specs.GraphFiles.{IsNamed, IsTooLong}
+use Rattle.csdf_tool.specs.Acts.{Devices}
+use Rattle.csdf_tool.specs.GraphFiles.{IsGivenBy, IsTooLong}
 use Rattle.csdf_tool.specs.declared.command.Unread.{Unread}
 use Rattle.csdf_tool.specs.declared.command.Unread.TheVariants as unread
 
@@ -35,10 +36,10 @@ pub record Ended (answer : Result (Unit {0}) ToolFault) (status : ℕ) (before a
 abbrev pub IsFaultOfInput : List ℕ → ToolFault → Type 0
 IsFaultOfInput bytes fault = ((fault ≡ TooLong) × (16777216 < length bytes)) ⊎ IsAnswer bytes (Err fault)
 
--- what a word names is too long, or bytes that it names have this fault by a command
-abbrev pub IsFaultOfFile : (List ℕ → Result (List ℕ) ToolFault → Type 0) → Text → Option (List ℕ) → ToolFault → Type 0
-IsFaultOfFile IsAnswerTo word left fault =
-    IsTooLong word left fault ⊎ ((bytes : List ℕ) × IsNamed word left bytes × IsAnswerTo bytes (Err fault))
+-- what a word names is too long, or the bytes that it names have this fault by a command
+abbrev pub IsFaultOfFile : (List ℕ → Result (List ℕ) ToolFault → Type 0) → Text → Devices → ToolFault → Type 0
+IsFaultOfFile IsAnswerTo word d fault =
+    IsTooLong word d.left fault ⊎ ((bytes : List ℕ) × IsGivenBy word d bytes × IsAnswerTo bytes (Err fault))
 
 -- how words that are refused for this reason end: help and the version are answered unless memory or a device fails, and no other words are
 abbrev pub EndsFor : ErrorKind → ℕ → Type 0
@@ -55,3 +56,4 @@ EndsForOneOf kinds status = (status ≡ 3) ⊎ ((kind : ErrorKind) × IsAmong ki
 abbrev pub EndsUnread : Unread → ℕ → Type 0
 EndsUnread (unread.Parse error) status = EndsFor (kind_of error) status
 EndsUnread (unread.Room text) status = status ≡ 2
+EndsUnread unread.Lengths status = status ≡ 2

@@ -1,6 +1,8 @@
 -- A run of a graph file over the token files of a folder.
-use Rattle.std.specs.Prelude.{◌≡◌, ◌⊎◌, ℕ, true, List, [], ◌∷◌, ◌++◌, Result, Ok, Err, codes, drop, if◌then◌else◌, slice_index_or}
-use Rattle.std.specs.List.{Any}
+use Rattle.std.specs.Prelude.{◌≡◌, ◌⊎◌, ℕ, true, List, [], ◌∷◌, ◌++◌, ◌<◌, false, Option, Result, Ok, Err, codes, drop, filter, length, take, map, if◌then◌else◌, slice_index_or}
+use Rattle.std.specs.Io.KnownBytes.{Appends}
+use Rattle.std.specs.Path.{path_join}
+use Rattle.std.specs.List.{Any, zip}
 use Rattle.csdf_graph.specs.declared.fault.GraphFault.{GraphFault}
 use Rattle.csdf_bytes.specs.declared.tokens.TokenFault.{TokenFault}
 use Rattle.csdf_bytes.specs.declared.tokens.TokenFault.TheVariants as token
@@ -13,13 +15,17 @@ use Rattle.csdf_run.specs.declared.texts.Texts.{Texts}
 use Rattle.csdf_run.specs.declared.texts.TextsFault.{TextsFault}
 use Rattle.csdf_run.specs.declared.texts.TextsFault.TheVariants as texts
 use Rattle.csdf_analysis.specs.declared.room.Room.{Room}
-use Rattle.csdf_run.specs.Texts.{IsRefusal, TellRun, TellSequentialRun}
+use Rattle.csdf_run.specs.Texts.{IsRefusal, TellRun, TellSequentialRun, texts_in}
 use Rattle.csdf_floor.specs.Work.{is_sink_kernel}
-use Rattle.csdf_answers.specs.declared.fault.Stream.TheVariants.{File}
+use Rattle.csdf_answers.specs.declared.fault.Stream.TheVariants.{File, Output}
 use Rattle.csdf_answers.specs.declared.fault.ToolFault.{ToolFault}
 use Rattle.csdf_answers.specs.declared.fault.ToolFault.TheVariants.{TokenSyntax, TokenRange, TooManyTokens, Mixed, Worker, Device, Memory}
 use Rattle.csdf_tool.specs.declared.run_files.SinkFile.{SinkFile}
+use Rattle.csdf_tool.specs.declared.put_fault.PutFault.{PutFault}
+use Rattle.csdf_tool.specs.declared.put_fault.PutFault.TheVariants as put
+use Rattle.csdf_tool.specs.Acts.{Act, Asks, Devices, OnlyReads, Put, Read}
 use Rattle.csdf_tool.specs.CommandLine.{Order}
+use Rattle.csdf_tool.specs.GraphFiles.{IsNamed, IsTooLong, graph_reads}
 use Rattle.csdf_answers.specs.Described.{actor_names}
 use Rattle.csdf_answers.specs.Faults.{accept_fault, fault_of}
 use Rattle.csdf_answers.specs.Printed.{name_at, names_of}
@@ -54,15 +60,12 @@ sink_files folder (actor ∷ actors) texts =
 abbrev pub IsUnread : List ℕ → ToolFault → Type 0
 IsUnread name fault = (fault ≡ Memory) ⊎ (fault ≡ Device (File (in_file name))) ⊎ (fault ≡ TooManyTokens name)
 
+-- why the token file of an actor was not read, if it is a source
+abbrev pub IsUnreadActor : Actor → ToolFault → Type 0
+IsUnreadActor actor fault = (fault ≡ Memory) ⊎ ((is_source_kernel actor.kernel ≡ true) × IsUnread actor.name fault)
+
 abbrev pub IsUnreadOf : List Actor → ToolFault → Type 0
 IsUnreadOf actors fault = (fault ≡ Memory) ⊎ Any (λ (actor : Actor). (is_source_kernel actor.kernel ≡ true) × IsUnread actor.name fault) actors
-
--- why a file was not written, and one of several files with their texts
-abbrev pub IsUnwritten : List ℕ → ToolFault → Type 0
-IsUnwritten file fault = (fault ≡ Memory) ⊎ (fault ≡ Device (File file))
-
-abbrev pub IsUnwrittenOf : List Written → ToolFault → Type 0
-IsUnwrittenOf files fault = (fault ≡ Memory) ⊎ Any (λ (file : Written). IsUnwritten file.name fault) files
 
 -- ---- faults
 
@@ -97,8 +100,8 @@ RefusesRun room g bytes feeds fault = (why : TextsFault) × IsRefusal room bytes
 -- the texts tell the run that is asked for, of the graph of a file over one text for each source, and they are those of the sequential run
 pub record IsRunBy (order : Order) (g : Graph) (bytes : List ℕ) (feeds : List (List ℕ)) (t : Texts) : Type 0 where
   pub graph : IsGraphOf bytes (Ok g)
-  pub told : TellRun order.room bytes feeds order.periods order.firings t
-  pub sequential : TellSequentialRun order.room bytes feeds order.periods order.firings t
+  pub told : TellRun order.room bytes feeds order.how_long order.firings t
+  pub sequential : TellSequentialRun order.room bytes feeds order.how_long order.firings t
 
 -- why a graph is not run with this room: a token file is too long, or the texts make no run
 abbrev pub IsRefusedOn : Room → Graph → List ℕ → ToolFault → Type 0
@@ -110,8 +113,102 @@ IsRefusedFile room bytes fault =
     ((why : GraphFault) × IsGraphOf bytes (Err why) × (fault ≡ fault_of why))
     ⊎ ((g : Graph) × IsGraphOf bytes (Ok g) × IsRefusedOn room g bytes fault)
 
--- the report of a run that is asked for, of a graph file, or why there is none
-abbrev pub IsRunTold : Order → List ℕ → Result (List ℕ) ToolFault → Type 0
-IsRunTold order bytes (Ok report) =
-    (g : Graph) × (feeds : List (List ℕ)) × (t : Texts) × IsRunBy order g bytes feeds t × (report ≡ t.report.items)
-IsRunTold order bytes (Err fault) = IsRefusedFile order.room bytes fault
+-- the run that is asked for, of what the devices gave: of the graph file's bytes, over a text for each source
+pub record RunsOn (order : Order) (left : Option (List ℕ)) (g : Graph) (bytes : List ℕ) (feeds : List (List ℕ)) (t : Texts) : Type 0 where
+  pub named : IsNamed order.graph left bytes
+  pub run : IsRunBy order g bytes feeds t
+
+-- why a run that is asked for is refused: its graph file is too long, or what it holds and the texts make no run
+abbrev pub RefusesFiles : Order → Option (List ℕ) → ToolFault → Type 0
+RefusesFiles order left fault =
+    IsTooLong order.graph left fault ⊎ ((bytes : List ℕ) × IsNamed order.graph left bytes × IsRefusedFile order.room bytes fault)
+
+-- ---- what is asked of files
+
+-- the token files of the sources in a folder, in file order
+abbrev pub feed_paths : List ℕ → List Actor → List (List ℕ)
+feed_paths folder actors =
+    map (λ (actor : Actor). path_join folder (in_file actor.name)) (filter (λ (actor : Actor). is_source_kernel actor.kernel) actors)
+
+-- a file is asked for, and this text comes
+abbrev pub read_whole : List ℕ × List ℕ → Act
+read_whole row = Read row.0 (Ok row.1)
+
+-- these files are asked for, and these texts come
+abbrev pub feed_reads : List ℕ → List Actor → List (List ℕ) → List Act
+feed_reads folder actors texts = map read_whole (zip (feed_paths folder actors) texts)
+
+-- all that a run asks for: the graph file and the token files
+abbrev pub run_reads : Order → Graph → List ℕ → List (List ℕ) → List Act
+run_reads order g bytes feeds = graph_reads order.graph bytes ++ feed_reads order.folder g.actors feeds
+
+-- where an actor is a source, its token file was asked for, and its text stands behind the others; else nothing was done
+pub record IsReadAfter (folder : List ℕ) (actor : Actor) (before after : Option (List Act)) (texts more : List (List ℕ)) : Type 0 where
+  pub source : is_source_kernel actor.kernel ≡ true
+      → (text : List ℕ) × (more ≡ texts ++ text ∷ []) × Asks before after (Read (path_join folder (in_file actor.name)) (Ok text) ∷ [])
+  pub other : is_source_kernel actor.kernel ≡ false → (more ≡ texts) × (after ≡ before)
+
+-- a file is put in its place, or this comes of it
+abbrev pub put_as : Result (Unit {0}) PutFault → Written → Act
+put_as came file = Put (path_join file.folder file.name) file.text came
+
+abbrev pub put_whole : Written → Act
+put_whole file = put_as (Ok tt) file
+
+-- the files of the sinks' texts
+abbrev pub files_of : Order → Graph → Texts → List Written
+files_of order g t = sink_files order.sink_folder g.actors (texts_in t.sinks.items)
+
+-- the run was made of the bytes of the graph file and of the sources' token files; then the text of each sink was put in the place of its file, and its report
+-- was written
+pub record RunsOnFiles (order : Order) (d : Devices) (before after : Option (List ℕ)) : Type 0 where
+  pub graph : Graph
+  pub bytes : List ℕ
+  pub feeds : List (List ℕ)
+  pub texts : Texts
+  pub runs : RunsOn order d.left graph bytes feeds texts
+  pub files : Asks d.before d.after (run_reads order graph bytes feeds ++ map put_whole (files_of order graph texts))
+  pub report : Appends before after texts.report.items
+
+-- why a file was not put in its place, as the program tells it
+abbrev pub put_fault : List ℕ → PutFault → ToolFault
+put_fault file put.Device = Device (File file)
+put_fault file put.Memory = Memory
+
+-- a file was not put: this came of it, or memory ran out before it was asked for
+abbrev pub IsUnput : Written → List Act → ToolFault → Type 0
+IsUnput file acts fault =
+    ((acts ≡ []) × (fault ≡ Memory)) ⊎ ((why : PutFault) × (acts ≡ put_as (Err why) file ∷ []) × (fault ≡ put_fault file.name why))
+
+-- of several files those before one were put whole, and that one was not; or memory ran out before the first
+pub record IsCutShort (files : List Written) (acts : List Act) (fault : ToolFault) : Type 0 where
+  pub many : ℕ
+  pub last : List Act
+  pub acts_are : acts ≡ map put_whole (take many files) ++ last
+  pub cut : ((last ≡ []) × (fault ≡ Memory)) ⊎ ((file : Written) × (many < length files) × (slice_index_or files many file ≡ file) × IsUnput file last fault)
+
+-- the run was made and its files were not all put
+pub record EndsAmongFiles (order : Order) (d : Devices) (fault : ToolFault) : Type 0 where
+  pub graph : Graph
+  pub bytes : List ℕ
+  pub feeds : List (List ℕ)
+  pub texts : Texts
+  pub puts : List Act
+  pub runs : RunsOn order d.left graph bytes feeds texts
+  pub files : Asks d.before d.after (run_reads order graph bytes feeds ++ puts)
+  pub cut : IsCutShort (files_of order graph texts) puts fault
+
+-- the run was made and its files were put, and the report was not written
+pub record EndsAfterFiles (order : Order) (d : Devices) : Type 0 where
+  pub graph : Graph
+  pub bytes : List ℕ
+  pub feeds : List (List ℕ)
+  pub texts : Texts
+  pub runs : RunsOn order d.left graph bytes feeds texts
+  pub files : Asks d.before d.after (run_reads order graph bytes feeds ++ map put_whole (files_of order graph texts))
+
+-- what was asked of files by a run that ends with this fault: no file was to be put; or the run was made, and the files of some sinks were put, from the first
+-- on; or all of them were, and standard output failed
+abbrev pub EndsOnFiles : Order → Devices → ToolFault → Type 0
+EndsOnFiles order d fault =
+    OnlyReads d.before d.after ⊎ (EndsAmongFiles order d fault ⊎ ((fault ≡ Device Output) × EndsAfterFiles order d))

@@ -1,21 +1,23 @@
 //! The command line.
 
-ghost use Rattle.std.specs.Prelude.{◌≡◌, ◌≤◌, [], true, false, map, string_bytes, Ok, IfErr, IfOk, IfSome, MatchResult};
-ghost use Rattle.clap.specs.Words.{App, app_of, fault_of, found_of, kind_of, rows_of, rule_of, subcommand_of, subcommand_rows_of, takes, with_rule, FailsBy};
+ghost use Rattle.std.specs.Prelude.{◌≡◌, ◌≤◌, [], true, false, map, string_bytes, Some, None, Ok, IfErr, IfOk, IfSome, MatchResult, option_map};
+ghost use Rattle.clap.specs.Words.{App, app_of, fault_of, first_of, found_of, kind_of, rows_of, rule_of, subcommand_of, subcommand_rows_of, takes, with_rule, FailsBy};
 ghost use Rattle.clap.specs.declared.builder.command.Command.TheViews.{out-Command as fields_of};
-ghost use Rattle.csdf_tool.specs.CommandLine.{on_graph, on_files, run_command, number_option, text_option};
-ghost use Rattle.csdf_tool.specs.CommandLine.{no_commands, with_command, with_questions, with_room, with_roomy_command, program};
+ghost use Rattle.csdf_tool.specs.CommandLine.{on_graph, on_files, run_command, flag, number_option, text_option};
+ghost use Rattle.csdf_tool.specs.CommandLine.{explain_command, no_commands, with_command, with_explain, with_questions, with_room, with_roomy_command, program};
 ghost use Rattle.csdf_analysis.specs.Room.{HasSomePeriod};
-ghost use Rattle.csdf_tool.specs.CommandLine.{Ask, asked_view, asked_by, asked_of, asked_with, asked, words_ask, IsUnread};
-ghost use Rattle.csdf_tool.specs.CommandLine.{number_in, number_of, order_of, order_view, room_in, room_of, word_of, word_or};
+ghost use Rattle.csdf_tool.specs.CommandLine.{Ask, Run, AskForNothing, asked_view, asked_by, asked_of, asked_with, asked, words_ask, IsUnread};
+ghost use Rattle.csdf_tool.specs.CommandLine.{how_long_of, is_until_dry, number_in, number_of, order_of, order_view, room_in, room_of, word_of, word_or};
+ghost use Rattle.csdf_tool.specs.HowLong.{MayBeAsked};
 
 use crate::help;
 use crate::order::{Inquiry, RunOrder};
 use clap::builder::ValueParser;
 use clap::error::ErrorKind;
-use clap::{Arg, ArgMatches, Command, Error};
+use clap::{Arg, ArgAction, ArgMatches, Command, Error};
 use csdf_analysis::Room;
 use csdf_answers::Question;
+use csdf_run::Length;
 use std::alloc::{AllocError, Global};
 
 /// What the program is asked to do.
@@ -27,8 +29,9 @@ pub(crate) enum Request<'a> {
     Moves(&'a str),
     /// To answer a question about the graph of this file.
     Ask(Inquiry<'a>),
-    /// To explain why the graph of this file is refused.
-    Explain(&'a str),
+    /// To explain why the graph of this file is refused, and what is wrong with the token files of
+    /// this folder.
+    Explain(&'a str, Option<&'a str>),
     /// To run the graph of a file.
     Run(RunOrder<'a>),
 }
@@ -40,6 +43,8 @@ pub(crate) enum Unread<'a> {
     Parse(Error),
     /// The room that they ask for is none.
     Room(&'a str),
+    /// They say twice how long a run goes on.
+    Lengths,
 }
 
 const GRAPH: &str = "GRAPH";
@@ -49,6 +54,8 @@ const FOLDER: &str = "DIR";
 const WORKERS: &str = "workers";
 
 const PERIODS: &str = "periods";
+
+const UNTIL_DRY: &str = "until-dry";
 
 const FIRINGS: &str = "firings";
 
@@ -119,6 +126,23 @@ fn with_text<'a>(
     with_arg(command, option)
 }
 
+/// A command with one more option, which is given or not.
+fn with_flag<'a>(
+    alloc: Global,
+    command: Command<'a>,
+    name: &'a str,
+    help: &'a str,
+) -> Result<Command<'a>, AllocError>
+    ensures app { IfOk result (λ r. app_of r ≡ with_rule (app_of command.entry) (flag name.entry.now)) }
+    ensures globals { IfOk result (λ r. (fields_of r).has_globals ≡ (fields_of command.entry).has_globals) }
+{
+    let option = Arg::new(alloc, name)
+        .long(name)
+        .action(ArgAction::SetTrue)
+        .help(help);
+    with_arg(command, option)
+}
+
 /// A command with the option for room.
 fn with_room<'a>(alloc: Global, command: Command<'a>) -> Result<Command<'a>, AllocError>
     ensures app { IfOk result (λ r. app_of r ≡ with_room (app_of command.entry)) }
@@ -150,6 +174,8 @@ fn run_command<'a>(alloc: Global) -> Result<Command<'a>, AllocError>
     let command = with_option(alloc, command, WORKERS, "N", (1, 8), workers)?;
     let periods = "How many periods to run: 1 to 1000, 1 where absent";
     let command = with_option(alloc, command, PERIODS, "K", (1, 1000), periods)?;
+    let until_dry = "Run until a source has run dry, in place of a number of periods";
+    let command = with_flag(alloc, command, UNTIL_DRY, until_dry)?;
     let firings = "The most firings of all actors: 0 to 1048576000, no limit where absent";
     let command = with_option(alloc, command, FIRINGS, "F", (0, 1_048_576_000), firings)?;
     let out = "The folder that the sinks' files are written to: DIR where absent";
@@ -241,6 +267,37 @@ fn then_roomy_command<'a>(
     }
 }
 
+/// The command that explains.
+fn explain_command<'a>(alloc: Global) -> Result<Command<'a>, AllocError>
+    ensures app { IfOk result (λ command. app_of command ≡ explain_command) }
+    ensures local { IfOk result (λ command. (fields_of command).has_globals ≡ false) }
+{
+    let about = "Tell why a graph is refused, or that it is accepted";
+    let command = on_graph(alloc, "explain", about, help::EXPLAIN)?;
+    let folder = Arg::new(alloc, FOLDER).help("The folder of the token files, to look at them too");
+    with_arg(command, folder)
+}
+
+/// The program with the command that explains.
+fn with_explain<'a>(alloc: Global, program: Command<'a>) -> Result<Command<'a>, AllocError>
+    ensures { IfOk result (λ r. app_of r ≡ with_explain (app_of program.entry)) }
+{
+    program.subcommand(explain_command(alloc)?)
+}
+
+/// The same, where there is a program yet.
+fn then_explain<'a>(
+    alloc: Global,
+    program: Result<Command<'a>, AllocError>,
+) -> Result<Command<'a>, AllocError>
+    ensures { (before : App) → IfOk program.entry (λ p. app_of p ≡ before) → IfOk result (λ r. app_of r ≡ with_explain before) }
+{
+    match program {
+        Ok(program) => with_explain(alloc, program),
+        Err(error) => Err(error),
+    }
+}
+
 /// The program with the commands that answer a question or play a script.
 fn with_questions<'a>(alloc: Global, program: Command<'a>) -> Result<Command<'a>, AllocError>
     ensures { IfOk result (λ r. app_of r ≡ with_questions (app_of program.entry)) }
@@ -257,8 +314,7 @@ fn with_questions<'a>(alloc: Global, program: Command<'a>) -> Result<Command<'a>
     let program = then_roomy_command(alloc, program, "capacity", about, help::CAPACITY);
     let about = "Print the graph for Graphviz, which draws it";
     let program = then_roomy_command(alloc, program, "dot", about, help::DOT);
-    let about = "Tell why a graph is refused, or that it is accepted";
-    then_command(alloc, program, "explain", about, help::EXPLAIN)
+    then_explain(alloc, program)
 }
 
 /// The program's command line.
@@ -290,8 +346,8 @@ fn asking<'a>(question: Question, room: Room, graph: &'a str) -> Request<'a>
     })
 }
 
-/// What a command but `run` asks for with this room and the file that it names. No other command has
-/// a file alone.
+/// What a command but `run` and `explain` asks for with this room and the file that it names. No
+/// other command has a file alone.
 #[tactic(auto, unfolding(crate::specs::CommandLine::asked_by))]
 fn asked_by<'a>(command: &str, room: Room, graph: &'a str) -> Request<'a>
     requires { HasSomePeriod room }
@@ -303,7 +359,6 @@ fn asked_by<'a>(command: &str, room: Room, graph: &'a str) -> Request<'a>
         "schedule" => asking(Question::Schedule, room, graph),
         "capacity" => asking(Question::Capacity, room, graph),
         "dot" => asking(Question::Dot, room, graph),
-        "explain" => Request::Explain(graph),
         "moves" => Request::Moves(graph),
         _ => Request::Input,
     }
@@ -321,6 +376,13 @@ fn word_of<'a>(arguments: &ArgMatches<'a>, place: &str) -> &'a str
     ensures { result.now ≡ word_of place.now (rows_of (found_of arguments.now)) }
 {
     word_or(arguments, place, "")
+}
+
+/// The folder of the token files that are looked at too, where one was given.
+fn folder_of<'a>(arguments: &ArgMatches<'a>) -> Option<&'a str>
+    ensures { option_map (λ folder. folder.now) result ≡ first_of FOLDER.now (rows_of (found_of arguments.now)) }
+{
+    arguments.get_str(FOLDER)
 }
 
 /// The number in a text, where it is one and in the range.
@@ -384,12 +446,36 @@ fn room_of<'a>(arguments: &ArgMatches<'a>) -> Result<Room, &'a str>
     }
 }
 
-/// The run that the words after `run` ask for, with this room.
+/// Whether `--until-dry` is given.
+fn is_until_dry(arguments: &ArgMatches<'_>) -> bool
+    ensures { result ≡ is_until_dry (rows_of (found_of arguments.now)) }
+{
+    word_of(arguments, UNTIL_DRY) == "true"
+}
+
+/// How long a run goes on; nothing where it is said twice.
 ///
 /// The parser refuses a number out of its range; where one is read all the same, it counts as absent.
-fn order_of<'a>(arguments: &ArgMatches<'a>, room: Room) -> RunOrder<'a>
-    requires { HasSomePeriod room }
-    ensures { order_view result ≡ order_of (rows_of (found_of arguments.now)) room }
+fn how_long_of(arguments: &ArgMatches<'_>) -> Option<Length>
+    ensures value { result ≡ how_long_of (rows_of (found_of arguments.now)) }
+    ensures may { IfSome result MayBeAsked }
+{
+    let periods = number_of(arguments, PERIODS, 1, 1000);
+    match (is_until_dry(arguments), periods) {
+        (true, None) => Some(Length::UntilDry),
+        (true, Some(_)) => None,
+        (false, None) => Some(Length::Periods(1)),
+        (false, Some(periods)) => Some(Length::Periods(periods)),
+    }
+}
+
+/// The run that the words after `run` ask for, so long and with this room.
+///
+/// The parser refuses a number out of its range; where one is read all the same, it counts as absent.
+fn order_of<'a>(arguments: &ArgMatches<'a>, room: Room, how_long: Length) -> RunOrder<'a>
+    requires some_room { HasSomePeriod room }
+    requires may { MayBeAsked how_long }
+    ensures { order_view result ≡ order_of (rows_of (found_of arguments.now)) room how_long }
 {
     let folder = word_of(arguments, FOLDER);
     RunOrder {
@@ -397,43 +483,61 @@ fn order_of<'a>(arguments: &ArgMatches<'a>, room: Room) -> RunOrder<'a>
         folder,
         sink_folder: word_or(arguments, OUT, folder),
         workers: number_of(arguments, WORKERS, 1, 8).unwrap_or(1),
-        periods: number_of(arguments, PERIODS, 1, 1000).unwrap_or(1),
+        how_long,
         firings: number_of(arguments, FIRINGS, 0, 1_048_576_000),
         room,
     }
 }
 
-/// What a command asks for with the words after it, with this room.
-#[tactic(auto, unfolding(crate::specs::CommandLine::asked_with))]
-fn asked_with<'a>(command: &str, arguments: &ArgMatches<'a>, room: Room) -> Request<'a>
+/// The run that the words after `run` ask for, with this room; nothing where they name two lengths.
+fn run_of<'a>(arguments: &ArgMatches<'a>, room: Room) -> Option<Request<'a>>
     requires { HasSomePeriod room }
-    ensures { asked_view result ≡ asked_with command.now (rows_of (found_of arguments.now)) room }
+    ensures asked { option_map asked_view result
+        ≡ option_map (λ how_long. Run (order_of (rows_of (found_of arguments.now)) room how_long)) (how_long_of (rows_of (found_of arguments.now))) }
+    ensures none { result ≡ None → how_long_of (rows_of (found_of arguments.now)) ≡ None }
+{
+    match how_long_of(arguments) {
+        Some(how_long) => Some(Request::Run(order_of(arguments, room, how_long))),
+        None => None,
+    }
+}
+
+/// What a command asks for with the words after it, with this room; nothing where they name two lengths.
+#[tactic(auto, unfolding(crate::specs::CommandLine::asked_with))]
+fn asked_with<'a>(command: &str, arguments: &ArgMatches<'a>, room: Room) -> Option<Request<'a>>
+    requires { HasSomePeriod room }
+    ensures asked { option_map asked_view result ≡ asked_with command.now (rows_of (found_of arguments.now)) room }
+    ensures none { result ≡ None → how_long_of (rows_of (found_of arguments.now)) ≡ None }
 {
     match command {
-        "run" => Request::Run(order_of(arguments, room)),
-        _ => asked_by(command, room, word_of(arguments, GRAPH)),
+        "run" => run_of(arguments, room),
+        "explain" => Some(Request::Explain(word_of(arguments, GRAPH), folder_of(arguments))),
+        _ => Some(asked_by(command, room, word_of(arguments, GRAPH))),
     }
 }
 
 /// What a command asks for with the words after it.
 ///
-/// The error is a text that names no room.
-fn asked_of<'a>(command: &str, arguments: &ArgMatches<'a>) -> Result<Request<'a>, &'a str>
+/// The error says why that is nothing.
+fn asked_of<'a>(command: &str, arguments: &ArgMatches<'a>) -> Result<Request<'a>, Unread<'a>>
     ensures { MatchResult result (λ r. asked_of command.now (rows_of (found_of arguments.now)) ≡ Some (asked_view r))
-        (λ _. asked_of command.now (rows_of (found_of arguments.now)) ≡ None) }
+        (λ why. (asked_of command.now (rows_of (found_of arguments.now)) ≡ None) × AskForNothing (rows_of (found_of arguments.now)) why) }
 {
     match room_of(arguments) {
-        Ok(room) => Ok(asked_with(command, arguments, room)),
-        Err(text) => Err(text),
+        Ok(room) => match asked_with(command, arguments, room) {
+            Some(request) => Ok(request),
+            None => Err(Unread::Lengths),
+        },
+        Err(text) => Err(Unread::Room(text)),
     }
 }
 
 /// What the command that was met asks for, and standard input where none was.
 ///
-/// The error is a text that names no room.
-fn asked<'a>(matches: &ArgMatches<'a>) -> Result<Request<'a>, &'a str>
+/// The error says why that is nothing.
+fn asked<'a>(matches: &ArgMatches<'a>) -> Result<Request<'a>, Unread<'a>>
     ensures { MatchResult result (λ r. asked (subcommand_rows_of matches.now) ≡ Some (asked_view r))
-        (λ _. asked (subcommand_rows_of matches.now) ≡ None) }
+        (λ why. (asked (subcommand_rows_of matches.now) ≡ None) × IfSome (subcommand_rows_of matches.now) (λ met. AskForNothing met.1 why)) }
 {
     match matches.subcommand() {
         Some((command, arguments)) => asked_of(command, arguments),
@@ -455,10 +559,7 @@ pub(crate) fn request_of<'a>(alloc: Global, words: &'a [String]) -> Result<Reque
         return Ok(Request::Input);
     }
     match matches_of(alloc, words) {
-        Ok(matches) => match asked(&matches) {
-            Ok(request) => Ok(request),
-            Err(text) => Err(Unread::Room(text)),
-        },
+        Ok(matches) => asked(&matches),
         Err(error) => Err(Unread::Parse(error)),
     }
 }

@@ -1,25 +1,19 @@
-//! Whole files, read and written, and standard input.
+//! Whole files, read and put in their places, and standard input.
 
-ghost use Rattle.std.specs.Prelude.{◌≡◌, ◌≢◌, ◌<◌, ◌↔◌, true, false, length, Err, IfErr, IfOk, IfSome, OnOk};
-ghost use Rattle.std.specs.Io.KnownBytes.{Appends};
+ghost use Rattle.std.specs.Prelude.{◌≡◌, ◌≢◌, ◌<◌, ◌↔◌, [], ◌∷◌, List, true, false, length, Ok, Err, IfErr, IfOk, IfSome, OnErr, OnOk};
+ghost use Rattle.std.specs.Path.{path_buf_bytes, path_join};
 ghost use Rattle.csdf_answers.specs.Faults.{status_of};
-ghost use Rattle.csdf_tool.specs.GraphFiles.{is_input, IsNamed, IsTooLong};
-ghost use Rattle.csdf_tool.specs.Running.{IsUnread, IsUnwritten};
+ghost use Rattle.csdf_tool.specs.Acts.{Act, Asks, OnlyReads, Put, Read};
+ghost use Rattle.csdf_tool.specs.Explaining.{token_path};
+ghost use Rattle.csdf_tool.specs.GraphFiles.{graph_reads, is_input, IsNamed, IsTooLong};
+ghost use Rattle.csdf_tool.specs.Running.{IsUnput, IsUnread, in_file};
 
+use crate::disk::Disk;
+use crate::put_fault::PutFault;
 use csdf_answers::{Name, Stream, ToolFault, unread};
-use csdf_graph::{FromReader, InputFault, Intake, Outlet, ToWriter, read_bytes, write_bytes};
+use csdf_graph::{InputFault, Intake, read_bytes};
 use std::alloc::{AllocError, Global};
-use std::fs;
-use std::path::{AsPath, Path, PathBuf};
-use std::rt::Files;
-
-/// All bytes of the file at a path. One that can't be opened is one that fails.
-fn bytes_at<P: AsPath>(rt: &(impl Files + AllocGlobal), path: P) -> Result<Vec<u8>, InputFault> {
-    match fs::open(rt, path) {
-        Ok(file) => read_bytes(rt.alloc(), &mut FromReader::new(file)),
-        Err(_) => Err(InputFault::Read),
-    }
-}
+use std::path::{Path, PathBuf};
 
 /// All bytes of standard input.
 pub(crate) fn input_bytes<I: Intake>(alloc: Global, reader: &mut I) -> Result<Vec<u8>, ToolFault>
@@ -36,23 +30,28 @@ pub(crate) fn input_bytes<I: Intake>(alloc: Global, reader: &mut I) -> Result<Ve
 }
 
 /// All bytes of a file that the command line names.
-fn file_bytes(rt: &(impl Files + AllocGlobal), path: &str) -> Result<Vec<u8>, ToolFault>
+fn file_bytes<D: Disk>(alloc: Global, disk: &mut D, path: &str) -> Result<Vec<u8>, ToolFault>
+    ensures read { IfOk result (λ bytes. Asks (D.acts disk.old) (D.acts disk.new) (Read path.now (Ok bytes.items) ∷ [])) }
+    ensures unread { OnErr result (OnlyReads (D.acts disk.old) (D.acts disk.new)) }
     ensures other { IfErr result (λ fault. fault ≢ ToolFault.Device Stream.Output) }
     ensures long { IfErr result (λ fault. status_of fault ≡ 1 → fault ≡ ToolFault.TooLong) }
 {
-    let name = Name::new(rt.alloc(), path)?;
-    match bytes_at(rt, path) {
+    let name = Name::new(alloc, path)?;
+    match disk.read(path) {
         Ok(bytes) => Ok(bytes),
         Err(fault) => Err(unread(Stream::File(name), fault)),
     }
 }
 
 /// All bytes of a command's graph file: those of standard input where the word is `-`.
-pub(crate) fn graph_bytes<I: Intake>(
-    rt: &(impl Files + AllocGlobal),
+pub(crate) fn graph_bytes<D: Disk, I: Intake>(
+    alloc: Global,
+    disk: &mut D,
     word: &str,
     reader: &mut I,
 ) -> Result<Vec<u8>, ToolFault>
+    ensures read { IfOk result (λ bytes. Asks (D.acts disk.old) (D.acts disk.new) (graph_reads word.now bytes.items)) }
+    ensures unread { OnErr result (OnlyReads (D.acts disk.old) (D.acts disk.new)) }
     ensures named { IfOk result (λ bytes. IsNamed word.now (I.left reader.old) bytes.items) }
     ensures long { IfErr result (λ fault. status_of fault ≡ 1 → IsTooLong word.now (I.left reader.old) fault) }
     ensures other { IfErr result (λ fault. fault ≢ ToolFault.Device Stream.Output) }
@@ -60,30 +59,35 @@ pub(crate) fn graph_bytes<I: Intake>(
     ensures untouched { is_input word.now ≡ false → reader.new ≡ reader.old }
 {
     if word == "-" {
-        input_bytes(rt.alloc(), reader)
+        input_bytes(alloc, reader)
     } else {
-        file_bytes(rt, word)
+        file_bytes(alloc, disk, word)
     }
 }
 
 /// The path of a file of a folder.
-fn path_in(alloc: Global, folder: &str, file: &Name) -> Result<PathBuf, AllocError> {
+fn path_in(alloc: Global, folder: &str, file: &Name) -> Result<PathBuf, AllocError>
+    ensures { IfOk result (λ path. path_buf_bytes path ≡ path_join folder.now file.now) }
+{
     Path::new(folder).join(alloc, file.as_str())
 }
 
 /// All bytes of the token file of a source: `NAME.in` in the folder.
-pub(crate) fn feed_bytes(
-    rt: &(impl Files + AllocGlobal),
+pub(crate) fn feed_bytes<D: Disk>(
+    alloc: Global,
+    disk: &mut D,
     folder: &str,
     source: &str,
 ) -> Result<Vec<u8>, ToolFault>
-    ensures { IfErr result (λ fault. IsUnread source.now fault) }
+    ensures read { IfOk result (λ bytes. Asks (D.acts disk.old) (D.acts disk.new)
+        (Read (path_join folder.now (in_file source.now)) (Ok bytes.items) ∷ [])) }
+    ensures only { OnErr result (OnlyReads (D.acts disk.old) (D.acts disk.new)) }
+    ensures unread { IfErr result (λ fault. IsUnread source.now fault) }
 {
-    let alloc = rt.alloc();
     let source = Name::new(alloc, source)?;
     let file = Name::with_ending(alloc, source.as_str(), ".in")?;
     let path = path_in(alloc, folder, &file)?;
-    match bytes_at(rt, path) {
+    match disk.read(path.as_str()) {
         Ok(bytes) => Ok(bytes),
         Err(InputFault::Read) => Err(ToolFault::Device(Stream::File(file))),
         Err(InputFault::TooLong) => Err(ToolFault::TooManyTokens(source)),
@@ -91,31 +95,32 @@ pub(crate) fn feed_bytes(
     }
 }
 
-/// Writes a text to an open file.
-fn write_text<O: Outlet>(writer: &mut O, file: Name, text: &[u8]) -> Result<(), ToolFault>
-    ensures written { OnOk result (Appends (O.written writer.old) (O.written writer.new) text.now) }
-    ensures refused { IfErr result (λ fault. (fault ≡ ToolFault.Device (Stream.File file)) × (O.failed writer.new ≡ true)) }
+/// The path of the token file of a source: `NAME.in` in the folder.
+pub(crate) fn token_path(alloc: Global, folder: &str, source: &str) -> Result<PathBuf, AllocError>
+    ensures { IfOk result (λ path. path_buf_bytes path ≡ token_path folder.now source.now) }
 {
-    match write_bytes(writer, text) {
-        Ok(()) => Ok(()),
-        Err(_) => Err(ToolFault::Device(Stream::File(file))),
-    }
+    let file = Name::with_ending(alloc, source, ".in")?;
+    path_in(alloc, folder, &file)
 }
 
-/// Writes a text to a file of a folder, which is made where it is not there.
-pub(crate) fn write_file(
-    rt: &(impl Files + AllocGlobal),
+/// Puts a text in the place of a file of a folder.
+pub(crate) fn put_file<D: Disk>(
+    alloc: Global,
+    disk: &mut D,
     folder: &str,
     file: &Name,
     text: &[u8],
 ) -> Result<(), ToolFault>
-    ensures { IfErr result (λ fault. IsUnwritten file.now fault) }
+    ensures put { OnOk result (Asks (D.acts disk.old) (D.acts disk.new)
+        (Put (path_join folder.now file.now) text.now (Ok tt) ∷ [])) }
+    ensures unput { IfErr result (λ fault. (acts : List Act) × Asks (D.acts disk.old) (D.acts disk.new) acts
+        × IsUnput (record { folder = folder.now; name = file.now; text = text.now }) acts fault) }
 {
-    let alloc = rt.alloc();
     let name = Name::new(alloc, file.as_str())?;
     let path = path_in(alloc, folder, file)?;
-    match fs::create(rt, path) {
-        Ok(writer) => write_text(&mut ToWriter::new(writer), name, text),
-        Err(_) => Err(ToolFault::Device(Stream::File(name))),
+    match disk.put(path.as_str(), text) {
+        Ok(()) => Ok(()),
+        Err(PutFault::Device) => Err(ToolFault::Device(Stream::File(name))),
+        Err(PutFault::Memory) => Err(ToolFault::Memory),
     }
 }

@@ -3,10 +3,16 @@
 #![tactic(auto)]
 
 mod command;
+mod disk;
+mod explain_files;
 mod files;
 mod help;
+mod look;
 mod order;
 mod program;
+mod put_fault;
 mod run_files;
 
+pub use disk::{Disk, HostDisk};
 pub use program::run_words;
+pub use put_fault::PutFault;

@@ -3,9 +3,11 @@
 ghost use Rattle.std.specs.Prelude.{◌≤◌};
 ghost use Rattle.csdf_analysis.specs.Room.{HasSomePeriod};
 ghost use Rattle.csdf_tool.specs.Rooms.{HasSomePeriod-prop};
+ghost use Rattle.csdf_tool.specs.HowLong.{MayBeAsked, MayBeAsked-prop};
 
 use csdf_analysis::Room;
 use csdf_answers::Question;
+use csdf_run::Length;
 
 /// A question about the graph of a file.
 #[derive(Clone, Copy)]
@@ -28,14 +30,14 @@ pub(crate) struct RunOrder<'a> {
     /// The folder that the sinks' files are written to.
     pub(crate) sink_folder: &'a str,
     pub(crate) workers: u32,
-    pub(crate) periods: u32,
+    /// How long the run goes on.
+    pub(crate) how_long: Length,
     /// The most firings of all actors together.
     pub(crate) firings: Option<u32>,
     /// The room of the channels that have no capacity in the file.
     pub(crate) room: Room,
     ghost some_worker: { 1 ≤ workers },
     ghost few_workers: { workers ≤ 8 },
-    ghost some_period: { 1 ≤ periods },
-    ghost few_periods: { periods ≤ 1000 },
+    ghost may_be_asked: { MayBeAsked how_long } by { MayBeAsked-prop how_long },
     ghost some_room: { HasSomePeriod room } by { HasSomePeriod-prop room },
 }

@@ -1,6 +1,6 @@
 //! The program, from its words to its exit status.
 
-ghost use Rattle.std.specs.Prelude.{◌≡◌, ◌≢◌, ◌↔◌, ◌<◌, ◌≤◌, ◌⊎◌, length, map, string_bytes, ℕ, List, [], true, Ok, Err, IfErr, IfSome, OnOk};
+ghost use Rattle.std.specs.Prelude.{◌≡◌, ◌≢◌, ◌↔◌, ◌<◌, ◌≤◌, ◌⊎◌, length, map, string_bytes, ℕ, List, Option, [], true, Ok, Err, IfErr, IfSome, OnOk};
 ghost use Rattle.std.specs.Io.KnownBytes.{Appends};
 ghost use Rattle.clap.specs.Words.{fault_of, kind_of, takes};
 ghost use Rattle.csdf_tool.specs.CommandLine.{program, asked_view, words_ask, Moves, Ask, Explain, Order, Run};
@@ -9,23 +9,25 @@ ghost use Rattle.csdf_analysis.specs.declared.room.Room.{Room};
 ghost use Rattle.csdf_answers.specs.Described.{IsDescription};
 ghost use Rattle.csdf_answers.specs.declared.question.Question.{Question};
 ghost use Rattle.csdf_tool.specs.Ends.{Ended, EndsAs, EndsBy, EndsFor, EndsForOneOf, EndsUnread, IsFaultOfFile, IsFaultOfInput};
-ghost use Rattle.csdf_answers.specs.Explained.{IsExplained};
 ghost use Rattle.csdf_answers.specs.Faults.{status_of};
-ghost use Rattle.csdf_tool.specs.GraphFiles.{IsNamed, IsTooLong};
-ghost use Rattle.csdf_tool.specs.Running.{IsRunTold};
+ghost use Rattle.csdf_tool.specs.Acts.{devices};
+ghost use Rattle.csdf_tool.specs.Explaining.{ExplainsFiles};
+ghost use Rattle.csdf_tool.specs.GraphFiles.{IsGivenBy, IsTooLong};
+ghost use Rattle.csdf_tool.specs.Running.{EndsOnFiles, RefusesFiles, RunsOnFiles};
 ghost use Rattle.csdf_answers.specs.Session.{IsAnswer};
 
 use crate::command::{Request, Unread, request_of};
+use crate::disk::Disk;
+use crate::explain_files::explain_files;
 use crate::files::{graph_bytes, input_bytes};
 use crate::run_files::run_files;
 use clap::Error;
 use clap::error::ErrorKind;
-use csdf_answers::{Stream, ToolFault, describe_with_room, explain, play_script};
+use csdf_answers::{Stream, ToolFault, describe_with_room, play_script};
 use csdf_graph::{Intake, Outlet, write_bytes};
 use std::alloc::Global;
 use std::fmt;
 use std::fmt::Write;
-use std::rt::Files;
 use std::sync::Wait;
 use std::thread::Threads;
 
@@ -51,27 +53,32 @@ pub(crate) fn play_input<I: Intake, O: Outlet>(
 }
 
 /// Carries a request out.
-fn carry_out<R: Files + AllocGlobal + Threads + Wait + Sync, I: Intake, O: Outlet>(
+fn carry_out<R: AllocGlobal + Threads + Wait + Sync, D: Disk, I: Intake, O: Outlet>(
     rt: &R,
+    disk: &mut D,
     request: Request<'_>,
     reader: &mut I,
     out: &mut O,
 ) -> Result<(), ToolFault>
     ensures unwritten { IfErr result (λ fault. fault ≢ ToolFault.Device Stream.Output → out.new ≡ out.old) }
     ensures failed { result ≡ Err (ToolFault.Device Stream.Output) → O.failed out.new ≡ true }
-    ensures carried { OnOk result (IsCarriedOut (asked_view request.entry) (I.left reader.old) (O.written out.old) (O.written out.new)) }
-    ensures refused { IfErr result (λ fault. status_of fault ≡ 1 → IsRefusalOf (asked_view request.entry) (I.left reader.old) fault) }
+    ensures carried { OnOk result (IsCarriedOut (asked_view request.entry) (devices (I.left reader.old) (D.acts disk.old) (D.acts disk.new))
+        (O.written out.old) (O.written out.new)) }
+    ensures refused { IfErr result (λ fault. status_of fault ≡ 1
+        → IsRefusalOf (asked_view request.entry) (devices (I.left reader.old) (D.acts disk.old) (D.acts disk.new)) fault) }
+    ensures ended { (order : Order) → asked_view request.entry ≡ Run order
+        → IfErr result (EndsOnFiles order (devices (I.left reader.old) (D.acts disk.old) (D.acts disk.new))) }
 {
     let alloc = rt.alloc();
     match request {
         Request::Input => play_input(alloc, reader, out),
-        Request::Moves(path) => play_script(alloc, &graph_bytes(rt, path, reader)?, out),
+        Request::Moves(path) => play_script(alloc, &graph_bytes(alloc, disk, path, reader)?, out),
         Request::Ask(inquiry) => {
-            let bytes = graph_bytes(rt, inquiry.graph, reader)?;
+            let bytes = graph_bytes(alloc, disk, inquiry.graph, reader)?;
             describe_with_room(alloc, inquiry.question, &bytes, inquiry.room, out)
         }
-        Request::Explain(path) => explain(alloc, &graph_bytes(rt, path, reader)?, out),
-        Request::Run(order) => run_files(rt, order, reader, out),
+        Request::Explain(path, folder) => explain_files(alloc, disk, path, folder, reader, out),
+        Request::Run(order) => run_files(rt, disk, order, reader, out),
     }
 }
 
@@ -163,6 +170,18 @@ fn refuse_room<E: Outlet>(text: &str, err: &mut E) -> u8
     2
 }
 
+/// Tells that a run has two lengths, and answers the exit status of refused words.
+fn refuse_lengths<E: Outlet>(err: &mut E) -> u8
+    ensures { result ≡ 2 }
+{
+    let _ = write!(
+        Printer(err),
+        "error: '--until-dry' and '--periods <K>' exclude each other\n\n\
+        For more information, try '--help'.\n",
+    );
+    2
+}
+
 /// The exit status where the words are no request.
 fn status_of_words<O: Outlet, E: Outlet>(
     alloc: Global,
@@ -179,6 +198,7 @@ fn status_of_words<O: Outlet, E: Outlet>(
     match unread {
         Unread::Parse(error) => status_of_error(alloc, error, out, err),
         Unread::Room(text) => refuse_room(text, err),
+        Unread::Lengths => refuse_lengths(err),
     }
 }
 
@@ -188,8 +208,9 @@ fn status_of_words<O: Outlet, E: Outlet>(
 ///
 /// A fault of status 1 or 3 is told on `err` by its text and a newline, and nothing is written to
 /// `out` but for a fault of `out` itself. A failure of `err` changes no status.
-pub fn run_words<R: Files + AllocGlobal + Threads + Wait + Sync, I: Intake, O: Outlet, E: Outlet>(
+pub fn run_words<R: AllocGlobal + Threads + Wait + Sync, D: Disk, I: Intake, O: Outlet, E: Outlet>(
     rt: &R,
+    disk: &mut D,
     words: &[String],
     reader: &mut I,
     out: &mut O,
@@ -201,42 +222,46 @@ pub fn run_words<R: Files + AllocGlobal + Threads + Wait + Sync, I: Intake, O: O
     ensures answered { result ≡ 0 → err.new ≡ err.old }
     ensures lined { (result ≡ 1) ⊎ (result ≡ 3) → (fault : ToolFault) × EndsAs fault result (E.written err.old) (E.written err.new) (E.failed err.new) }
     ensures taken { takes program (map string_bytes words.now) ≡ true → words_ask (map string_bytes words.now) ≢ None → result ≢ 2 }
-    ensures roomless { takes program (map string_bytes words.now) ≡ true → words_ask (map string_bytes words.now) ≡ None → (result ≡ 2) ⊎ (result ≡ 3) }
+    ensures nothing { takes program (map string_bytes words.now) ≡ true → words_ask (map string_bytes words.now) ≡ None → (result ≡ 2) ⊎ (result ≡ 3) }
     ensures unread { fault_of program (map string_bytes words.now) ≢ [] → EndsForOneOf (fault_of program (map string_bytes words.now)) result }
     ensures moves { (path : List ℕ) → takes program (map string_bytes words.now) ≡ true
         → words_ask (map string_bytes words.now) ≡ Some (Moves path) → result ≡ 0
-        → (bytes text : List ℕ) × IsNamed path (I.left reader.old) bytes × IsAnswer bytes (Ok text) × Appends (O.written out.old) (O.written out.new) text }
+        → (bytes text : List ℕ) × IsGivenBy path (devices (I.left reader.old) (D.acts disk.old) (D.acts disk.new)) bytes
+        × IsAnswer bytes (Ok text) × Appends (O.written out.old) (O.written out.new) text }
     ensures told { (question : Question) (room : Room) (path : List ℕ) → takes program (map string_bytes words.now) ≡ true
         → words_ask (map string_bytes words.now) ≡ Some (Ask question room path) → result ≡ 0
-        → (bytes text : List ℕ) × IsNamed path (I.left reader.old) bytes × IsDescription question room bytes (Ok text)
+        → (bytes text : List ℕ) × IsGivenBy path (devices (I.left reader.old) (D.acts disk.old) (D.acts disk.new)) bytes
+        × IsDescription question room bytes (Ok text)
         × Appends (O.written out.old) (O.written out.new) text }
-    ensures explained { (path : List ℕ) → takes program (map string_bytes words.now) ≡ true
-        → words_ask (map string_bytes words.now) ≡ Some (Explain path) → result ≡ 0
-        → (bytes text : List ℕ) × IsNamed path (I.left reader.old) bytes × IsExplained bytes (Ok text) × Appends (O.written out.old) (O.written out.new) text }
+    ensures explained { (path : List ℕ) (folder : Option (List ℕ)) → takes program (map string_bytes words.now) ≡ true
+        → words_ask (map string_bytes words.now) ≡ Some (Explain path folder) → result ≡ 0
+        → ExplainsFiles path folder (devices (I.left reader.old) (D.acts disk.old) (D.acts disk.new)) (O.written out.old) (O.written out.new) }
     ensures ran { (order : Order) → takes program (map string_bytes words.now) ≡ true
         → words_ask (map string_bytes words.now) ≡ Some (Run order) → result ≡ 0
-        → (bytes text : List ℕ) × IsNamed order.graph (I.left reader.old) bytes × IsRunTold order bytes (Ok text)
-        × Appends (O.written out.old) (O.written out.new) text }
+        → RunsOnFiles order (devices (I.left reader.old) (D.acts disk.old) (D.acts disk.new)) (O.written out.old) (O.written out.new) }
     ensures moves_refused { (path : List ℕ) → words_ask (map string_bytes words.now) ≡ Some (Moves path) → result ≡ 1
-        → (fault : ToolFault) × IsFaultOfFile IsAnswer path (I.left reader.old) fault
+        → (fault : ToolFault) × IsFaultOfFile IsAnswer path (devices (I.left reader.old) (D.acts disk.old) (D.acts disk.new)) fault
         × EndsAs fault result (E.written err.old) (E.written err.new) (E.failed err.new) }
     ensures told_refused { (question : Question) (room : Room) (path : List ℕ)
         → words_ask (map string_bytes words.now) ≡ Some (Ask question room path) → result ≡ 1
-        → (fault : ToolFault) × IsFaultOfFile (IsDescription question room) path (I.left reader.old) fault
+        → (fault : ToolFault) × IsFaultOfFile (IsDescription question room) path (devices (I.left reader.old) (D.acts disk.old) (D.acts disk.new)) fault
         × EndsAs fault result (E.written err.old) (E.written err.new) (E.failed err.new) }
-    ensures explained_refused { (path : List ℕ) → words_ask (map string_bytes words.now) ≡ Some (Explain path) → result ≡ 1
+    ensures explained_refused { (path : List ℕ) (folder : Option (List ℕ))
+        → words_ask (map string_bytes words.now) ≡ Some (Explain path folder) → result ≡ 1
         → (fault : ToolFault) × IsTooLong path (I.left reader.old) fault
         × EndsAs fault result (E.written err.old) (E.written err.new) (E.failed err.new) }
     ensures ran_refused { (order : Order) → words_ask (map string_bytes words.now) ≡ Some (Run order) → result ≡ 1
-        → (fault : ToolFault) × IsFaultOfFile (IsRunTold order) order.graph (I.left reader.old) fault
+        → (fault : ToolFault) × RefusesFiles order (I.left reader.old) fault
         × EndsAs fault result (E.written err.old) (E.written err.new) (E.failed err.new) }
+    ensures cut { (order : Order) → words_ask (map string_bytes words.now) ≡ Some (Run order) → result ≢ 0
+        → (fault : ToolFault) × EndsOnFiles order (devices (I.left reader.old) (D.acts disk.old) (D.acts disk.new)) fault }
     ensures played { words.now ≡ [] → result ≡ 0 → IfSome (I.left reader.old)
         (λ bytes. (text : List ℕ) × IsAnswer bytes (Ok text) × Appends (O.written out.old) (O.written out.new) text) }
     ensures faulty { words.now ≡ [] → result ≡ 1 → (fault : ToolFault) × IfSome (I.left reader.old) (λ bytes. IsFaultOfInput bytes fault)
         × EndsAs fault result (E.written err.old) (E.written err.new) (E.failed err.new) }
 {
     match request_of(rt.alloc(), words) {
-        Ok(request) => status_after(rt.alloc(), carry_out(rt, request, reader, out), err),
+        Ok(request) => status_after(rt.alloc(), carry_out(rt, disk, request, reader, out), err),
         Err(unread) => status_of_words(rt.alloc(), &unread, out, err),
     }
 }

@@ -1,30 +1,28 @@
 //! A run of a graph file over the token files of a folder.
 
-ghost use Rattle.std.specs.Prelude.{◌≡◌, ◌≢◌, ℕ, List, [], true, Ok, Err, length, map, slice_index_or, IfErr, IfOk, OnOk};
-ghost use Rattle.std.specs.Io.KnownBytes.{Appends};
+ghost use Rattle.std.specs.Prelude.{◌≡◌, ◌≢◌, ℕ, List, [], true, Err, length, map, slice_index_or, IfErr, IfOk, OnErr, OnOk};
 ghost use Rattle.csdf_model.specs.Graph.{actor_view};
 ghost use Rattle.csdf_graph.specs.GraphText.{IsGraphOf};
 ghost use Rattle.csdf_core.specs.Layout.{is_source_kernel};
 ghost use Rattle.csdf_run.specs.Texts.{TellRun, TellSequentialRun, source_count, texts_in};
 ghost use Rattle.csdf_floor.specs.Work.{is_sink_kernel};
 ghost use Rattle.csdf_tool.specs.CommandLine.{order_view};
-ghost use Rattle.csdf_tool.specs.Ends.{IsFaultOfFile};
 ghost use Rattle.csdf_answers.specs.Faults.{status_of};
-ghost use Rattle.csdf_tool.specs.GraphFiles.{IsNamed};
-ghost use Rattle.csdf_tool.specs.Running.{IsRefusedFile, IsRunBy, IsRunTold, IsUnreadOf, IsUnwrittenOf, RefusesRun};
-ghost use Rattle.csdf_tool.specs.Running.{file_view, run_fault, sink_files, texts_fault, token_fault};
+ghost use Rattle.csdf_tool.specs.Acts.{Act, Asks, OnlyReads, devices};
+ghost use Rattle.csdf_tool.specs.Running.{EndsOnFiles, IsCutShort, IsUnreadOf, IsReadAfter, IsUnreadActor, RefusesFiles, RefusesRun, RunsOn, RunsOnFiles};
+ghost use Rattle.csdf_tool.specs.Running.{feed_reads, file_view, files_of, put_whole, run_fault, run_reads, sink_files, texts_fault, token_fault};
 
-use crate::files::{feed_bytes, graph_bytes, write_file};
+use crate::disk::Disk;
+use crate::files::{feed_bytes, graph_bytes, put_file};
 use crate::order::RunOrder;
 use csdf_answers::{Name, Stream, ToolFault, accept_fault, actor_name};
 use csdf_graph::{Actor, Graph, Intake, Kernel, Outlet, TokenFault, read_graph, write_bytes};
 use csdf_run::{RunFault, Texts, TextsFault, run_texts_with_room};
 use std::alloc::{AllocError, Global};
-use std::rt::Files;
 use std::sync::Wait;
 use std::thread::Threads;
 
-fn is_source(actor: &Actor) -> bool
+pub(crate) fn is_source(actor: &Actor) -> bool
     ensures { result ≡ is_source_kernel (actor_view actor.now).kernel }
 {
     matches!(actor.kernel, Kernel::Source)
@@ -36,20 +34,42 @@ fn is_sink(actor: &Actor) -> bool
     matches!(actor.kernel, Kernel::Sink)
 }
 
+/// Appends the bytes of an actor's token file, where it is a source.
+fn push_feed<D: Disk>(
+    alloc: Global,
+    disk: &mut D,
+    folder: &str,
+    actor: &Actor,
+    feeds: &mut Vec<Vec<u8>>,
+) -> Result<(), ToolFault>
+    ensures read { OnOk result (IsReadAfter folder.now (actor_view actor.now) (D.acts disk.old) (D.acts disk.new)
+        (texts_in feeds.old.items) (texts_in feeds.new.items)) }
+    ensures only { OnErr result (OnlyReads (D.acts disk.old) (D.acts disk.new)) }
+    ensures refused { IfErr result (IsUnreadActor (actor_view actor.now)) }
+{
+    if !is_source(actor) {
+        return Ok(());
+    }
+    let feed = feed_bytes(alloc, disk, folder, actor.name.as_str())?;
+    feeds.push(feed)?;
+    Ok(())
+}
+
 /// The bytes of the token file of each source, in file order.
-#[tactic(auto, using(crate::proofs::RunLemmas::unread_here))]
-fn feeds_in(
-    rt: &(impl Files + AllocGlobal),
+fn feeds_in<D: Disk>(
+    alloc: Global,
+    disk: &mut D,
     folder: &str,
     actors: &[Actor],
 ) -> Result<Vec<Vec<u8>>, ToolFault>
+    ensures read { IfOk result (λ feeds. Asks (D.acts disk.old) (D.acts disk.new)
+        (feed_reads folder.now (map actor_view actors.now) (texts_in feeds.items))) }
+    ensures only { OnErr result (OnlyReads (D.acts disk.old) (D.acts disk.new)) }
     ensures refused { IfErr result (IsUnreadOf (map actor_view actors.now)) }
 {
-    let mut feeds = Vec::new(rt.alloc());
+    let mut feeds = Vec::new(alloc);
     for actor in actors {
-        if is_source(actor) {
-            feeds.push(feed_bytes(rt, folder, actor.name.as_str())?)?;
-        }
+        push_feed(alloc, disk, folder, actor, &mut feeds)?;
     }
     Ok(feeds)
 }
@@ -105,14 +125,14 @@ fn texts_of<R: AllocGlobal + Threads + Wait + Sync>(
     feeds: &[Vec<u8>],
     order: RunOrder<'_>,
 ) -> Result<Texts, ToolFault>
-    ensures told { IfOk result (TellRun order.entry.room bytes.now (texts_in feeds.now) order.entry.periods order.entry.firings) }
-    ensures sequential { IfOk result (TellSequentialRun order.entry.room bytes.now (texts_in feeds.now) order.entry.periods order.entry.firings) }
+    ensures told { IfOk result (TellRun order.entry.room bytes.now (texts_in feeds.now) order.entry.how_long order.entry.firings) }
+    ensures sequential { IfOk result (TellSequentialRun order.entry.room bytes.now (texts_in feeds.now) order.entry.how_long order.entry.firings) }
     ensures refused { IfErr result (λ fault. fault ≢ ToolFault.Memory → RefusesRun order.entry.room graph.now bytes.now (texts_in feeds.now) fault) }
 {
     let alloc = rt.alloc();
-    let (workers, periods, firings) = (order.workers, order.periods, order.firings);
+    let (workers, how_long, firings) = (order.workers, order.how_long, order.firings);
     let room = order.room;
-    match run_texts_with_room(rt, alloc, bytes, feeds, workers, periods, firings, room) {
+    match run_texts_with_room(rt, alloc, bytes, feeds, workers, how_long, firings, room) {
         Ok(texts) => Ok(texts),
         Err(fault) => Err(texts_fault(alloc, graph, fault)?),
     }
@@ -126,25 +146,29 @@ struct Ran {
 }
 
 /// Reads the files of a run, and runs.
-fn ran_by<R: Files + AllocGlobal + Threads + Wait + Sync, I: Intake>(
+fn ran_by<R: AllocGlobal + Threads + Wait + Sync, D: Disk, I: Intake>(
     rt: &R,
+    disk: &mut D,
     order: RunOrder<'_>,
     reader: &mut I,
 ) -> Result<Ran, ToolFault>
-    ensures ran { IfOk result (λ ran. (bytes : List ℕ) × (feeds : List (List ℕ)) × IsNamed order.entry.graph.now (I.left reader.old) bytes
-        × IsRunBy (order_view order.entry) ran.graph bytes feeds ran.texts) }
+    ensures ran { IfOk result (λ ran. (bytes : List ℕ) × (feeds : List (List ℕ))
+        × RunsOn (order_view order.entry) (I.left reader.old) ran.graph bytes feeds ran.texts
+        × Asks (D.acts disk.old) (D.acts disk.new) (run_reads (order_view order.entry) ran.graph bytes feeds)) }
+    ensures only { OnErr result (OnlyReads (D.acts disk.old) (D.acts disk.new)) }
     ensures refused { IfErr result (λ fault. status_of fault ≡ 1
-        → IsFaultOfFile (IsRunTold (order_view order.entry)) order.entry.graph.now (I.left reader.old) fault) }
+        → RefusesFiles (order_view order.entry) (I.left reader.old) fault) }
     ensures other { IfErr result (λ fault. fault ≢ ToolFault.Device Stream.Output) }
 {
-    let bytes = graph_bytes(rt, order.graph, reader)?;
-    let graph = read_graph(rt.alloc(), &bytes)?;
-    let feeds = feeds_in(rt, order.folder, graph.actors())?;
+    let alloc = rt.alloc();
+    let bytes = graph_bytes(alloc, disk, order.graph, reader)?;
+    let graph = read_graph(alloc, &bytes)?;
+    let feeds = feeds_in(alloc, disk, order.folder, graph.actors())?;
     let texts = texts_of(rt, &graph, &bytes, &feeds, order)?;
     Ok(Ran { graph, texts })
 }
 
-/// A file that is written: its folder, its name there and its text.
+/// A file that is to be put: its folder, its name there and its text.
 #[derive(Drop)]
 struct SinkFile<'a> {
     folder: &'a str,
@@ -186,40 +210,55 @@ fn sink_files<'a>(
     Ok(files)
 }
 
-/// Writes the file of each sink, in file order.
-#[tactic(auto, using(crate::proofs::RunLemmas::unwritten_here))]
-fn write_sinks(
-    rt: &(impl Files + AllocGlobal),
-    order: RunOrder<'_>,
-    actors: &[Actor],
-    texts: &Texts,
-) -> Result<(), ToolFault>
-    ensures { IfErr result (IsUnwrittenOf (sink_files (order_view order.entry).sink_folder (map actor_view actors.now) (texts_in texts.now.sinks.items))) }
+/// Puts the file of each sink in its place, in file order.
+fn put_files<D: Disk>(alloc: Global, disk: &mut D, files: &[SinkFile<'_>]) -> Result<(), ToolFault>
+    ensures put { OnOk result (Asks (D.acts disk.old) (D.acts disk.new) (map put_whole (map file_view files.now))) }
+    ensures cut { IfErr result (λ fault. (acts : List Act) × Asks (D.acts disk.old) (D.acts disk.new) acts
+        × IsCutShort (map file_view files.now) acts fault) }
 {
-    let files = sink_files(rt.alloc(), order, actors, &texts.sinks)?;
-    for file in &files {
-        write_file(rt, file.folder, &file.name, file.text)?;
+    for file in files {
+        put_file(alloc, disk, file.folder, &file.name, file.text)?;
     }
     Ok(())
 }
 
-/// Runs the graph of a file, or of standard input, over the token files of a folder: writes what
-/// each sink took, and then the report.
-pub(crate) fn run_files<R: Files + AllocGlobal + Threads + Wait + Sync, I: Intake, O: Outlet>(
+/// Puts the text of each sink in the place of its file, in file order.
+fn put_sinks<D: Disk>(
+    alloc: Global,
+    disk: &mut D,
+    order: RunOrder<'_>,
+    ran: &Ran,
+) -> Result<(), ToolFault>
+    ensures put { OnOk result (Asks (D.acts disk.old) (D.acts disk.new)
+        (map put_whole (files_of (order_view order.entry) ran.now.graph ran.now.texts))) }
+    ensures cut { IfErr result (λ fault. (acts : List Act) × Asks (D.acts disk.old) (D.acts disk.new) acts
+        × IsCutShort (files_of (order_view order.entry) ran.now.graph ran.now.texts) acts fault) }
+{
+    match sink_files(alloc, order, ran.graph.actors(), &ran.texts.sinks) {
+        Ok(files) => put_files(alloc, disk, &files),
+        Err(_) => Err(ToolFault::Memory),
+    }
+}
+
+/// Runs the graph of a file, or of standard input, over the token files of a folder: puts what each
+/// sink took in its file, and then writes the report.
+pub(crate) fn run_files<R: AllocGlobal + Threads + Wait + Sync, D: Disk, I: Intake, O: Outlet>(
     rt: &R,
+    disk: &mut D,
     order: RunOrder<'_>,
     reader: &mut I,
     out: &mut O,
 ) -> Result<(), ToolFault>
-    ensures written { OnOk result ((bytes text : List ℕ) × IsNamed order.entry.graph.now (I.left reader.old) bytes
-        × IsRunTold (order_view order.entry) bytes (Ok text) × Appends (O.written out.old) (O.written out.new) text) }
+    ensures written { OnOk result (RunsOnFiles (order_view order.entry) (devices (I.left reader.old) (D.acts disk.old) (D.acts disk.new))
+        (O.written out.old) (O.written out.new)) }
     ensures unwritten { IfErr result (λ fault. fault ≢ ToolFault.Device Stream.Output → out.new ≡ out.old) }
     ensures failed { result ≡ Err (ToolFault.Device Stream.Output) → O.failed out.new ≡ true }
     ensures refused { IfErr result (λ fault. status_of fault ≡ 1
-        → IsFaultOfFile (IsRunTold (order_view order.entry)) order.entry.graph.now (I.left reader.old) fault) }
+        → RefusesFiles (order_view order.entry) (I.left reader.old) fault) }
+    ensures ended { IfErr result (EndsOnFiles (order_view order.entry) (devices (I.left reader.old) (D.acts disk.old) (D.acts disk.new))) }
 {
-    let ran = ran_by(rt, order, reader)?;
-    write_sinks(rt, order, ran.graph.actors(), &ran.texts)?;
+    let ran = ran_by(rt, disk, order, reader)?;
+    put_sinks(rt.alloc(), disk, order, &ran)?;
     match write_bytes(out, &ran.texts.report) {
         Ok(()) => Ok(()),
         Err(_) => Err(ToolFault::Device(Stream::Output)),

@@ -53,6 +53,15 @@ impl Two {
         Ok(tokens)
     }
 
+    // Whether the chain has so many tokens, which are then gone.
+    fn drop_some(&mut self, chain: u32, n: u32) -> bool {
+        if n > self.pool.len(chain % 2) {
+            return false;
+        }
+        self.pool.drop_front(chain % 2, n);
+        true
+    }
+
     fn show_chain(&self, text: &mut String, chain: u32) -> Result<(), AllocError>
         requires { chain < 2 }
     {
@@ -252,4 +261,51 @@ fn beside_the_plain_pool(rt: HostRuntime) -> Result<(), Fail> {
     let mut two = Two::new(rt.alloc(), 11)?;
     let mut plain = Plain::new(rt.alloc(), 11)?;
     play_both(&rt, rt.alloc(), &mut two, &mut plain)
+}
+
+// Puts forty tokens and takes them, on both pools, and then puts them and drops all but two.
+fn play_forty(
+    rt: &impl Abort,
+    alloc: Global,
+    two: &mut Two,
+    plain: &mut Plain,
+) -> Result<(), Fail> {
+    let mut tokens = vec![in alloc; 0; 40]?;
+    for (i, token) in tokens.iter_mut().enumerate() {
+        *token = 100 + i as i32 % 40;
+    }
+    assert!(rt; two.put_all(0, &tokens) && plain.put_all(0, &tokens)?);
+    check_alike(rt, alloc, two, plain)?;
+    assert!(rt; same_taken(alloc, two, plain, 0, 40)?);
+    check_alike(rt, alloc, two, plain)?;
+    assert!(rt; two.put_all(1, &tokens) && plain.put_all(1, &tokens)?);
+    assert!(rt; two.drop_some(1, 38) && plain.take_some(alloc, 1, 38)?.len() == 38);
+    check_alike(rt, alloc, two, plain)?;
+    assert!(rt; same_taken(alloc, two, plain, 1, 2)?);
+    Ok(())
+}
+
+// Takes all cells by turns for both chains and gives them back, so that no two of them are next
+// to each other in the free list and in the table.
+fn play_turns(
+    rt: &impl Abort,
+    alloc: Global,
+    two: &mut Two,
+    plain: &mut Plain,
+) -> Result<(), Fail> {
+    for turn in 0..50 {
+        let chain = turn % 2;
+        assert!(rt; two.put(chain, 7).is_ok() && plain.put(chain, 7)?);
+    }
+    assert!(rt; same_taken(alloc, two, plain, 0, 25)? && same_taken(alloc, two, plain, 1, 25)?);
+    Ok(())
+}
+
+#[test]
+fn forty_at_once(rt: HostRuntime) -> Result<(), Fail> {
+    let mut two = Two::new(rt.alloc(), 50)?;
+    let mut plain = Plain::new(rt.alloc(), 50)?;
+    play_forty(&rt, rt.alloc(), &mut two, &mut plain)?;
+    play_turns(&rt, rt.alloc(), &mut two, &mut plain)?;
+    play_forty(&rt, rt.alloc(), &mut two, &mut plain)
 }

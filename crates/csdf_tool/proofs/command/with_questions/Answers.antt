@@ -6,4 +6,4 @@ returns c =
     let three = c.then_command-program-2.ensures _ two in
     let four = c.then_roomy_command-program.ensures _ three in
     let five = c.then_roomy_command-program-2.ensures _ four in
-    c.then_command.ensures _ (c.then_roomy_command-program-3.ensures _ five)
+    c.then_explain.ensures _ (c.then_roomy_command-program-3.ensures _ five)

@@ -1,15 +1,30 @@
-use Rattle.std.proofs.Common.{sym, subst, ◌∙◌}
-use Rattle.csdf_tool.specs.Running.{IsUnread}
-use Rattle.csdf_tool.proofs.RunLemmas.{unread_here}
+use Rattle.std.proofs.Common.{◌≡◌, ◌<◌, length, get_or, map, ap, sym, ◌∙◌, arith}
+use Rattle.std.proofs.lemmas.List.{get_or-map, length-map}
+use Rattle.csdf_model.specs.Graph.{actor_view}
+use Rattle.csdf_run.specs.Texts.{texts_in}
+use Rattle.csdf_tool.proofs.DiskLemmas.{actor_next, on_err, only_more, only_read_to}
+use Rattle.csdf_tool.proofs.RunLemmas.{unread_at}
 use Rattle.csdf_answers.proofs.ToldLemmas.{if_err_fault}
 use Rattle.csdf_tool.proofs.run_files.feeds_in.Goals as goal
 
-pub returns-in_err-feed_bytes : goal.returns-in_err-feed_bytes
-returns-in_err-feed_bytes g c =
-    let fault = c.in_err-feed_bytes.field-0.0 in
-    let unread = subst (λ name. IsUnread name fault) c.as_str.ensures.value c.in_err-feed_bytes.ensures in
-    record {
-      refused = if_err_fault _ fault _ c.from_residual.ensures.1
-          (unread_here c.args.actors.now c.loop-actor.actor-index c.actor-item.result fault c.loop-actor-test.true c.actor-item.is
-          (sym c.is_source.ensures ∙ c.if-is_source.true) unread);
-    }
+pub returns-in_err-push_feed-clause-refused : goal.returns-in_err-push_feed-clause-refused
+returns-in_err-push_feed-clause-refused g c =
+    let fault = c.in_err-push_feed.field-0.0 in
+    if_err_fault _ fault _ c.from_residual.ensures.1
+    (unread_at c.args.actors.now c.loop-actor.actor-index c.actor-item.result fault c.loop-actor-test.true c.actor-item.is c.in_err-push_feed.ensures.refused)
+
+pub returns-in_err-push_feed-clause-only : goal.returns-in_err-push_feed-clause-only
+returns-in_err-push_feed-clause-only g c =
+    on_err _ _ (only_more _ _ _ (only_read_to _ _ c.args.folder.now (map actor_view c.args.actors.now) c.loop-actor.actor-index
+    (texts_in c.loop-actor.feeds.items) c.loop-actor.invariant) c.in_err-push_feed.ensures.only)
+
+pub loop-actor-preserved : goal.loop-actor-preserved
+loop-actor-preserved g c =
+    let actors = c.args.actors.now in
+    let i = c.loop-actor.actor-index in
+    let d = c.actor-item.result in
+    let there : i < length (map actor_view actors) = omega (arith, c.loop-actor-test.true, length-map actors actor_view) in
+    let at : get_or (map actor_view actors) i (actor_view d) ≡ actor_view d =
+    get_or-map actor_view actors i d (actor_view d) c.loop-actor-test.true ∙ ap actor_view (sym c.actor-item.is) in
+    actor_next _ _ _ c.args.folder.now (map actor_view actors) i (actor_view d) (texts_in c.loop-actor.feeds.items) there at c.loop-actor.invariant _
+    c.in_ok-push_feed.ensures.read

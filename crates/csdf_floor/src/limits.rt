@@ -1,0 +1,51 @@
+//! How many periods a run may have.
+
+ghost use Rattle.std.specs.Prelude.{◌≡◌, ◌↔◌, ◌*◌, ◌≤◌, ℕ, IsTrue};
+ghost use Rattle.csdf_floor.specs.Work.{FewInThousand, HasFewFirings, IsMostPeriods};
+
+use csdf_analysis::Accepted;
+
+/// The most periods, of at most 16,384,000, in which an actor that fires so often in each makes no more
+/// firings than that.
+fn most_for(firings: u32) -> u32
+    ensures { (n : ℕ) → (n ≤ result) ↔ ((n ≤ 16_384_000) × (n * firings ≤ 16_384_000)) }
+{
+    if firings == 0 {
+        return 16_384_000;
+    }
+    16_384_000 / firings
+}
+
+/// How many periods a run of the graph may have: of at most 16,384,000, the most in which no actor makes
+/// more firings than that. It is at least 1,000 for every graph.
+pub fn most_periods(accepted: &Accepted) -> u32
+    ensures most { IsMostPeriods accepted.now result }
+    ensures many { 1000 ≤ result }
+{
+    let firings = accepted.vector().q.as_slice();
+    let mut most: u32 = 16_384_000;
+    for actor in 0..firings.len() {
+        let over = most.saturating_sub(most_for(firings[actor]));
+        most -= over;
+    }
+    most
+}
+
+/// Whether a run of the graph may have so many periods: no actor makes more than 16,384,000 firings in
+/// them.
+pub fn may_run(accepted: &Accepted, periods: u32) -> bool
+    ensures { IsTrue result ↔ HasFewFirings accepted.now periods }
+{
+    let firings = accepted.vector().q.as_slice();
+    for actor in 0..firings.len() {
+        if u64::from(periods) * u64::from(firings[actor]) > 16_384_000 {
+            return false;
+        }
+    }
+    true
+}
+
+/// A law: a run of an accepted graph may have 1,000 periods.
+pub fn few_in_thousand()
+    ensures { FewInThousand }
+{}

@@ -1,0 +1,147 @@
+-- What is asked of files, one thing after another.
+use Rattle.std.proofs.Common.{◌≡◌, ℕ, ◌+◌, ◌<◌, Bool, true, false, cond, List, [], ◌∷◌, ◌++◌, length, map, take, get_or, refl, ap, sym}
+use Rattle.std.proofs.Common.{subst, ◌∙◌, arith, append_assoc, Ok, Err, Option, Some, None, filter}
+use Rattle.std.specs.Prelude.{Result, IfSome, OnErr}
+use Rattle.std.specs.List.{zip, AllByRecursion}
+use Rattle.std.specs.Path.{path_join}
+use Rattle.std.proofs.lemmas.List.{append-nil, length_push, map-append, take_more}
+use Rattle.std.proofs.lemmas.List.Elements.{filter-append}
+use Rattle.csdf_model.specs.Graph.{Actor}
+use Rattle.csdf_core.specs.Layout.{is_source_kernel}
+use Rattle.csdf_bytes.specs.declared.intake.InputFault.{InputFault}
+use Rattle.csdf_tool.specs.Acts.{Act, Asks, IsRead, OnlyReads, Read}
+use Rattle.csdf_tool.specs.GraphFiles.{graph_reads, is_input}
+use Rattle.csdf_tool.specs.Running.{IsReadAfter, feed_paths, feed_reads, in_file, read_whole}
+
+pub asks_none : (before : Option (List Act)) → Asks before before []
+asks_none None = tt
+asks_none (Some done) = ap Some (sym (append-nil done))
+
+pub asks_more : (a b c : Option (List Act)) (xs ys : List Act) → Asks a b xs → Asks b c ys → Asks a c (xs ++ ys)
+asks_more None b c xs ys p q = tt
+asks_more (Some done) b c xs ys p q =
+    let later : c ≡ Some ((done ++ xs) ++ ys) = subst (λ (o : Option (List Act)). IfSome o (λ d. c ≡ Some (d ++ ys))) p q in
+    later ∙ ap Some (append_assoc done xs ys)
+
+-- ---- only reads
+
+both_read : (xs ys : List Act) → AllByRecursion IsRead xs → AllByRecursion IsRead ys → AllByRecursion IsRead (xs ++ ys)
+both_read [] ys p q = q
+both_read (x ∷ xs) ys p q = (p.0, both_read xs ys p.1 q)
+
+pub only_none : (before : Option (List Act)) → OnlyReads before before
+only_none before = ([], tt, asks_none before)
+
+pub only_more : (a b c : Option (List Act)) → OnlyReads a b → OnlyReads b c → OnlyReads a c
+only_more a b c p q = (p.0 ++ q.0, both_read p.0 q.0 p.1 q.1, asks_more a b c p.0 q.0 p.2 q.2)
+
+pub only_read : (a b : Option (List Act)) (path : List ℕ) (came : Result (List ℕ) InputFault) → Asks a b (Read path came ∷ []) → OnlyReads a b
+only_read a b path came p = (Read path came ∷ [], (tt, tt), p)
+
+pub on_err : {X E : Type 0} (r : Result X E) (P : Type 0) → P → OnErr r P
+on_err (Ok x) P p = tt
+on_err (Err e) P p = p
+
+pub rows_read : (rows : List (List ℕ × List ℕ)) → AllByRecursion IsRead (map read_whole rows)
+rows_read [] = tt
+rows_read (row ∷ rows) = (tt, rows_read rows)
+
+pub graph_read : (word bytes : List ℕ) → AllByRecursion IsRead (graph_reads word bytes)
+graph_read word bytes = by (is_input word)
+  where
+    by : (b : Bool) → AllByRecursion IsRead (cond b [] (Read word (Ok bytes) ∷ []))
+    by true = tt
+    by false = (tt, tt)
+
+pub only_graph : (a b : Option (List Act)) (word bytes : List ℕ) → Asks a b (graph_reads word bytes) → OnlyReads a b
+only_graph a b word bytes p = (graph_reads word bytes, graph_read word bytes, p)
+
+pub only_feeds : (a b : Option (List Act)) (folder : List ℕ) (actors : List Actor) (texts : List (List ℕ)) → Asks a b (feed_reads folder actors texts)
+    → OnlyReads a b
+only_feeds a b folder actors texts p = (feed_reads folder actors texts, rows_read (zip (feed_paths folder actors) texts), p)
+
+-- ---- one source after another
+
+zip_one_more : (xs ys : List (List ℕ)) (x y : List ℕ) → length xs ≡ length ys → zip (xs ++ x ∷ []) (ys ++ y ∷ []) ≡ zip xs ys ++ (x, y) ∷ []
+zip_one_more [] [] x y same = refl
+zip_one_more [] (v ∷ ys) x y same = absurd (omega (arith, same))
+zip_one_more (u ∷ xs) [] x y same = absurd (omega (arith, same))
+zip_one_more (u ∷ xs) (v ∷ ys) x y same = ap (λ (rows : List (List ℕ × List ℕ)). (u, v) ∷ rows) (zip_one_more xs ys x y (omega (arith, same)))
+
+module _ (folder : List ℕ) (actors : List Actor) (actor : Actor) where
+  abbrev is_source : Actor → Bool
+  is_source a = is_source_kernel a.kernel
+
+  abbrev path_of : Actor → List ℕ
+  path_of a = path_join folder (in_file a.name)
+
+  paths_split : feed_paths folder (actors ++ actor ∷ []) ≡ feed_paths folder actors ++ map path_of (cond (is_source actor) (actor ∷ []) [])
+  paths_split =
+      ap (map path_of) (filter-append is_source actors (actor ∷ []))
+      ∙ map-append path_of (filter is_source actors) (cond (is_source actor) (actor ∷ []) [])
+
+  pub paths_more : is_source actor ≡ true → feed_paths folder (actors ++ actor ∷ []) ≡ feed_paths folder actors ++ path_of actor ∷ []
+  paths_more is = paths_split ∙ ap (λ b. feed_paths folder actors ++ map path_of (cond b (actor ∷ []) [])) is
+
+  pub paths_same : is_source actor ≡ false → feed_paths folder (actors ++ actor ∷ []) ≡ feed_paths folder actors
+  paths_same is =
+      paths_split ∙ ap (λ b. feed_paths folder actors ++ map path_of (cond b (actor ∷ []) [])) is ∙ append-nil (feed_paths folder actors)
+
+  pub reads_more : (texts : List (List ℕ)) (text : List ℕ) → is_source actor ≡ true → length (feed_paths folder actors) ≡ length texts
+      → feed_reads folder (actors ++ actor ∷ []) (texts ++ text ∷ []) ≡ feed_reads folder actors texts ++ Read (path_of actor) (Ok text) ∷ []
+  reads_more texts text is same =
+      ap (λ paths. map read_whole (zip paths (texts ++ text ∷ []))) (paths_more is)
+      ∙ ap (map read_whole) (zip_one_more (feed_paths folder actors) texts (path_of actor) text same)
+      ∙ map-append read_whole (zip (feed_paths folder actors) texts) ((path_of actor, text) ∷ [])
+
+-- the token files of the sources before a place were read, one after the other
+pub record IsReadTo (before now : Option (List Act)) (folder : List ℕ) (actors : List Actor) (place : ℕ) (texts : List (List ℕ)) : Type 0 where
+  pub asked : Asks before now (feed_reads folder (take place actors) texts)
+  pub many : length (feed_paths folder (take place actors)) ≡ length texts
+
+pub only_read_to : (before now : Option (List Act)) (folder : List ℕ) (actors : List Actor) (place : ℕ) (texts : List (List ℕ))
+    → IsReadTo before now folder actors place texts → OnlyReads before now
+only_read_to before now folder actors place texts h = only_feeds before now folder (take place actors) texts h.asked
+
+pub none_read : (before : Option (List Act)) (folder : List ℕ) (actors : List Actor) → IsReadTo before before folder actors 0 []
+none_read before folder actors = record { asked = asks_none before; many = refl }
+
+module _ (before now next : Option (List Act)) (folder : List ℕ) (actors : List Actor) (place : ℕ) (actor : Actor) (texts : List (List ℕ))
+    (there : place < length actors) (at : get_or actors place actor ≡ actor) (so_far : IsReadTo before now folder actors place texts) where
+  longer : take (place + 1) actors ≡ take place actors ++ actor ∷ []
+  longer = take_more actors place actor there ∙ ap (λ (a : Actor). take place actors ++ a ∷ []) at
+
+  pub read_next : (text : List ℕ) → is_source_kernel actor.kernel ≡ true → Asks now next (Read (path_join folder (in_file actor.name)) (Ok text) ∷ [])
+      → IsReadTo before next folder actors (place + 1) (texts ++ text ∷ [])
+  read_next text is asked = record {
+    asked = subst (Asks before next) (sym (ap (λ front. feed_reads folder front (texts ++ text ∷ [])) longer
+        ∙ reads_more folder (take place actors) actor texts text is so_far.many))
+        (asks_more before now next (feed_reads folder (take place actors) texts) _ so_far.asked asked);
+    many =
+        (let one = ap length (ap (feed_paths folder) longer ∙ paths_more folder (take place actors) actor is) in
+        let two = length_push (feed_paths folder (take place actors)) (path_join folder (in_file actor.name)) in
+        let three = length_push texts text in
+        let same = so_far.many in
+        omega (arith, one, two, three, same));
+  }
+
+  pub skip_next : is_source_kernel actor.kernel ≡ false → IsReadTo before now folder actors (place + 1) texts
+  skip_next is =
+      let same : feed_paths folder (take (place + 1) actors) ≡ feed_paths folder (take place actors) =
+      ap (feed_paths folder) longer ∙ paths_same folder (take place actors) actor is in
+      record {
+        asked = subst (λ paths. Asks before now (map read_whole (zip paths texts))) (sym same) so_far.asked;
+        many = ap length same ∙ so_far.many;
+      }
+
+  pub actor_next : (more : List (List ℕ)) → IsReadAfter folder actor now next texts more → IsReadTo before next folder actors (place + 1) more
+  actor_next more h = by (is_source_kernel actor.kernel) refl
+    where
+      by : (b : Bool) → is_source_kernel actor.kernel ≡ b → IsReadTo before next folder actors (place + 1) more
+      by true is =
+          let read = h.source is in
+          subst (IsReadTo before next folder actors (place + 1)) (sym read.1) (read_next read.0 is read.2)
+      by false is =
+          let same = h.other is in
+          subst (IsReadTo before next folder actors (place + 1)) (sym same.0)
+          (subst (λ (o : Option (List Act)). IsReadTo before o folder actors (place + 1) texts) (sym same.1) (skip_next is))

@@ -1,0 +1,48 @@
+-- What is asked of files, and what comes of it.
+use Rattle.std.specs.Prelude.{◌≡◌, ◌++◌, ℕ, List, Option, Some, None, Result, Ok, Err, IfSome}
+use Rattle.std.specs.List.{AllByRecursion}
+use Rattle.std.specs.Global.{Vec}
+use Rattle.clap.specs.Words.{Text}
+use Rattle.csdf_bytes.specs.declared.intake.InputFault.{InputFault}
+use Rattle.csdf_answers.specs.declared.fault.ToolFault.{ToolFault}
+use Rattle.csdf_answers.specs.declared.token_note.TokenFile.{TokenFile}
+use Rattle.csdf_tool.specs.declared.put_fault.PutFault.{PutFault}
+
+-- a file was asked for, by its path, and these bytes came or none for this reason; it was looked at, and this was found, where memory sufficed; or a text was to be put in the place of a file, and was or not
+pub data Act : Type 0 where
+  Read : Text → Result (List ℕ) InputFault → Act
+  Look : Text → Option TokenFile → Act
+  Put : Text → List ℕ → Result (Unit {0}) PutFault → Act
+
+-- the bytes that came
+abbrev pub given : Result (Vec ℕ) InputFault → Result (List ℕ) InputFault
+given (Ok bytes) = Ok bytes.items
+given (Err why) = Err why
+
+-- these came after what was asked for before, where that is known
+abbrev pub Asks : Option (List Act) → Option (List Act) → List Act → Type 0
+Asks before after acts = IfSome before (λ done. after ≡ Some (done ++ acts))
+
+-- what was found, where memory sufficed
+abbrev pub found : Result TokenFile ToolFault → Option TokenFile
+found (Ok file) = Some file
+found (Err why) = None
+
+-- no file was to be put
+abbrev pub IsRead : Act → Type 0
+IsRead (Read path came) = Unit {0}
+IsRead (Look path found) = Unit {0}
+IsRead (Put path text came) = ⊥
+
+-- files were asked for or looked at, and none was to be put
+abbrev pub OnlyReads : Option (List Act) → Option (List Act) → Type 0
+OnlyReads before after = (acts : List Act) × AllByRecursion IsRead acts × Asks before after acts
+
+-- what the devices gave: what is left of standard input, where that is known, and what was asked of files before a command and after it
+pub record Devices : Type 0 where
+  pub left : Option (List ℕ)
+  pub before : Option (List Act)
+  pub after : Option (List Act)
+
+abbrev pub devices : Option (List ℕ) → Option (List Act) → Option (List Act) → Devices
+devices left before after = record { left = left; before = before; after = after }

@@ -1,0 +1,15 @@
+-- How long a run may be asked to go on.
+use denote.Struct.Props as logic
+use Rattle.std.specs.Prelude.{◌≤◌}
+use Rattle.csdf_run.specs.declared.length.Length.{Length}
+use Rattle.csdf_run.specs.declared.length.Length.TheVariants as lengths
+
+-- 1 to 1,000 periods, which any graph may have, or until a source has run dry
+abbrev pub MayBeAsked : Length → Type 0
+MayBeAsked (lengths.Periods n) = (1 ≤ n) × (n ≤ 1000)
+MayBeAsked lengths.UntilDry = Unit {0}
+
+-- that it may has one proof at most
+pub MayBeAsked-prop : (l : Length) → IsProp (MayBeAsked l)
+MayBeAsked-prop (lengths.Periods n) = Prim.hlevel logic.props
+MayBeAsked-prop lengths.UntilDry = Prim.hlevel logic.props

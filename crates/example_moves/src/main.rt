@@ -1,0 +1,80 @@
+//! The moves of firings, made one by one on a core, and its reply to each.
+#![tactic(auto)]
+
+ghost use Rattle.std.specs.Prelude.{IfOk};
+ghost use Rattle.csdf_core.specs.Shows.{Shows};
+ghost use Rattle.csdf_core.specs.State.{opening};
+
+use csdf_analysis::{Accepted, accept};
+use csdf_core::{Core, Setup};
+use csdf_graph::{Actor, Kernel, read_graph};
+use std::alloc::{AllocError, Global};
+use std::io;
+
+/// A source that gives 2 tokens and 1 in turn, and a sink that takes 3.
+const PAIR: &str = r#"actor = [
+  { name = "src", kernel = "source", phases = 2 },
+  { name = "snk", kernel = "sink" },
+]
+channel = [{ name = "x", from = "src", to = "snk", produce = [2, 1], consume = [3] }]
+"#;
+
+const SRC: u32 = 0;
+
+const SNK: u32 = 1;
+
+/// The graph of the text, which is accepted.
+fn accepted_in(alloc: Global, text: &str) -> anyhow::Result<Accepted> {
+    let graph = read_graph(alloc, text.as_bytes())?;
+    Ok(accept(alloc, graph).map_err(|(_, fault)| fault)?)
+}
+
+/// How many tokens there are for the actor: four for a source.
+fn supply_of(actor: &Actor) -> u32 {
+    if matches!(actor.kernel, Kernel::Source) {
+        4
+    } else {
+        0
+    }
+}
+
+/// A core of the graph on which nothing has fired. Each actor may fire three times.
+fn core_of(alloc: Global, accepted: &Accepted) -> Result<Core, AllocError>
+    ensures { IfOk result (λ core. Shows core (opening core.plan)) }
+{
+    let actors = accepted.graph().actors();
+    let setup = Setup {
+        accepted,
+        limits: vec![in alloc; 3; actors.len()]?,
+        supply: actors.iter().map(supply_of).collect(alloc)?,
+        firings: None,
+    };
+    Core::new(alloc, setup)
+}
+
+/// Makes the four moves of the actor's next firing, which writes these tokens, and prints the replies.
+fn fire(
+    rt: &impl Print,
+    alloc: Global,
+    core: &mut Core,
+    actor: u32,
+    tokens: &[i32],
+) -> io::Result<()> {
+    println!(rt; "begin {actor}: {:?}", core.begin(actor))?;
+    let mut read = vec![in alloc; 0; core.need(actor)]?;
+    let reply = core.read(actor, &mut read);
+    println!(rt; "read {actor}: {reply:?} {read:?}")?;
+    println!(rt; "write {actor}: {:?}", core.write(actor, tokens))?;
+    println!(rt; "finish {actor}: {:?}", core.finish(actor))
+}
+
+fn main(rt: HostRuntime) -> anyhow::Result<()> {
+    let accepted = accepted_in(rt.alloc(), PAIR)?;
+    let mut core = core_of(rt.alloc(), &accepted)?;
+    println!(rt; "begin {SNK}: {:?}", core.begin(SNK))?;
+    fire(&rt, rt.alloc(), &mut core, SRC, &[5, 6])?;
+    fire(&rt, rt.alloc(), &mut core, SRC, &[7])?;
+    fire(&rt, rt.alloc(), &mut core, SNK, &[])?;
+    println!(rt; "write {SRC}: {:?}", core.write(SRC, &[8, 9]))?;
+    Ok(())
+}
