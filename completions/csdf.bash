@@ -12,6 +12,7 @@ _csdf() {
     "run --workers") mapfile -t COMPREPLY < <(compgen -W "1 2 3 4 5 6 7 8" -- "$word") ;;
     "run --periods" | "run --firings") ;;
     "run --out") mapfile -t COMPREPLY < <(compgen -d -- "$word") ;;
+    "run --journal") mapfile -t COMPREPLY < <(compgen -f -- "$word") ;;
     *" --room") mapfile -t COMPREPLY < <(compgen -W auto -- "$word") ;;
     help\ *) mapfile -t COMPREPLY < <(compgen -W \
       "run moves check repetition schedule capacity dot explain" -- "$word") ;;
@@ -22,7 +23,7 @@ _csdf() {
         COMPREPLY=(-)
       elif [[ "$command" == run ]]; then
         mapfile -t COMPREPLY < <(compgen -W \
-          "--workers --periods --until-dry --firings --out --room --help" -- "$word")
+          "--workers --periods --until-dry --firings --out --journal --progress --room --help" -- "$word")
       elif [[ "$command" =~ ^(schedule|capacity|dot)$ ]]; then
         mapfile -t COMPREPLY < <(compgen -W "--room --help" -- "$word")
       else

@@ -18,4 +18,6 @@ complete -c csdf -n "__fish_seen_subcommand_from run" -x -l periods -d "How many
 complete -c csdf -n "__fish_seen_subcommand_from run" -l until-dry -d "Run until a source has run dry, in place of a number of periods"
 complete -c csdf -n "__fish_seen_subcommand_from run" -x -l firings -d "The most firings of all actors, 0 to 1048576000"
 complete -c csdf -n "__fish_seen_subcommand_from run" -x -l out -a "(__fish_complete_directories)" -d "The folder that the files of the sinks are written to"
+complete -c csdf -n "__fish_seen_subcommand_from run" -r -l journal -d "A file for the moves of the run, as the script of a graph file"
+complete -c csdf -n "__fish_seen_subcommand_from run" -l progress -d "Tell on standard error how many firings were made"
 complete -c csdf -n "__fish_seen_subcommand_from run schedule capacity dot" -x -l room -a auto -d "Room for so many periods, 1 to 65535, or auto"

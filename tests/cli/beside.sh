@@ -1,7 +1,7 @@
 # shellcheck shell=bash disable=SC2154
 # What stands beside the program, in the words of `run`, which reads this file: completions and the man
-# page name all commands and options that its help has, the schema of graph files its keys and limits, and
-# README, GUIDE and FORMATS show what it prints.
+# page name all commands and options that its help has, the schema of graph files its keys and limits,
+# README, GUIDE and FORMATS show what it prints, and the moves of runs can be played again.
 
 # named_in FILE: the words of the help that the file does not name, one a line.
 named_in() {
@@ -35,3 +35,4 @@ looked_over() {
 
 looked_over "the schema of graph files" schema.py
 looked_over "what README, GUIDE and FORMATS show" told.py
+looked_over "the moves of runs" journals.py

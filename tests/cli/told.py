@@ -178,6 +178,13 @@ def guide_runs() -> None:
             say(f"GUIDE: {ending} does not say {words}")
         told, files = run(file, *words)
         see((f"ending {ending}", {"meter.out": wanted}), (told.splitlines()[0], files), f"GUIDE: {ending}")
+    moves = ROOM / "moves.toml"
+    run(graph, "--periods", "4", "--journal", str(moves))
+    again = ROOM / "again.toml"
+    again.write_text(graph.read_text() + moves.read_text())
+    replies = answer("moves", again).splitlines()
+    see([], [it for it in replies if ": ok" not in it], "GUIDE: a run that is played again")
+    see(len(moves.read_text().splitlines()) - 3, len(replies), "GUIDE: the replies to its moves")
     see("ending complete", run(edited(graph, top="cells = 8\n"), "--periods", "4")[0].splitlines()[0], "GUIDE: eight cells")
     live = ROOM / "live"
     live.mkdir()

@@ -1,5 +1,5 @@
 -- A run from texts to texts: a graph file and the tokens for its sources, and what is told of the run.
-use Rattle.std.specs.Prelude.{ℕ, suc, ◌≡◌, ◌≢◌, ◌≤◌, if◌then◌else◌, List, [], ◌∷◌, ℤ, Option, Result, Ok, Err, count_by, drop, length, map, slice_index_or}
+use Rattle.std.specs.Prelude.{ℕ, suc, ◌≡◌, ◌≢◌, ◌≤◌, if◌then◌else◌, List, [], ◌∷◌, ℤ, Option, Result, Ok, Err, count_by, drop, length, map, option_map, slice_index_or}
 use Rattle.std.specs.Global.{Vec}
 use Rattle.std.specs.Result.{result_map_both}
 use Rattle.csdf_graph.specs.declared.fault.GraphFault.TheVariants as graph
@@ -24,6 +24,7 @@ use Rattle.csdf_floor.specs.Outcome.{IsOutcome, sequential_list}
 use Rattle.csdf_floor.specs.Report.{names_of, report_text}
 use Rattle.csdf_floor.specs.Sequential.{IsSequential}
 use Rattle.csdf_floor.specs.Work.{Work, HasFewFirings, IsMostPeriods, feed_of, feeds_in, is_sink_kernel}
+use Rattle.csdf_run.specs.Scripts.{kept_script}
 use Rattle.csdf_run.specs.declared.length.Length.{Length}
 use Rattle.csdf_run.specs.declared.length.Length.TheVariants.{Periods, UntilDry}
 
@@ -136,6 +137,7 @@ pub record TellOutcome (w : Work) (o : Outcome) (t : Texts) : Type 0 where
   pub ending : t.ending ≡ o.ending
   pub sinks : texts_in t.sinks.items ≡ sink_texts w.accepted.graph.actors (feeds_in o.sinks.items)
   pub report : t.report.items ≡ report_text (names_of w.accepted.graph.channels) o.ending o.report.items
+  pub journal : option_map (λ (text : Vec ℕ). text.items) t.journal ≡ kept_script w.accepted.graph o.journal
 
 -- the texts tell an outcome of a run of the file's graph, accepted with this room, over the texts' tokens, which goes on so long
 pub record TellRun (room : Room) (bytes : List ℕ) (texts : List (List ℕ)) (how_long : Length) (firings : Option ℕ) (t : Texts) : Type 0 where

@@ -5,7 +5,8 @@ ghost use Rattle.csdf_claims.specs.Board.{Holds, KeepsJust};
 
 use csdf_claims::{Board, Place};
 
-/// What a worker passes, without the lock, once it has started a firing and before it evaluates it.
+/// What a worker passes, without the lock, once it has started a firing and before it evaluates it; and
+/// what is told how far the run has come.
 pub trait Gate: Sync {
     /// What is so once a worker has passed with a firing of an actor. Only [`Gate::enter`] can show it of a
     /// gate that is not known, and no job is evaluated without it.
@@ -30,6 +31,13 @@ pub trait Gate: Sync {
     {
         false
     }
+
+    /// The run begins, which makes at most so many firings. It is told once, before the first of them.
+    fn begins(&self, _most: u64) {}
+
+    /// A worker has made so many firings more, of which all have been delivered. It is told without the
+    /// lock, once for several firings that are made in one go.
+    fn has_made(&self, _firings: u32) {}
 }
 
 /// The gate that does nothing.

@@ -12,6 +12,7 @@ mod policy;
 mod request;
 mod run_floor;
 mod running;
+mod script;
 mod texts;
 mod watched;
 mod worker;
@@ -23,4 +24,4 @@ pub use csdf_floor::{
 pub use gate::{Gate, Open};
 pub use length::Length;
 pub use running::run;
-pub use texts::{Texts, TextsFault, run_texts, run_texts_with_room};
+pub use texts::{RunOptions, Texts, TextsFault, run_texts, run_texts_with};

@@ -81,6 +81,18 @@ impl<'a> Request<'a> {
         self.workers
     }
 
+    /// How many firings it makes at most.
+    pub(crate) fn most_firings(&self) -> u64 {
+        let mut all: u64 = 0;
+        for firings in self.accepted.vector().q.as_slice() {
+            all = all.saturating_add(u64::from(*firings).saturating_mul(u64::from(self.periods)));
+        }
+        match self.firings {
+            Some(most) => all.min(u64::from(most)),
+            None => all,
+        }
+    }
+
     /// Hints for its graph, which tell of no actor yet.
     pub(crate) fn hints(&self, alloc: Global) -> Result<Hints, AllocError> {
         Hints::new(alloc, self.accepted)

@@ -290,6 +290,7 @@ fn outcome_as<K: Asked + Send + Sync, R: Threads + Wait + Sync, G: Gate>(
         may_wait: gate.may_wait(),
     };
     let hall: Hall<K> = hall_of(alloc, request, keeping, crew)?;
+    gate.begins(request.most_firings());
     let totals = run_hall(rt, alloc, &hall, request.actors(), crew.workers, gate)?;
     let outcome = request.settle(alloc, hall.into_floor(), totals.as_slice())?;
     Ok(outcome)

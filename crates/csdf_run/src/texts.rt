@@ -1,6 +1,6 @@
 //! A run from texts to texts.
 
-ghost use Rattle.std.specs.Prelude.{◌≡◌, ◌++◌, ◌∷◌, ◌≤◌, [], Ok, IfErr, IfOk, OnOk, length, map, slice_index_or, string_bytes};
+ghost use Rattle.std.specs.Prelude.{◌≡◌, ◌++◌, ◌∷◌, ◌≤◌, [], Ok, IfErr, IfOk, OnOk, is_some, length, map, option_map, slice_index_or, string_bytes};
 ghost use Rattle.csdf_model.specs.Graph.{actor_view};
 ghost use Rattle.csdf_bytes.specs.TokenText.{token_line, token_text};
 ghost use Rattle.csdf_analysis.specs.Room.{HasSomePeriod};
@@ -10,11 +10,14 @@ ghost use Rattle.csdf_run.specs.Texts.{feed_in, feeds_from, sink_texts, source_c
 ghost use Rattle.csdf_floor.specs.declared.outcome.Outcome.{Outcome as OutcomeCode};
 ghost use Rattle.csdf_floor.specs.Report.{names_of, report_text};
 ghost use Rattle.csdf_floor.specs.Work.{AreFeeds, feeds_in, is_sink_kernel};
+ghost use Rattle.csdf_journal.specs.View.{is_kept};
+ghost use Rattle.csdf_run.specs.Scripts.{kept_script};
 
-use crate::gate::Open;
+use crate::gate::{Gate, Open};
 use crate::length::{Length, periods_of};
 use crate::request::Request;
 use crate::running::outcome_of;
+use crate::script::kept_script;
 use csdf_analysis::{AcceptFault, Accepted, Room, accept_in_room};
 use csdf_floor::{Ending, Keeping, Outcome, RunFault, printed_report};
 use csdf_graph::{Actor, Graph, GraphFault, Kernel, Slice, TokenFault, read_graph, read_tokens};
@@ -31,6 +34,23 @@ pub struct Texts {
     pub sinks: Vec<Vec<u8>>,
     /// The printed report.
     pub report: Vec<u8>,
+    /// The run's moves as the table `script` of a graph file, where they were asked for.
+    pub journal: Option<Vec<u8>>,
+}
+
+/// How texts are run.
+#[derive(Clone, Copy, Debug)]
+pub struct RunOptions {
+    /// How many workers make firings.
+    pub workers: u32,
+    /// How long the run goes on.
+    pub how_long: Length,
+    /// The most firings of all actors together; no limit where it is absent.
+    pub firings: Option<u32>,
+    /// The room of the channels that have no capacity in the file.
+    pub room: Room,
+    /// Whether the run's moves are told.
+    pub keeping: Keeping,
 }
 
 /// Why texts make no run: the first that applies.
@@ -229,25 +249,31 @@ fn texts_of(alloc: Global, graph: &Graph, outcome: &Outcome) -> Result<Texts, Al
     ensures ending { IfOk result (λ texts. texts.ending ≡ outcome.now.ending) }
     ensures sinks { IfOk result (λ texts. texts_in texts.sinks.items ≡ sink_texts graph.now.actors (feeds_in outcome.now.sinks.items)) }
     ensures report { IfOk result (λ texts. texts.report.items ≡ report_text (names_of graph.now.channels) outcome.now.ending outcome.now.report.items) }
+    ensures journal { IfOk result (λ texts. option_map (λ t. t.items) texts.journal ≡ kept_script graph.now outcome.now.journal) }
 {
     let sinks = sink_texts(alloc, graph.actors(), &outcome.sinks)?;
     let report = printed_report(alloc, graph, outcome)?;
+    let journal = kept_script(alloc, graph, &outcome.journal)?;
     Ok(Texts {
         ending: outcome.ending,
         sinks,
         report: report.into_bytes(),
+        journal,
     })
 }
 
-/// Runs what was read, with no journal kept.
-fn run_request<R: Threads + Wait + Sync>(
+/// Runs what was read, with a journal that is kept or not.
+fn run_request<R: Threads + Wait + Sync, G: Gate>(
     rt: &R,
     alloc: Global,
     request: &Request<'_>,
+    gate: &G,
+    keeping: Keeping,
 ) -> Result<Texts, RunFault>
-    ensures { IfOk result (λ texts. (outcome : OutcomeCode) × TellOutcome request.now outcome texts) }
+    ensures told { IfOk result (λ texts. (outcome : OutcomeCode) × TellOutcome request.now outcome texts) }
+    ensures kept { IfOk result (λ texts. is_some texts.journal ≡ is_kept keeping) }
 {
-    let outcome = outcome_of(rt, alloc, request, &Open, Keeping::NotKept)?;
+    let outcome = outcome_of(rt, alloc, request, gate, keeping)?;
     let texts = texts_of(alloc, request.graph(), &outcome)?;
     Ok(texts)
 }
@@ -280,46 +306,44 @@ pub fn run_texts<R: Threads + Wait + Sync>(
     ensures rooms { IfOk result (TellSameInAnyRoom graph.now (texts_in feeds.now) (Length.Periods periods)) }
     ensures refused { IfErr result (IsRefusal Room.Least graph.now (texts_in feeds.now)) }
 {
-    run_texts_with_room(
-        rt,
-        alloc,
-        graph,
-        feeds,
+    let options = RunOptions {
         workers,
-        Length::Periods(periods),
+        how_long: Length::Periods(periods),
         firings,
-        Room::Least,
-    )
+        room: Room::Least,
+        keeping: Keeping::NotKept,
+    };
+    run_texts_with(rt, alloc, graph, feeds, options, &Open)
 }
 
-/// As [`run_texts`], where the channels that have no capacity in the file have this room, for so many
-/// periods or until a source has run dry.
+/// As [`run_texts`], for so many periods or until a source has run dry, where the channels that have no
+/// capacity in the file have room, and each worker passes the gate as in [`run`](crate::run).
 ///
 /// The refusals are those of [`run_texts`]: room is no cause of one. Where a run is complete, its sinks'
 /// texts are those of every other complete run of the same file, texts and length, in whatever room.
-pub fn run_texts_with_room<R: Threads + Wait + Sync>(
+pub fn run_texts_with<R: Threads + Wait + Sync, G: Gate>(
     rt: &R,
     alloc: Global,
     graph: &[u8],
     feeds: &[Vec<u8>],
-    workers: u32,
-    how_long: Length,
-    firings: Option<u32>,
-    room: Room,
+    options: RunOptions,
+    gate: &G,
 ) -> Result<Texts, TextsFault>
-    requires some_worker { 1 ≤ workers }
-    requires few_workers { workers ≤ 8 }
-    requires some_room { HasSomePeriod room }
-    requires goes_on { MayGoOn room graph.now how_long }
-    ensures run { IfOk result (TellRun room graph.now (texts_in feeds.now) how_long firings) }
-    ensures sequential { IfOk result (TellSequentialRun room graph.now (texts_in feeds.now) how_long firings) }
-    ensures rooms { IfOk result (TellSameInAnyRoom graph.now (texts_in feeds.now) how_long) }
-    ensures refused { IfErr result (IsRefusal room graph.now (texts_in feeds.now)) }
+    requires some_worker { 1 ≤ options.workers }
+    requires few_workers { options.workers ≤ 8 }
+    requires some_room { HasSomePeriod options.room }
+    requires goes_on { MayGoOn options.room graph.now options.how_long }
+    ensures run { IfOk result (TellRun options.room graph.now (texts_in feeds.now) options.how_long options.firings) }
+    ensures sequential { IfOk result (TellSequentialRun options.room graph.now (texts_in feeds.now) options.how_long options.firings) }
+    ensures rooms { IfOk result (TellSameInAnyRoom graph.now (texts_in feeds.now) options.how_long) }
+    ensures kept { IfOk result (λ texts. is_some texts.journal ≡ is_kept options.keeping) }
+    ensures refused { IfErr result (IsRefusal options.room graph.now (texts_in feeds.now)) }
 {
-    let fed = fed_of(alloc, graph, feeds, room)?;
-    let periods = periods_of(how_long, &fed.accepted);
+    let (workers, firings) = (options.workers, options.firings);
+    let fed = fed_of(alloc, graph, feeds, options.room)?;
+    let periods = periods_of(options.how_long, &fed.accepted);
     let request = Request::new(&fed.accepted, &fed.feeds, workers, periods, firings);
-    match run_request(rt, alloc, &request) {
+    match run_request(rt, alloc, &request, gate, options.keeping) {
         Ok(texts) => Ok(texts),
         Err(fault) => Err(TextsFault::Run(fault)),
     }

@@ -196,7 +196,9 @@ fn make<K: Asked, R: Wait, G: Gate>(
     let BlockTurn { made, wakes } = hall.make(rt, gate, place, stand, hand, claim);
     let answer = match made {
         Ok(made) => {
+            let count = made.count();
             finish_block(board, place, made);
+            gate.has_made(count);
             Ok(true)
         }
         Err(fault) => {
@@ -208,6 +210,13 @@ fn make<K: Asked, R: Wait, G: Gate>(
         hall.wake();
     }
     answer
+}
+
+/// Tells that a firing was delivered, where one was.
+fn tell_delivered<G: Gate>(gate: &G, given: Option<Claim>) {
+    if given.is_some() {
+        gate.has_made(1);
+    }
 }
 
 /// Delivers what is in hand, and makes the next firing, up to its delivery, or some firings one after
@@ -243,6 +252,7 @@ fn advance<K: Asked, R: Wait, G: Gate>(
         }
     }
     let is_started = turn(rt, alloc, hall, board, place, stand, hand, next)?;
+    tell_delivered(gate, given);
     if is_started {
         fire(board, gate, place, hand)?;
     }

@@ -1,6 +1,8 @@
 use crate::shared::{accepted_in, expect_eq};
 use csdf_analysis::Room;
-use csdf_run::{Ending, Length, Texts, may_run, most_periods, run_texts_with_room};
+use csdf_run::{
+    Ending, Keeping, Length, Open, RunOptions, Texts, may_run, most_periods, run_texts_with,
+};
 use std::alloc::Global;
 use std::process::Abort;
 use std::sync::Wait;
@@ -49,8 +51,14 @@ fn dry_run<R: Threads + Wait + Sync>(
 ) -> Result<Texts, Fail> {
     let feed = Vec::from_slice(alloc, feed.as_bytes())?;
     let feeds = std::slice::from_ref(&feed);
-    let (dry, room) = (Length::UntilDry, Room::Least);
-    match run_texts_with_room(rt, alloc, graph.as_bytes(), feeds, 2, dry, None, room) {
+    let options = RunOptions {
+        workers: 2,
+        how_long: Length::UntilDry,
+        firings: None,
+        room: Room::Least,
+        keeping: Keeping::NotKept,
+    };
+    match run_texts_with(rt, alloc, graph.as_bytes(), feeds, options, &Open) {
         Ok(texts) => Ok(texts),
         Err(fault) => Err(fault.into()),
     }

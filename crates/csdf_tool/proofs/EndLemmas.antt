@@ -1,16 +1,16 @@
 -- How the program ends, by the answer of its command.
-use Rattle.std.proofs.Common.{◌≡◌, ◌≢◌, ℕ, List, [], Bool, true, Option, Some, None, arith, refl, sym, ap, subst, ◌∙◌, inl, inr}
+use Rattle.std.proofs.Common.{◌≡◌, ◌≢◌, ℕ, List, [], ◌∷◌, Bool, true, false, codes, map, Option, Some, None, arith, refl, sym, ap, subst, ◌∙◌, inl, inr}
 use Rattle.std.specs.Prelude.{◌<◌, ◌⊎◌, Result, Ok, Err, IfErr, IfSome, OnOk, length}
 use Rattle.csdf_tool.specs.Carried.{IsCarriedOut, IsInputRefused, PutsOut, IsRefusalOf}
 use Rattle.clap.specs.Words.{Kinds, HasKind, Text, fault_of, kind_of, takes}
 use Rattle.clap.specs.declared.error.Error.{Error}
 use Rattle.clap.specs.declared.error.kind.ErrorKind.{ErrorKind}
 use Rattle.clap.specs.declared.error.kind.ErrorKind.TheVariants.{OutOfMemory}
-use Rattle.csdf_tool.specs.declared.command.Unread.{Unread}
-use Rattle.csdf_tool.specs.declared.command.Unread.TheVariants as unread
-use Rattle.csdf_tool.specs.CommandLine.{Asked, IsUnread, program, words_ask}
+use Rattle.csdf_words.specs.declared.command.Unread.{Unread}
+use Rattle.csdf_words.specs.declared.command.Unread.TheVariants as unread
+use Rattle.csdf_words.specs.CommandLine.{Asked, IsUnread, program, words_ask}
 use Rattle.csdf_tool.specs.Acts.{Asks, Devices}
-use Rattle.csdf_tool.specs.GraphFiles.{IsGivenBy, IsNamed, graph_reads}
+use Rattle.csdf_tool.specs.GraphFiles.{IsGivenBy, IsNamed, graph_reads, is_input}
 use Rattle.csdf_tool.specs.Ends.{Ended, EndsAs, EndsBy, EndsFor, EndsForOneOf, EndsUnread, IsFaultOfFile, IsFaultOfInput}
 use Rattle.std.specs.Io.KnownBytes.{Appends}
 use Rattle.csdf_answers.specs.declared.fault.Stream.TheVariants.{Output}
@@ -128,6 +128,10 @@ refuses_input (Ok u) left long other = tt
 refuses_input (Err f) left long other = λ one. record { long = λ is. long (ap Err is); other = other one }
 
 -- ---- what a word names
+
+-- `-` alone names standard input
+words_that_name_input : map is_input (codes "-" ∷ codes "./-" ∷ codes "--" ∷ [] ∷ []) ≡ true ∷ false ∷ false ∷ false ∷ []
+words_that_name_input = refl
 
 module _ (IsAnswerTo : List ℕ → Result (List ℕ) ToolFault → Type 0) (word : Text) (d : Devices) where
   pub puts_out : (answer : Result (Unit {0}) ToolFault) (bytes : List ℕ) (before after : Option (List ℕ)) → IsGivenBy word d bytes

@@ -1,5 +1,3 @@
-pub mod CommandExamples
-pub mod CommandLemmas
 pub mod DiskLemmas
 pub mod EndLemmas
 pub mod ExplainingLemmas

@@ -1,7 +1,7 @@
 -- The files of a run, and the faults that are told of them.
 use Rattle.std.proofs.Common.{◌≡◌, ◌≢◌, ℕ, suc, zero, ◌+◌, ◌<◌, true, false, cond, List, [], ◌∷◌, ◌++◌, length, map, take, drop, get_or, refl, ap, sym}
-use Rattle.std.proofs.Common.{subst, ◌∙◌, arith, append_assoc, inl, inr, Ok, Err, Option}
-use Rattle.std.specs.Prelude.{◌⊎◌}
+use Rattle.std.proofs.Common.{subst, ◌∙◌, arith, append_assoc, inl, inr, Ok, Err, Option, Some, None, Bor, option_map}
+use Rattle.std.specs.Prelude.{◌⊎◌, is_some}
 use Rattle.std.proofs.lemmas.List.{get_or-drop, get_or-map, length-map, map-append, take_more}
 use Rattle.std.specs.String.{string_bytes}
 use Rattle.csdf_model.specs.Graph.{Actor, Graph, actor_view}
@@ -18,8 +18,8 @@ use Rattle.csdf_floor.proofs.Works.{few_in_thousand}
 use Rattle.csdf_run.specs.declared.length.Length.{Length}
 use Rattle.csdf_run.specs.declared.length.Length.TheVariants as lengths
 use Rattle.csdf_run.specs.Texts.{MayGoOn}
-use Rattle.csdf_tool.specs.CommandLine.{Order}
-use Rattle.csdf_tool.specs.HowLong.{MayBeAsked}
+use Rattle.csdf_words.specs.CommandLine.{Order}
+use Rattle.csdf_words.specs.HowLong.{MayBeAsked}
 use Rattle.csdf_tool.specs.GraphFiles.{IsNamed}
 use Rattle.csdf_answers.specs.Faults.{fault_of, status_of}
 use Rattle.csdf_tool.specs.Acts.{Act, Asks}
@@ -36,6 +36,13 @@ use Rattle.csdf_tool.proofs.DiskLemmas.{asks_more}
 pub may_go_on : (room : Room) (bytes : List ℕ) (how_long : Length) → MayBeAsked how_long → MayGoOn room bytes how_long
 may_go_on room bytes (lengths.Periods n) may = (may.0, λ a file. few_in_thousand a n file.accepted may.1)
 may_go_on room bytes lengths.UntilDry may = tt
+
+-- ---- words
+
+-- a word is there or not, however it is seen
+pub is_some-map : (word : Option (Bor (List ℕ))) → is_some (option_map (λ w. w.now) word) ≡ is_some word
+is_some-map None = refl
+is_some-map (Some w) = refl
 
 -- ---- sources
 

@@ -6,7 +6,7 @@ use Rattle.csdf_answers.specs.Described.{IsDescription}
 use Rattle.csdf_answers.specs.Session.{IsAnswer}
 use Rattle.csdf_answers.specs.declared.fault.ToolFault.{ToolFault}
 use Rattle.csdf_answers.specs.declared.fault.ToolFault.TheVariants.{TooLong}
-use Rattle.csdf_tool.specs.CommandLine.{Asked, Input, Moves, Ask, Explain, Run}
+use Rattle.csdf_words.specs.CommandLine.{Asked, Input, Moves, Ask, Explain, Run}
 use Rattle.csdf_tool.specs.Ends.{IsFaultOfFile}
 use Rattle.csdf_tool.specs.Acts.{Devices}
 use Rattle.csdf_tool.specs.Explaining.{ExplainsFiles}

@@ -11,8 +11,8 @@ use Rattle.csdf_answers.specs.Printed.{newline}
 use Rattle.csdf_answers.specs.Session.{IsAnswer}
 use Rattle.csdf_tool.specs.Acts.{Devices}
 use Rattle.csdf_tool.specs.GraphFiles.{IsGivenBy, IsTooLong}
-use Rattle.csdf_tool.specs.declared.command.Unread.{Unread}
-use Rattle.csdf_tool.specs.declared.command.Unread.TheVariants as unread
+use Rattle.csdf_words.specs.declared.command.Unread.{Unread}
+use Rattle.csdf_words.specs.declared.command.Unread.TheVariants as unread
 
 -- the fault's line was put at the end of what a device has taken, where that is known, or the device failed
 abbrev pub TellsLine : ToolFault → Option (List ℕ) → Option (List ℕ) → Bool → Type 0

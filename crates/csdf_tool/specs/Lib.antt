@@ -1,10 +1,7 @@
 pub mod Acts
 pub mod Carried
-pub mod CommandLine
 pub mod Ends
 pub mod Explaining
 pub mod GraphFiles
-pub mod HowLong
-pub mod Rooms
 pub mod Running
 pub mod TokenFiles

@@ -1,6 +1,7 @@
 -- A run of a graph file over the token files of a folder.
-use Rattle.std.specs.Prelude.{◌≡◌, ◌⊎◌, ℕ, true, List, [], ◌∷◌, ◌++◌, ◌<◌, false, Option, Result, Ok, Err, codes, drop, filter, length, take, map, if◌then◌else◌, slice_index_or}
+use Rattle.std.specs.Prelude.{◌≡◌, ◌⊎◌, ℕ, true, List, [], ◌∷◌, ◌++◌, ◌<◌, false, Option, Some, None, Result, Ok, Err, codes, drop, filter, is_some, length, option_map, take, map, if◌then◌else◌, slice_index_or}
 use Rattle.std.specs.Io.KnownBytes.{Appends}
+use Rattle.std.specs.Global.{Vec}
 use Rattle.std.specs.Path.{path_join}
 use Rattle.std.specs.List.{Any, zip}
 use Rattle.csdf_graph.specs.declared.fault.GraphFault.{GraphFault}
@@ -24,7 +25,7 @@ use Rattle.csdf_tool.specs.declared.run_files.SinkFile.{SinkFile}
 use Rattle.csdf_tool.specs.declared.put_fault.PutFault.{PutFault}
 use Rattle.csdf_tool.specs.declared.put_fault.PutFault.TheVariants as put
 use Rattle.csdf_tool.specs.Acts.{Act, Asks, Devices, OnlyReads, Put, Read}
-use Rattle.csdf_tool.specs.CommandLine.{Order}
+use Rattle.csdf_words.specs.CommandLine.{Order}
 use Rattle.csdf_tool.specs.GraphFiles.{IsNamed, IsTooLong, graph_reads}
 use Rattle.csdf_answers.specs.Described.{actor_names}
 use Rattle.csdf_answers.specs.Faults.{accept_fault, fault_of}
@@ -55,6 +56,12 @@ sink_files folder (actor ∷ actors) texts =
     if is_sink_kernel actor.kernel
     then record { folder = folder; name = out_file actor.name; text = slice_index_or texts 0 [] } ∷ sink_files folder actors (drop 1 texts)
     else sink_files folder actors texts
+
+-- the file of a run's moves, where one is asked for and they were kept: its name is its path
+abbrev pub journal_files : Option (List ℕ) → Option (List ℕ) → List Written
+journal_files None text = []
+journal_files (Some path) None = []
+journal_files (Some path) (Some text) = record { folder = []; name = path; text = text } ∷ []
 
 -- why the token file of a source was not read, and that of one of the sources
 abbrev pub IsUnread : List ℕ → ToolFault → Type 0
@@ -97,11 +104,13 @@ RefusesRun room g bytes feeds fault = (why : TextsFault) × IsRefusal room bytes
 
 -- ---- runs
 
--- the texts tell the run that is asked for, of the graph of a file over one text for each source, and they are those of the sequential run
+-- the texts tell the run that is asked for, of the graph of a file over one text for each source, and they are those of the sequential run; its moves are told
+-- where they are asked for
 pub record IsRunBy (order : Order) (g : Graph) (bytes : List ℕ) (feeds : List (List ℕ)) (t : Texts) : Type 0 where
   pub graph : IsGraphOf bytes (Ok g)
   pub told : TellRun order.room bytes feeds order.how_long order.firings t
   pub sequential : TellSequentialRun order.room bytes feeds order.how_long order.firings t
+  pub kept : is_some t.journal ≡ is_some order.journal
 
 -- why a graph is not run with this room: a token file is too long, or the texts make no run
 abbrev pub IsRefusedOn : Room → Graph → List ℕ → ToolFault → Type 0
@@ -155,12 +164,14 @@ put_as came file = Put (path_join file.folder file.name) file.text came
 abbrev pub put_whole : Written → Act
 put_whole file = put_as (Ok tt) file
 
--- the files of the sinks' texts
+-- the files of the sinks' texts, and then that of the moves
 abbrev pub files_of : Order → Graph → Texts → List Written
-files_of order g t = sink_files order.sink_folder g.actors (texts_in t.sinks.items)
+files_of order g t =
+    sink_files order.sink_folder g.actors (texts_in t.sinks.items)
+    ++ journal_files order.journal (option_map (λ (text : Vec ℕ). text.items) t.journal)
 
--- the run was made of the bytes of the graph file and of the sources' token files; then the text of each sink was put in the place of its file, and its report
--- was written
+-- the run was made of the bytes of the graph file and of the sources' token files; then the text of each sink was put in the place of its file, and after them
+-- the moves where they are asked for, and its report was written
 pub record RunsOnFiles (order : Order) (d : Devices) (before after : Option (List ℕ)) : Type 0 where
   pub graph : Graph
   pub bytes : List ℕ

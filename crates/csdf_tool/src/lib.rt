@@ -2,14 +2,12 @@
 //! faults and exit statuses.
 #![tactic(auto)]
 
-mod command;
 mod disk;
 mod explain_files;
 mod files;
-mod help;
 mod look;
-mod order;
 mod program;
+mod progress;
 mod put_fault;
 mod run_files;
 

@@ -3,7 +3,7 @@
 ghost use Rattle.std.specs.Prelude.{◌≡◌, ◌≢◌, ◌↔◌, ◌<◌, ◌≤◌, ◌⊎◌, length, map, string_bytes, ℕ, List, Option, [], true, Ok, Err, IfErr, IfSome, OnOk};
 ghost use Rattle.std.specs.Io.KnownBytes.{Appends};
 ghost use Rattle.clap.specs.Words.{fault_of, kind_of, takes};
-ghost use Rattle.csdf_tool.specs.CommandLine.{program, asked_view, words_ask, Moves, Ask, Explain, Order, Run};
+ghost use Rattle.csdf_words.specs.CommandLine.{program, asked_view, words_ask, Moves, Ask, Explain, Order, Run};
 ghost use Rattle.csdf_tool.specs.Carried.{IsCarriedOut, IsRefusalOf};
 ghost use Rattle.csdf_analysis.specs.declared.room.Room.{Room};
 ghost use Rattle.csdf_answers.specs.Described.{IsDescription};
@@ -16,7 +16,6 @@ ghost use Rattle.csdf_tool.specs.GraphFiles.{IsGivenBy, IsTooLong};
 ghost use Rattle.csdf_tool.specs.Running.{EndsOnFiles, RefusesFiles, RunsOnFiles};
 ghost use Rattle.csdf_answers.specs.Session.{IsAnswer};
 
-use crate::command::{Request, Unread, request_of};
 use crate::disk::Disk;
 use crate::explain_files::explain_files;
 use crate::files::{graph_bytes, input_bytes};
@@ -25,6 +24,7 @@ use clap::Error;
 use clap::error::ErrorKind;
 use csdf_answers::{Stream, ToolFault, describe_with_room, play_script};
 use csdf_graph::{Intake, Outlet, write_bytes};
+use csdf_words::{Request, Unread, request_of};
 use std::alloc::Global;
 use std::fmt;
 use std::fmt::Write;
@@ -53,7 +53,7 @@ pub(crate) fn play_input<I: Intake, O: Outlet>(
 }
 
 /// Carries a request out.
-fn carry_out<R: AllocGlobal + Threads + Wait + Sync, D: Disk, I: Intake, O: Outlet>(
+fn carry_out<R: AllocGlobal + Eprint + Threads + Wait + Sync, D: Disk, I: Intake, O: Outlet>(
     rt: &R,
     disk: &mut D,
     request: Request<'_>,
@@ -208,14 +208,13 @@ fn status_of_words<O: Outlet, E: Outlet>(
 ///
 /// A fault of status 1 or 3 is told on `err` by its text and a newline, and nothing is written to
 /// `out` but for a fault of `out` itself. A failure of `err` changes no status.
-pub fn run_words<R: AllocGlobal + Threads + Wait + Sync, D: Disk, I: Intake, O: Outlet, E: Outlet>(
-    rt: &R,
-    disk: &mut D,
-    words: &[String],
-    reader: &mut I,
-    out: &mut O,
-    err: &mut E,
-) -> u8
+pub fn run_words<
+    R: AllocGlobal + Eprint + Threads + Wait + Sync,
+    D: Disk,
+    I: Intake,
+    O: Outlet,
+    E: Outlet,
+>(rt: &R, disk: &mut D, words: &[String], reader: &mut I, out: &mut O, err: &mut E) -> u8
     ensures known { result ≤ 3 }
     ensures refused { (result ≡ 1) ⊎ (result ≡ 2) → out.new ≡ out.old }
     ensures device { result ≡ 3 → (out.new ≡ out.old) ⊎ (O.failed out.new ≡ true) }

@@ -1,23 +1,25 @@
 //! A run of a graph file over the token files of a folder.
 
-ghost use Rattle.std.specs.Prelude.{◌≡◌, ◌≢◌, ℕ, List, [], true, Err, length, map, slice_index_or, IfErr, IfOk, OnErr, OnOk};
+ghost use Rattle.std.specs.Prelude.{◌≡◌, ◌≢◌, ℕ, List, [], true, Err, is_some, length, map, option_map, option_to_list, slice_index_or, IfErr, IfOk, OnErr, OnOk};
 ghost use Rattle.csdf_model.specs.Graph.{actor_view};
 ghost use Rattle.csdf_graph.specs.GraphText.{IsGraphOf};
 ghost use Rattle.csdf_core.specs.Layout.{is_source_kernel};
 ghost use Rattle.csdf_run.specs.Texts.{TellRun, TellSequentialRun, source_count, texts_in};
 ghost use Rattle.csdf_floor.specs.Work.{is_sink_kernel};
-ghost use Rattle.csdf_tool.specs.CommandLine.{order_view};
+ghost use Rattle.csdf_journal.specs.View.{is_kept};
+ghost use Rattle.csdf_words.specs.CommandLine.{order_view};
 ghost use Rattle.csdf_answers.specs.Faults.{status_of};
 ghost use Rattle.csdf_tool.specs.Acts.{Act, Asks, OnlyReads, devices};
 ghost use Rattle.csdf_tool.specs.Running.{EndsOnFiles, IsCutShort, IsUnreadOf, IsReadAfter, IsUnreadActor, RefusesFiles, RefusesRun, RunsOn, RunsOnFiles};
-ghost use Rattle.csdf_tool.specs.Running.{feed_reads, file_view, files_of, put_whole, run_fault, run_reads, sink_files, texts_fault, token_fault};
+ghost use Rattle.csdf_tool.specs.Running.{feed_reads, file_view, files_of, journal_files, put_whole, run_fault, run_reads, sink_files, texts_fault, token_fault};
 
 use crate::disk::Disk;
 use crate::files::{feed_bytes, graph_bytes, put_file};
-use crate::order::RunOrder;
+use crate::progress::Progress;
 use csdf_answers::{Name, Stream, ToolFault, accept_fault, actor_name};
 use csdf_graph::{Actor, Graph, Intake, Kernel, Outlet, TokenFault, read_graph, write_bytes};
-use csdf_run::{RunFault, Texts, TextsFault, run_texts_with_room};
+use csdf_run::{Keeping, RunFault, RunOptions, Texts, TextsFault, run_texts_with};
+use csdf_words::RunOrder;
 use std::alloc::{AllocError, Global};
 use std::sync::Wait;
 use std::thread::Threads;
@@ -117,8 +119,19 @@ fn texts_fault(alloc: Global, graph: &Graph, fault: TextsFault) -> Result<ToolFa
     }
 }
 
+/// Whether a run keeps its moves: where there is a file for them.
+fn keeping_of(journal: Option<&str>) -> Keeping
+    ensures { is_kept result ≡ is_some journal.entry }
+{
+    if journal.is_some() {
+        Keeping::Kept
+    } else {
+        Keeping::NotKept
+    }
+}
+
 /// Runs a graph file over the bytes of its sources' token files.
-fn texts_of<R: AllocGlobal + Threads + Wait + Sync>(
+fn texts_of<R: AllocGlobal + Eprint + Threads + Wait + Sync>(
     rt: &R,
     graph: &Graph,
     bytes: &[u8],
@@ -127,12 +140,21 @@ fn texts_of<R: AllocGlobal + Threads + Wait + Sync>(
 ) -> Result<Texts, ToolFault>
     ensures told { IfOk result (TellRun order.entry.room bytes.now (texts_in feeds.now) order.entry.how_long order.entry.firings) }
     ensures sequential { IfOk result (TellSequentialRun order.entry.room bytes.now (texts_in feeds.now) order.entry.how_long order.entry.firings) }
+    ensures kept { IfOk result (λ texts. is_some texts.journal ≡ is_some order.entry.journal) }
     ensures refused { IfErr result (λ fault. fault ≢ ToolFault.Memory → RefusesRun order.entry.room graph.now bytes.now (texts_in feeds.now) fault) }
 {
     let alloc = rt.alloc();
-    let (workers, how_long, firings) = (order.workers, order.how_long, order.firings);
-    let room = order.room;
-    match run_texts_with_room(rt, alloc, bytes, feeds, workers, how_long, firings, room) {
+    let options = RunOptions {
+        workers: order.workers,
+        how_long: order.how_long,
+        firings: order.firings,
+        room: order.room,
+        keeping: keeping_of(order.journal),
+    };
+    let progress = Progress::new(rt, order.progress);
+    let texts = run_texts_with(rt, alloc, bytes, feeds, options, &progress);
+    progress.end();
+    match texts {
         Ok(texts) => Ok(texts),
         Err(fault) => Err(texts_fault(alloc, graph, fault)?),
     }
@@ -146,7 +168,7 @@ struct Ran {
 }
 
 /// Reads the files of a run, and runs.
-fn ran_by<R: AllocGlobal + Threads + Wait + Sync, D: Disk, I: Intake>(
+fn ran_by<R: AllocGlobal + Eprint + Threads + Wait + Sync, D: Disk, I: Intake>(
     rt: &R,
     disk: &mut D,
     order: RunOrder<'_>,
@@ -210,7 +232,46 @@ fn sink_files<'a>(
     Ok(files)
 }
 
-/// Puts the file of each sink in its place, in file order.
+/// The file of the moves, where one is asked for and they were kept.
+fn journal_file<'a>(
+    alloc: Global,
+    path: Option<&'a str>,
+    texts: &'a Texts,
+) -> Result<Option<SinkFile<'a>>, AllocError>
+    ensures { IfOk result (λ file. option_to_list (option_map file_view file)
+        ≡ journal_files (option_map (λ p. p.now) path.entry) (option_map (λ t. t.items) texts.entry.now.journal)) }
+{
+    let Some(path) = path else {
+        return Ok(None);
+    };
+    let Some(text) = &texts.journal else {
+        return Ok(None);
+    };
+    let name = Name::new(alloc, path)?;
+    Ok(Some(SinkFile {
+        folder: "",
+        name,
+        text: text.as_slice(),
+    }))
+}
+
+/// The files that a run writes: those of the sinks, and then that of its moves.
+fn files_of<'a>(
+    alloc: Global,
+    order: RunOrder<'a>,
+    ran: &'a Ran,
+) -> Result<Vec<SinkFile<'a>>, AllocError>
+    ensures { IfOk result (λ files. map file_view files.items
+        ≡ files_of (order_view order.entry) ran.entry.now.graph ran.entry.now.texts) }
+{
+    let mut files = sink_files(alloc, order, ran.graph.actors(), &ran.texts.sinks)?;
+    if let Some(file) = journal_file(alloc, order.journal, &ran.texts)? {
+        files.push(file)?;
+    }
+    Ok(files)
+}
+
+/// Puts each file in its place, in order.
 fn put_files<D: Disk>(alloc: Global, disk: &mut D, files: &[SinkFile<'_>]) -> Result<(), ToolFault>
     ensures put { OnOk result (Asks (D.acts disk.old) (D.acts disk.new) (map put_whole (map file_view files.now))) }
     ensures cut { IfErr result (λ fault. (acts : List Act) × Asks (D.acts disk.old) (D.acts disk.new) acts
@@ -222,7 +283,8 @@ fn put_files<D: Disk>(alloc: Global, disk: &mut D, files: &[SinkFile<'_>]) -> Re
     Ok(())
 }
 
-/// Puts the text of each sink in the place of its file, in file order.
+/// Puts the text of each sink in the place of its file, in file order, and then the moves in that of
+/// theirs.
 fn put_sinks<D: Disk>(
     alloc: Global,
     disk: &mut D,
@@ -234,7 +296,7 @@ fn put_sinks<D: Disk>(
     ensures cut { IfErr result (λ fault. (acts : List Act) × Asks (D.acts disk.old) (D.acts disk.new) acts
         × IsCutShort (files_of (order_view order.entry) ran.now.graph ran.now.texts) acts fault) }
 {
-    match sink_files(alloc, order, ran.graph.actors(), &ran.texts.sinks) {
+    match files_of(alloc, order, ran) {
         Ok(files) => put_files(alloc, disk, &files),
         Err(_) => Err(ToolFault::Memory),
     }
@@ -242,13 +304,12 @@ fn put_sinks<D: Disk>(
 
 /// Runs the graph of a file, or of standard input, over the token files of a folder: puts what each
 /// sink took in its file, and then writes the report.
-pub(crate) fn run_files<R: AllocGlobal + Threads + Wait + Sync, D: Disk, I: Intake, O: Outlet>(
-    rt: &R,
-    disk: &mut D,
-    order: RunOrder<'_>,
-    reader: &mut I,
-    out: &mut O,
-) -> Result<(), ToolFault>
+pub(crate) fn run_files<
+    R: AllocGlobal + Eprint + Threads + Wait + Sync,
+    D: Disk,
+    I: Intake,
+    O: Outlet,
+>(rt: &R, disk: &mut D, order: RunOrder<'_>, reader: &mut I, out: &mut O) -> Result<(), ToolFault>
     ensures written { OnOk result (RunsOnFiles (order_view order.entry) (devices (I.left reader.old) (D.acts disk.old) (D.acts disk.new))
         (O.written out.old) (O.written out.new)) }
     ensures unwritten { IfErr result (λ fault. fault ≢ ToolFault.Device Stream.Output → out.new ≡ out.old) }

@@ -88,7 +88,8 @@ fn unread_token_files_are_told(rt: HostRuntime) -> Result<(), Fail> {
 
 #[test]
 fn more_lines_follow_an_explanation(rt: HostRuntime) -> Result<(), Fail> {
-    let mut written = Vec::new(rt.alloc());
+    // Room for all of it, so that no write lacks memory.
+    let mut written = Vec::with_capacity(rt.alloc(), 100)?;
     let mut writer = ToWriter::new(&mut written);
     explain_with(rt.alloc(), CHAIN.as_bytes(), "more\n", &mut writer)?;
     let told = String::from_utf8(written)?;

@@ -2,7 +2,7 @@ use Rattle.std.proofs.Common.{sym, ap, inl}
 use Rattle.csdf_answers.specs.Described.{IsDescription}
 use Rattle.csdf_answers.specs.Session.{IsAnswer}
 use Rattle.csdf_answers.proofs.ToldLemmas.{if_err_fault}
-use Rattle.csdf_tool.specs.CommandLine.{asked_view}
+use Rattle.csdf_words.specs.CommandLine.{asked_view}
 use Rattle.csdf_tool.proofs.EndLemmas.{given_bytes, carried_as, puts_out, refused_as, refuses_file, refuses_input}
 use Rattle.csdf_tool.proofs.program.carry_out.Goals as goal
 

@@ -1,9 +1,9 @@
 use Rattle.std.proofs.Common.{arith}
 use Rattle.std.proofs.lemmas.Grind.{common_steps}
 use Rattle.std.proofs.Common.{◌≡◌, Some, None, ap, inl, map, string_bytes, sym, ◌∙◌}
-use Rattle.csdf_tool.specs.CommandLine.{Moves, Ask, Explain, Run, asked_view}
-use Rattle.csdf_tool.specs.CommandLine.{Input as NoWords}
-use Rattle.csdf_tool.specs.declared.command.Request.TheVariants.{Input}
+use Rattle.csdf_words.specs.CommandLine.{Moves, Ask, Explain, Run, asked_view}
+use Rattle.csdf_words.specs.CommandLine.{Input as NoWords}
+use Rattle.csdf_words.specs.declared.command.Request.TheVariants.{Input}
 use Rattle.csdf_answers.specs.declared.fault.ToolFault.TheVariants.{Memory}
 use Rattle.csdf_tool.proofs.DiskLemmas.{only_none}
 use Rattle.csdf_tool.proofs.EndLemmas.{at_zero, carried_as, lined, of_fault, one_asked, refused, refused_as, input_refused}

@@ -2,11 +2,11 @@ use Rattle.std.proofs.Common.{Ok, ap, map, sym, subst, inl, ◌∙◌}
 use Rattle.csdf_model.specs.Graph.{actor_view}
 use Rattle.csdf_graph.specs.GraphText.{IsGraphOf}
 use Rattle.csdf_run.specs.Texts.{texts_in}
-use Rattle.csdf_tool.specs.CommandLine.{order_view}
+use Rattle.csdf_words.specs.CommandLine.{order_view}
 use Rattle.csdf_tool.specs.GraphFiles.{IsNamed}
 use Rattle.csdf_tool.specs.Running.{IsUnreadOf}
 use Rattle.csdf_tool.proofs.DiskLemmas.{on_err, only_feeds, only_graph, only_more}
-use Rattle.csdf_tool.proofs.RunLemmas.{not_memory, refused_by_feed, refused_by_texts, run_asks}
+use Rattle.csdf_tool.proofs.RunLemmas.{is_some-map, not_memory, refused_by_feed, refused_by_texts, run_asks}
 use Rattle.csdf_answers.proofs.ToldLemmas.{if_err_fault}
 use Rattle.csdf_tool.proofs.run_files.ran_by.Goals as goal
 
@@ -51,7 +51,7 @@ returns-clause-ran g c =
     let told = c.in_ok-texts.ensures.told in (
       c.deref-2.result.now,
       texts_in c.deref-3.result.now,
-      record { named = named; run = record { graph = read; told = told; sequential = c.in_ok-texts.ensures.sequential } },
+      record { named = named; run = record { graph = read; told = told; sequential = c.in_ok-texts.ensures.sequential; kept = c.in_ok-texts.ensures.kept ∙ sym (is_some-map c.args.order.journal) } },
       run_asks (order_view c.args.order) c.in_ok-graph.graph c.in_ok-bytes.bytes.items c.deref-2.result.now (map actor_view c.actors.result.now)
           (texts_in c.in_ok-feeds.feeds.items) (texts_in c.deref-3.result.now) _ _ _ c.in_ok-bytes.ensures.read c.in_ok-feeds.ensures.read
           (sym c.deref-2.ensures.value) c.actors.ensures.value (ap texts_in (sym c.deref-3.ensures.value)),

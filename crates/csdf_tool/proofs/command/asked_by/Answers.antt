@@ -1,7 +1,0 @@
-use Rattle.std.proofs.Common.{rules}
-use Rattle.csdf_tool.specs.CommandLine.{asked_by}
-use Rattle.csdf_tool.proofs.command.asked_by.Goals as goal
-
-pub returns-in-capacity : goal.returns-in-capacity
-unfolding asked_by
-returns-in-capacity c = search rules

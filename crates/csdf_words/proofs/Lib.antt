@@ -1,0 +1,2 @@
+pub mod CommandExamples
+pub mod CommandLemmas

@@ -1,0 +1,20 @@
+use Rattle.std.proofs.Common.{◌∙◌, sym}
+use Rattle.clap.specs.Words.{found_of, rows_of}
+use Rattle.clap.proofs.WalkLemmas.{first_value-rows}
+use Rattle.csdf_words.proofs.CommandLemmas.{room_given, room_absent}
+use Rattle.csdf_words.proofs.command.room_of.Goals as goal
+
+pub returns-in-Some-room_in-clause-value : goal.returns-in-Some-room_in-clause-value
+returns-in-Some-room_in-clause-value c =
+    let found = c.get_str.ensures ∙ first_value-rows (found_of c.args.arguments.now) _ in
+    room_given (rows_of (found_of c.args.arguments.now)) c.get_str.result c.in-Some.text c.in-Some.is found ∙ sym c.room_in.ensures.value ∙ c.in-Some-room_in.is
+
+pub returns-in-None-room_in-clause-value : goal.returns-in-None-room_in-clause-value
+returns-in-None-room_in-clause-value c =
+    let found = c.get_str.ensures ∙ first_value-rows (found_of c.args.arguments.now) _ in
+    room_given (rows_of (found_of c.args.arguments.now)) c.get_str.result c.in-Some.text c.in-Some.is found ∙ sym c.room_in.ensures.value ∙ c.in-None-room_in.is
+
+pub returns-in-None-clause-value : goal.returns-in-None-clause-value
+returns-in-None-clause-value c =
+    let found = c.get_str.ensures ∙ first_value-rows (found_of c.args.arguments.now) _ in
+    room_absent (rows_of (found_of c.args.arguments.now)) c.get_str.result c.in-None.is found

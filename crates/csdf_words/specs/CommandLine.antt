@@ -1,0 +1,228 @@
+-- What the words of the command line ask for, by the meaning that clap gives to a command and its words.
+use Rattle.std.specs.Prelude.{◌≡◌, ℕ, Bool, List, [], ◌∷◌, Option, Some, None, IfSome, true, false, codes, if◌then◌else◌, option_and_then, option_map, unwrap_or}
+use Rattle.std.specs.Option.{option_map_or}
+use Rattle.std.specs.Str.{bytes_eq}
+use Rattle.std.specs.Str.Parse.{digits_value, without_leading_plus}
+use Rattle.clap.specs.Words.{App, Row, Rule, Text, HasKind, fault_of, first_of, kind_of, new_app, new_rule, subcommand_of, takes, with_rule, with_subcommand}
+use Rattle.clap.specs.Simple.{on_top}
+use Rattle.clap.specs.ValueTests.{is_unsigned_in}
+use Rattle.clap.specs.declared.builder.action.ArgAction.TheVariants.{SetTrue}
+use Rattle.clap.specs.declared.builder.value_parser.ValueParser.TheVariants.{Unsigned}
+use Rattle.clap.specs.declared.error.kind.ErrorKind.TheVariants.{OutOfMemory}
+use Rattle.csdf_analysis.specs.declared.room.Room.{Room}
+use Rattle.csdf_analysis.specs.declared.room.Room.TheVariants.{Least, Periods, Auto}
+use Rattle.csdf_run.specs.declared.length.Length.{Length}
+use Rattle.csdf_run.specs.declared.length.Length.TheVariants as lengths
+use Rattle.csdf_words.specs.declared.command.Request.{Request}
+use Rattle.csdf_words.specs.declared.command.Request.TheVariants as request
+use Rattle.csdf_words.specs.declared.command.Unread.{Unread}
+use Rattle.csdf_words.specs.declared.command.Unread.TheVariants as unread
+use Rattle.csdf_words.specs.declared.order.RunOrder.{RunOrder}
+use Rattle.csdf_answers.specs.declared.question.Question.{Question}
+use Rattle.csdf_answers.specs.declared.question.Question.TheVariants.{Check, Repetition, Schedule, Capacity, Dot}
+
+-- ---- the commands
+
+-- a command that asks for a graph file
+abbrev pub on_graph : Text → App
+on_graph name = with_rule (new_app name) (record (new_rule (codes "GRAPH")) { required = true })
+
+-- an option with a number in a range
+abbrev pub number_option : Text → ℕ → ℕ → Rule
+number_option name least most = record (new_rule name) { long = Some name; value_names = 1; parser = Some (Unsigned least most) }
+
+-- an option with a text
+abbrev pub text_option : Text → Rule
+text_option name = record (new_rule name) { long = Some name; value_names = 1 }
+
+-- an option that is given or not
+abbrev pub flag : Text → Rule
+flag name = record (new_rule name) { long = Some name; action = Some SetTrue }
+
+-- the command that runs a graph asks for a folder too, and takes three numbers, two flags, another folder, a file and room
+abbrev pub on_files : App
+on_files = with_rule (on_graph (codes "run")) (record (new_rule (codes "DIR")) { required = true })
+
+-- the option for room
+abbrev pub with_room : App → App
+with_room a = with_rule a (text_option (codes "room"))
+
+abbrev pub run_command : App
+run_command =
+    let two = with_rule (with_rule on_files (number_option (codes "workers") 1 8)) (number_option (codes "periods") 1 1000) in
+    let four = with_rule (with_rule two (flag (codes "until-dry"))) (number_option (codes "firings") 0 1048576000) in
+    let six = with_rule (with_rule four (text_option (codes "out"))) (text_option (codes "journal")) in
+    with_room (with_rule six (flag (codes "progress")))
+
+-- a program with a version, whose own name is not among the words
+abbrev pub no_commands : App
+no_commands = on_top (λ s. record s { no_binary_name = true; has_version = true }) (new_app (codes "csdf"))
+
+abbrev pub with_command : App → Text → App
+with_command a name = with_subcommand a (on_graph name).top
+
+-- the same with a command that takes room
+abbrev pub with_roomy_command : App → Text → App
+with_roomy_command a name = with_subcommand a (with_room (on_graph name)).top
+
+-- the command that explains asks for a folder too, which may be left out
+abbrev pub explain_command : App
+explain_command = with_rule (on_graph (codes "explain")) (new_rule (codes "DIR"))
+
+abbrev pub with_explain : App → App
+with_explain a = with_subcommand a explain_command.top
+
+-- a program with the commands that answer a question or play a script
+abbrev pub with_questions : App → App
+with_questions a =
+    let two = with_command (with_command a (codes "moves")) (codes "check") in
+    let four = with_roomy_command (with_command two (codes "repetition")) (codes "schedule") in
+    let six = with_roomy_command (with_roomy_command four (codes "capacity")) (codes "dot") in
+    with_explain six
+
+abbrev pub program : App
+program = with_questions (with_subcommand no_commands run_command.top)
+
+-- ---- what they ask for
+
+-- a run of the graph of a file over the token files of a folder, the folder that the sinks' files are written to, the room of its channels, the file for its
+-- moves where they are asked for, and whether it is to tell how far it has come
+pub record Order : Type 0 where
+  pub graph : Text
+  pub folder : Text
+  pub sink_folder : Text
+  pub workers : ℕ
+  pub how_long : Length
+  pub firings : Option ℕ
+  pub room : Room
+  pub journal : Option Text
+  pub progress : Bool
+
+abbrev pub order_view : RunOrder → Order
+order_view o = record {
+  graph = o.graph.now;
+  folder = o.folder.now;
+  sink_folder = o.sink_folder.now;
+  workers = o.workers;
+  how_long = o.how_long;
+  firings = o.firings;
+  room = o.room;
+  journal = option_map (λ file. file.now) o.journal;
+  progress = o.progress;
+}
+
+pub data Asked : Type 0 where
+  Input : Asked
+  Moves : Text → Asked
+  Ask : Question → Room → Text → Asked
+  Explain : Text → Option Text → Asked
+  Run : Order → Asked
+
+abbrev pub asked_view : Request → Asked
+asked_view request.Input = Input
+asked_view (request.Moves path) = Moves path.now
+asked_view (request.Ask inquiry) = Ask inquiry.question inquiry.room inquiry.graph.now
+asked_view (request.Explain path folder) = Explain path.now (option_map (λ f. f.now) folder)
+asked_view (request.Run order) = Run (order_view order)
+
+-- the number in a text, where it is one and in the range
+abbrev pub number_in : ℕ → ℕ → Text → Option ℕ
+number_in least most text = if is_unsigned_in least most text then Some (digits_value 10 (without_leading_plus text)) else None
+
+-- the number of an option, where it was given
+abbrev pub number_of : ℕ → ℕ → Text → List Row → Option ℕ
+number_of least most option rows = option_and_then (number_in least most) (first_of option rows)
+
+-- the word in a place, and another where none was given
+abbrev pub word_or : Text → List Row → Text → Text
+word_or place rows other = unwrap_or (first_of place rows) other
+
+-- the word in a place, which is there wherever the words are taken
+abbrev pub word_of : Text → List Row → Text
+word_of place rows = word_or place rows []
+
+-- the room that a text names: `auto`, or a number of periods in its range
+abbrev pub room_in : Text → Option Room
+room_in text = if bytes_eq text (codes "auto") then Some Auto else option_map Periods (number_in 1 65535 text)
+
+-- the room that is asked for, the least capacities where none was given; nothing where the text names no room
+abbrev pub room_of : List Row → Option Room
+room_of rows = option_map_or room_in (first_of (codes "room") rows) (Some Least)
+
+-- whether an option without a value is given
+abbrev pub is_given : Text → List Row → Bool
+is_given name rows = bytes_eq (word_of name rows) (codes "true")
+
+-- how long a run goes on, by whether `--until-dry` is given and which periods are: they exclude each other, and it is one period where neither is
+abbrev pub how_long_by : Bool → Option ℕ → Option Length
+how_long_by true None = Some lengths.UntilDry
+how_long_by true (Some n) = None
+how_long_by false None = Some (lengths.Periods 1)
+how_long_by false (Some n) = Some (lengths.Periods n)
+
+abbrev pub how_long_of : List Row → Option Length
+how_long_of rows = how_long_by (is_given (codes "until-dry") rows) (number_of 1 1000 (codes "periods") rows)
+
+-- the run that the words after `run` ask for, so long and with this room; the sinks' files go to the folder of the sources' where no other is named
+abbrev pub order_of : List Row → Room → Length → Order
+order_of rows room how_long = record {
+  graph = word_of (codes "GRAPH") rows;
+  folder = word_of (codes "DIR") rows;
+  sink_folder = word_or (codes "out") rows (word_of (codes "DIR") rows);
+  workers = unwrap_or (number_of 1 8 (codes "workers") rows) 1;
+  how_long = how_long;
+  firings = number_of 0 1048576000 (codes "firings") rows;
+  room = room;
+  journal = first_of (codes "journal") rows;
+  progress = is_given (codes "progress") rows;
+}
+
+-- what a command but `run` and `explain` asks for with this room and the file that it names; no other command has a file alone
+unfoldable pub asked_by : Text → Room → Text → Asked
+asked_by name room path =
+    if bytes_eq name (codes "check") then Ask Check room path
+    else if bytes_eq name (codes "repetition") then Ask Repetition room path
+    else if bytes_eq name (codes "schedule") then Ask Schedule room path
+    else if bytes_eq name (codes "capacity") then Ask Capacity room path
+    else if bytes_eq name (codes "dot") then Ask Dot room path
+    else if bytes_eq name (codes "moves") then Moves path
+    else Input
+
+-- what a command asks for with the words after it, with this room; nothing where they name two lengths
+unfoldable pub asked_with : Text → List Row → Room → Option Asked
+asked_with name rows room =
+    if bytes_eq name (codes "run") then option_map (λ how_long. Run (order_of rows room how_long)) (how_long_of rows)
+    else if bytes_eq name (codes "explain") then Some (Explain (word_of (codes "GRAPH") rows) (first_of (codes "DIR") rows))
+    else Some (asked_by name room (word_of (codes "GRAPH") rows))
+
+-- what a command asks for with the words after it; nothing where they name no room
+abbrev pub asked_of : Text → List Row → Option Asked
+asked_of name rows = option_and_then (asked_with name rows) (room_of rows)
+
+-- why words after a command ask for nothing: they name no room, or two lengths
+abbrev pub AskForNothing : List Row → Unread → Type 0
+AskForNothing rows (unread.Parse error) = ⊥
+AskForNothing rows (unread.Room text) = room_of rows ≡ None
+AskForNothing rows unread.Lengths = how_long_of rows ≡ None
+
+-- what the command that was met asks for, and standard input where none was
+abbrev pub asked : Option (Text × List Row) → Option Asked
+asked None = Some Input
+asked (Some met) = asked_of met.0 met.1
+
+-- what words ask for
+abbrev pub words_ask : List Text → Option Asked
+words_ask [] = Some Input
+words_ask (word ∷ words) = asked (subcommand_of program (word ∷ words))
+
+-- the parser takes the words, and they ask for nothing, for this reason
+pub record AsksNothing (words : List Text) (reason : Unread) : Type 0 where
+  pub taken : fault_of program words ≡ []
+  pub nothing : words_ask words ≡ None
+  pub why : IfSome (subcommand_of program words) (λ met. AskForNothing met.1 reason)
+
+-- why words are no request: the parser refuses them, and those that it takes only for want of memory, or it takes them and they ask for nothing
+abbrev pub IsUnread : List Text → Unread → Type 0
+IsUnread words (unread.Parse error) = HasKind (fault_of program words) error × (takes program words ≡ true → kind_of error ≡ OutOfMemory)
+IsUnread words (unread.Room text) = AsksNothing words (unread.Room text)
+IsUnread words unread.Lengths = AsksNothing words unread.Lengths

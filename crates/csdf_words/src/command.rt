@@ -1,0 +1,575 @@
+//! The command line.
+
+ghost use Rattle.std.specs.Prelude.{◌≡◌, ◌≤◌, [], true, false, map, string_bytes, Some, None, Ok, IfErr, IfOk, IfSome, MatchResult, option_map};
+ghost use Rattle.clap.specs.Words.{App, app_of, fault_of, first_of, found_of, kind_of, rows_of, rule_of, subcommand_of, subcommand_rows_of, takes, with_rule, FailsBy};
+ghost use Rattle.clap.specs.declared.builder.command.Command.TheViews.{out-Command as fields_of};
+ghost use Rattle.csdf_words.specs.CommandLine.{on_graph, on_files, run_command, flag, number_option, text_option};
+ghost use Rattle.csdf_words.specs.CommandLine.{explain_command, no_commands, with_command, with_explain, with_questions, with_room, with_roomy_command, program};
+ghost use Rattle.csdf_analysis.specs.Room.{HasSomePeriod};
+ghost use Rattle.csdf_words.specs.CommandLine.{Ask, Run, AskForNothing, asked_view, asked_by, asked_of, asked_with, asked, words_ask, IsUnread};
+ghost use Rattle.csdf_words.specs.CommandLine.{how_long_of, is_given, number_in, number_of, order_of, order_view, room_in, room_of, word_of, word_or};
+ghost use Rattle.csdf_words.specs.HowLong.{MayBeAsked};
+
+use crate::help;
+use crate::order::{Inquiry, RunOrder};
+use clap::builder::ValueParser;
+use clap::error::ErrorKind;
+use clap::{Arg, ArgAction, ArgMatches, Command, Error};
+use csdf_analysis::Room;
+use csdf_answers::Question;
+use csdf_run::Length;
+use std::alloc::{AllocError, Global};
+
+/// What the program is asked to do.
+#[derive(Clone, Copy)]
+pub enum Request<'a> {
+    /// To play the script of standard input.
+    Input,
+    /// To play the script of this file.
+    Moves(&'a str),
+    /// To answer a question about the graph of this file.
+    Ask(Inquiry<'a>),
+    /// To explain why the graph of this file is refused, and what is wrong with the token files of
+    /// this folder.
+    Explain(&'a str, Option<&'a str>),
+    /// To run the graph of a file.
+    Run(RunOrder<'a>),
+}
+
+/// Why words are no request.
+#[derive(Drop)]
+pub enum Unread<'a> {
+    /// The parser refuses them, or they ask for help or the version.
+    Parse(Error),
+    /// The room that they ask for is none.
+    Room(&'a str),
+    /// They say twice how long a run goes on.
+    Lengths,
+}
+
+const GRAPH: &str = "GRAPH";
+
+const FOLDER: &str = "DIR";
+
+const WORKERS: &str = "workers";
+
+const PERIODS: &str = "periods";
+
+const UNTIL_DRY: &str = "until-dry";
+
+const FIRINGS: &str = "firings";
+
+const OUT: &str = "out";
+
+const JOURNAL: &str = "journal";
+
+const PROGRESS: &str = "progress";
+
+const ROOM: &str = "room";
+
+/// A command with a graph file, and what its help ends with.
+fn on_graph<'a>(
+    alloc: Global,
+    name: &'a str,
+    about: &'a str,
+    more: &'a str,
+) -> Result<Command<'a>, AllocError>
+    ensures app { IfOk result (λ command. app_of command ≡ on_graph name.entry.now) }
+    ensures local { IfOk result (λ command. (fields_of command).has_globals ≡ false) }
+{
+    let graph = Arg::new(alloc, GRAPH)
+        .required(true)
+        .help("The graph file; - is standard input");
+    Command::new(alloc, name)
+        .about(about)
+        .after_help(more)
+        .arg(graph)
+}
+
+/// A command with one more argument.
+fn with_arg<'a>(command: Command<'a>, arg: Arg<'a>) -> Result<Command<'a>, AllocError>
+    requires { arg.global ≡ false }
+    ensures app { IfOk result (λ r. app_of r ≡ with_rule (app_of command.entry) (rule_of arg.entry)) }
+    ensures globals { IfOk result (λ r. (fields_of r).has_globals ≡ (fields_of command.entry).has_globals) }
+{
+    command.arg(arg)
+}
+
+/// A command with one more option, which has a number in a range.
+fn with_option<'a>(
+    alloc: Global,
+    command: Command<'a>,
+    name: &'a str,
+    letter: &'a str,
+    range: (u64, u64),
+    help: &'a str,
+) -> Result<Command<'a>, AllocError>
+    ensures app { IfOk result (λ r. app_of r ≡ with_rule (app_of command.entry) (number_option name.entry.now range.0 range.1)) }
+    ensures globals { IfOk result (λ r. (fields_of r).has_globals ≡ (fields_of command.entry).has_globals) }
+{
+    let option = Arg::new(alloc, name)
+        .long(name)
+        .value_name(letter)
+        .value_parser(ValueParser::unsigned(range.0, range.1))
+        .help(help);
+    with_arg(command, option)
+}
+
+/// A command with one more option, which has a text.
+fn with_text<'a>(
+    alloc: Global,
+    command: Command<'a>,
+    name: &'a str,
+    word: &'a str,
+    help: &'a str,
+) -> Result<Command<'a>, AllocError>
+    ensures app { IfOk result (λ r. app_of r ≡ with_rule (app_of command.entry) (text_option name.entry.now)) }
+    ensures globals { IfOk result (λ r. (fields_of r).has_globals ≡ (fields_of command.entry).has_globals) }
+{
+    let option = Arg::new(alloc, name).long(name).value_name(word).help(help);
+    with_arg(command, option)
+}
+
+/// A command with one more option, which is given or not.
+fn with_flag<'a>(
+    alloc: Global,
+    command: Command<'a>,
+    name: &'a str,
+    help: &'a str,
+) -> Result<Command<'a>, AllocError>
+    ensures app { IfOk result (λ r. app_of r ≡ with_rule (app_of command.entry) (flag name.entry.now)) }
+    ensures globals { IfOk result (λ r. (fields_of r).has_globals ≡ (fields_of command.entry).has_globals) }
+{
+    let option = Arg::new(alloc, name)
+        .long(name)
+        .action(ArgAction::SetTrue)
+        .help(help);
+    with_arg(command, option)
+}
+
+/// A command with the option for room.
+fn with_room<'a>(alloc: Global, command: Command<'a>) -> Result<Command<'a>, AllocError>
+    ensures app { IfOk result (λ r. app_of r ≡ with_room (app_of command.entry)) }
+    ensures globals { IfOk result (λ r. (fields_of r).has_globals ≡ (fields_of command.entry).has_globals) }
+{
+    let room = "Room for so many periods: 1 to 65535, or auto; least capacities where absent";
+    with_text(alloc, command, ROOM, "M", room)
+}
+
+/// The command that runs a graph, and no option yet.
+fn on_files<'a>(alloc: Global) -> Result<Command<'a>, AllocError>
+    ensures app { IfOk result (λ command. app_of command ≡ on_files) }
+    ensures local { IfOk result (λ command. (fields_of command).has_globals ≡ false) }
+{
+    let command = on_graph(alloc, "run", "Run a graph on token files", help::RUN)?;
+    let folder = Arg::new(alloc, FOLDER)
+        .required(true)
+        .help("The folder of the token files");
+    with_arg(command, folder)
+}
+
+/// The command that runs a graph.
+fn run_command<'a>(alloc: Global) -> Result<Command<'a>, AllocError>
+    ensures app { IfOk result (λ command. app_of command ≡ run_command) }
+    ensures local { IfOk result (λ command. (fields_of command).has_globals ≡ false) }
+{
+    let command = on_files(alloc)?;
+    let workers = "How many workers fire: 1 to 8, 1 where absent";
+    let command = with_option(alloc, command, WORKERS, "N", (1, 8), workers)?;
+    let periods = "How many periods to run: 1 to 1000, 1 where absent";
+    let command = with_option(alloc, command, PERIODS, "K", (1, 1000), periods)?;
+    let until_dry = "Run until a source has run dry, in place of a number of periods";
+    let command = with_flag(alloc, command, UNTIL_DRY, until_dry)?;
+    let firings = "The most firings of all actors: 0 to 1048576000, no limit where absent";
+    let command = with_option(alloc, command, FIRINGS, "F", (0, 1_048_576_000), firings)?;
+    let out = "The folder that the sinks' files are written to: DIR where absent";
+    let command = with_text(alloc, command, OUT, "FOLDER", out)?;
+    let journal = "A file for the moves of the run, as the script of a graph file";
+    let command = with_text(alloc, command, JOURNAL, "FILE", journal)?;
+    let progress = "Tell on standard error how many firings were made";
+    let command = with_flag(alloc, command, PROGRESS, progress)?;
+    with_room(alloc, command)
+}
+
+/// The program, and no command yet.
+fn no_commands<'a>(alloc: Global) -> Result<Command<'a>, AllocError>
+    ensures { IfOk result (λ program. app_of program ≡ no_commands) }
+{
+    Command::new(alloc, "csdf")
+        .version("0.1.0")
+        .about("Runs and analyses cyclo-static dataflow graphs")
+        .after_help(help::PROGRAM)
+        .no_binary_name(true)
+        .bin_name("csdf")
+}
+
+/// The program with one more command on a graph file.
+fn with_command<'a>(
+    alloc: Global,
+    program: Command<'a>,
+    name: &'a str,
+    about: &'a str,
+    more: &'a str,
+) -> Result<Command<'a>, AllocError>
+    ensures { IfOk result (λ r. app_of r ≡ with_command (app_of program.entry) name.entry.now) }
+{
+    program.subcommand(on_graph(alloc, name, about, more)?)
+}
+
+/// The same, where there is a program yet.
+fn then_command<'a>(
+    alloc: Global,
+    program: Result<Command<'a>, AllocError>,
+    name: &'a str,
+    about: &'a str,
+    more: &'a str,
+) -> Result<Command<'a>, AllocError>
+    ensures { (before : App) → IfOk program.entry (λ p. app_of p ≡ before) → IfOk result (λ r. app_of r ≡ with_command before name.entry.now) }
+{
+    match program {
+        Ok(program) => with_command(alloc, program, name, about, more),
+        Err(error) => Err(error),
+    }
+}
+
+/// A command with a graph file and the option for room.
+fn on_roomy_graph<'a>(
+    alloc: Global,
+    name: &'a str,
+    about: &'a str,
+    more: &'a str,
+) -> Result<Command<'a>, AllocError>
+    ensures app { IfOk result (λ command. app_of command ≡ with_room (on_graph name.entry.now)) }
+    ensures local { IfOk result (λ command. (fields_of command).has_globals ≡ false) }
+{
+    let command = on_graph(alloc, name, about, more)?;
+    with_room(alloc, command)
+}
+
+/// The program with one more command on a graph file, which takes room.
+fn with_roomy_command<'a>(
+    alloc: Global,
+    program: Command<'a>,
+    name: &'a str,
+    about: &'a str,
+    more: &'a str,
+) -> Result<Command<'a>, AllocError>
+    ensures { IfOk result (λ r. app_of r ≡ with_roomy_command (app_of program.entry) name.entry.now) }
+{
+    program.subcommand(on_roomy_graph(alloc, name, about, more)?)
+}
+
+/// The same, where there is a program yet.
+fn then_roomy_command<'a>(
+    alloc: Global,
+    program: Result<Command<'a>, AllocError>,
+    name: &'a str,
+    about: &'a str,
+    more: &'a str,
+) -> Result<Command<'a>, AllocError>
+    ensures { (before : App) → IfOk program.entry (λ p. app_of p ≡ before) → IfOk result (λ r. app_of r ≡ with_roomy_command before name.entry.now) }
+{
+    match program {
+        Ok(program) => with_roomy_command(alloc, program, name, about, more),
+        Err(error) => Err(error),
+    }
+}
+
+/// The command that explains.
+fn explain_command<'a>(alloc: Global) -> Result<Command<'a>, AllocError>
+    ensures app { IfOk result (λ command. app_of command ≡ explain_command) }
+    ensures local { IfOk result (λ command. (fields_of command).has_globals ≡ false) }
+{
+    let about = "Tell why a graph is refused, or that it is accepted";
+    let command = on_graph(alloc, "explain", about, help::EXPLAIN)?;
+    let folder = Arg::new(alloc, FOLDER).help("The folder of the token files, to look at them too");
+    with_arg(command, folder)
+}
+
+/// The program with the command that explains.
+fn with_explain<'a>(alloc: Global, program: Command<'a>) -> Result<Command<'a>, AllocError>
+    ensures { IfOk result (λ r. app_of r ≡ with_explain (app_of program.entry)) }
+{
+    program.subcommand(explain_command(alloc)?)
+}
+
+/// The same, where there is a program yet.
+fn then_explain<'a>(
+    alloc: Global,
+    program: Result<Command<'a>, AllocError>,
+) -> Result<Command<'a>, AllocError>
+    ensures { (before : App) → IfOk program.entry (λ p. app_of p ≡ before) → IfOk result (λ r. app_of r ≡ with_explain before) }
+{
+    match program {
+        Ok(program) => with_explain(alloc, program),
+        Err(error) => Err(error),
+    }
+}
+
+/// The program with the commands that answer a question or play a script.
+fn with_questions<'a>(alloc: Global, program: Command<'a>) -> Result<Command<'a>, AllocError>
+    ensures { IfOk result (λ r. app_of r ≡ with_questions (app_of program.entry)) }
+{
+    let about = "Play the script of a graph file";
+    let program = with_command(alloc, program, "moves", about, help::MOVES);
+    let about = "Tell whether a graph is consistent";
+    let program = then_command(alloc, program, "check", about, help::CHECK);
+    let about = "Print each actor's cycles and firings in a period";
+    let program = then_command(alloc, program, "repetition", about, help::REPETITION);
+    let about = "Print the actor of each firing of a period";
+    let program = then_roomy_command(alloc, program, "schedule", about, help::SCHEDULE);
+    let about = "Print the least channel capacities";
+    let program = then_roomy_command(alloc, program, "capacity", about, help::CAPACITY);
+    let about = "Print the graph for Graphviz, which draws it";
+    let program = then_roomy_command(alloc, program, "dot", about, help::DOT);
+    then_explain(alloc, program)
+}
+
+/// The program's command line.
+fn program<'a>(alloc: Global) -> Result<Command<'a>, AllocError>
+    ensures { IfOk result (λ command. app_of command ≡ program) }
+{
+    let program = no_commands(alloc)?.subcommand(run_command(alloc)?)?;
+    with_questions(alloc, program)
+}
+
+/// The words as the parser of command lines matches them.
+fn matches_of<'a>(alloc: Global, words: &'a [String]) -> Result<ArgMatches<'a>, Error>
+    ensures met { IfOk result (λ m. subcommand_rows_of m ≡ subcommand_of program (map string_bytes words.entry.now)) }
+    ensures taken { takes program (map string_bytes words.entry.now) ≡ true → IfErr result (λ e. kind_of e ≡ ErrorKind.OutOfMemory) }
+    ensures kinds { FailsBy (fault_of program (map string_bytes words.entry.now)) result }
+{
+    program(alloc)?.try_get_matches_from(words)
+}
+
+/// A question about the graph of a file, with this room.
+fn asking<'a>(question: Question, room: Room, graph: &'a str) -> Request<'a>
+    requires { HasSomePeriod room }
+    ensures { asked_view result ≡ Ask question room graph.entry.now }
+{
+    Request::Ask(Inquiry {
+        question,
+        graph,
+        room,
+    })
+}
+
+/// What a command but `run` and `explain` asks for with this room and the file that it names. No
+/// other command has a file alone.
+#[tactic(auto, unfolding(crate::specs::CommandLine::asked_by))]
+fn asked_by<'a>(command: &str, room: Room, graph: &'a str) -> Request<'a>
+    requires { HasSomePeriod room }
+    ensures { asked_view result ≡ asked_by command.now room graph.entry.now }
+{
+    match command {
+        "check" => asking(Question::Check, room, graph),
+        "repetition" => asking(Question::Repetition, room, graph),
+        "schedule" => asking(Question::Schedule, room, graph),
+        "capacity" => asking(Question::Capacity, room, graph),
+        "dot" => asking(Question::Dot, room, graph),
+        "moves" => Request::Moves(graph),
+        _ => Request::Input,
+    }
+}
+
+/// The word in a place, and another where none was given.
+fn word_or<'a>(arguments: &ArgMatches<'a>, place: &str, other: &'a str) -> &'a str
+    ensures { result.now ≡ word_or place.now (rows_of (found_of arguments.now)) other.entry.now }
+{
+    arguments.get_str(place).unwrap_or(other)
+}
+
+/// The word in a place.
+fn word_of<'a>(arguments: &ArgMatches<'a>, place: &str) -> &'a str
+    ensures { result.now ≡ word_of place.now (rows_of (found_of arguments.now)) }
+{
+    word_or(arguments, place, "")
+}
+
+/// The word in a place, where one was given.
+fn given_of<'a>(arguments: &ArgMatches<'a>, place: &str) -> Option<&'a str>
+    ensures { option_map (λ word. word.now) result ≡ first_of place.now (rows_of (found_of arguments.now)) }
+{
+    arguments.get_str(place)
+}
+
+/// The number in a text, where it is one and in the range.
+fn number_in(text: &str, least: u32, most: u32) -> Option<u32>
+    ensures value { result ≡ number_in least most text.now }
+    ensures least { IfSome result (λ n. least ≤ n) }
+    ensures most { IfSome result (λ n. n ≤ most) }
+{
+    match text.parse::<u32>() {
+        Ok(number) => {
+            if least <= number && number <= most {
+                Some(number)
+            } else {
+                None
+            }
+        }
+        Err(_) => None,
+    }
+}
+
+/// The number of an option, where it was given.
+fn number_of(arguments: &ArgMatches<'_>, option: &str, least: u32, most: u32) -> Option<u32>
+    ensures value { result ≡ number_of least most option.now (rows_of (found_of arguments.now)) }
+    ensures least { IfSome result (λ n. least ≤ n) }
+    ensures most { IfSome result (λ n. n ≤ most) }
+{
+    match arguments.get_str(option) {
+        Some(text) => number_in(text, least, most),
+        None => None,
+    }
+}
+
+/// The room that a text names.
+fn room_in(text: &str) -> Option<Room>
+    ensures value { result ≡ room_in text.now }
+    ensures some { IfSome result HasSomePeriod }
+{
+    if text == "auto" {
+        return Some(Room::Auto);
+    }
+    match number_in(text, 1, 65_535) {
+        Some(periods) => Some(Room::Periods(periods)),
+        None => None,
+    }
+}
+
+/// The room that is asked for, the least capacities where none was given.
+///
+/// The error is a text that names no room.
+fn room_of<'a>(arguments: &ArgMatches<'a>) -> Result<Room, &'a str>
+    ensures value { MatchResult result (λ room. room_of (rows_of (found_of arguments.now)) ≡ Some room)
+        (λ _. room_of (rows_of (found_of arguments.now)) ≡ None) }
+    ensures some { IfOk result HasSomePeriod }
+{
+    match arguments.get_str(ROOM) {
+        Some(text) => match room_in(text) {
+            Some(room) => Ok(room),
+            None => Err(text),
+        },
+        None => Ok(Room::Least),
+    }
+}
+
+/// Whether an option without a value is given.
+fn is_given(arguments: &ArgMatches<'_>, option: &str) -> bool
+    ensures { result ≡ is_given option.now (rows_of (found_of arguments.now)) }
+{
+    word_of(arguments, option) == "true"
+}
+
+/// How long a run goes on; nothing where it is said twice.
+///
+/// The parser refuses a number out of its range; where one is read all the same, it counts as absent.
+fn how_long_of(arguments: &ArgMatches<'_>) -> Option<Length>
+    ensures value { result ≡ how_long_of (rows_of (found_of arguments.now)) }
+    ensures may { IfSome result MayBeAsked }
+{
+    let periods = number_of(arguments, PERIODS, 1, 1000);
+    match (is_given(arguments, UNTIL_DRY), periods) {
+        (true, None) => Some(Length::UntilDry),
+        (true, Some(_)) => None,
+        (false, None) => Some(Length::Periods(1)),
+        (false, Some(periods)) => Some(Length::Periods(periods)),
+    }
+}
+
+/// The run that the words after `run` ask for, so long and with this room.
+///
+/// The parser refuses a number out of its range; where one is read all the same, it counts as absent.
+fn order_of<'a>(arguments: &ArgMatches<'a>, room: Room, how_long: Length) -> RunOrder<'a>
+    requires some_room { HasSomePeriod room }
+    requires may { MayBeAsked how_long }
+    ensures { order_view result ≡ order_of (rows_of (found_of arguments.now)) room how_long }
+{
+    let folder = word_of(arguments, FOLDER);
+    RunOrder {
+        graph: word_of(arguments, GRAPH),
+        folder,
+        sink_folder: word_or(arguments, OUT, folder),
+        workers: number_of(arguments, WORKERS, 1, 8).unwrap_or(1),
+        how_long,
+        firings: number_of(arguments, FIRINGS, 0, 1_048_576_000),
+        room,
+        journal: given_of(arguments, JOURNAL),
+        progress: is_given(arguments, PROGRESS),
+    }
+}
+
+/// The run that the words after `run` ask for, with this room; nothing where they name two lengths.
+fn run_of<'a>(arguments: &ArgMatches<'a>, room: Room) -> Option<Request<'a>>
+    requires { HasSomePeriod room }
+    ensures asked { option_map asked_view result
+        ≡ option_map (λ how_long. Run (order_of (rows_of (found_of arguments.now)) room how_long)) (how_long_of (rows_of (found_of arguments.now))) }
+    ensures none { result ≡ None → how_long_of (rows_of (found_of arguments.now)) ≡ None }
+{
+    match how_long_of(arguments) {
+        Some(how_long) => Some(Request::Run(order_of(arguments, room, how_long))),
+        None => None,
+    }
+}
+
+/// What a command asks for with the words after it, with this room; nothing where they name two lengths.
+#[tactic(auto, unfolding(crate::specs::CommandLine::asked_with))]
+fn asked_with<'a>(command: &str, arguments: &ArgMatches<'a>, room: Room) -> Option<Request<'a>>
+    requires { HasSomePeriod room }
+    ensures asked { option_map asked_view result ≡ asked_with command.now (rows_of (found_of arguments.now)) room }
+    ensures none { result ≡ None → how_long_of (rows_of (found_of arguments.now)) ≡ None }
+{
+    match command {
+        "run" => run_of(arguments, room),
+        "explain" => Some(Request::Explain(word_of(arguments, GRAPH), given_of(arguments, FOLDER))),
+        _ => Some(asked_by(command, room, word_of(arguments, GRAPH))),
+    }
+}
+
+/// What a command asks for with the words after it.
+///
+/// The error says why that is nothing.
+fn asked_of<'a>(command: &str, arguments: &ArgMatches<'a>) -> Result<Request<'a>, Unread<'a>>
+    ensures { MatchResult result (λ r. asked_of command.now (rows_of (found_of arguments.now)) ≡ Some (asked_view r))
+        (λ why. (asked_of command.now (rows_of (found_of arguments.now)) ≡ None) × AskForNothing (rows_of (found_of arguments.now)) why) }
+{
+    match room_of(arguments) {
+        Ok(room) => match asked_with(command, arguments, room) {
+            Some(request) => Ok(request),
+            None => Err(Unread::Lengths),
+        },
+        Err(text) => Err(Unread::Room(text)),
+    }
+}
+
+/// What the command that was met asks for, and standard input where none was.
+///
+/// The error says why that is nothing.
+fn asked<'a>(matches: &ArgMatches<'a>) -> Result<Request<'a>, Unread<'a>>
+    ensures { MatchResult result (λ r. asked (subcommand_rows_of matches.now) ≡ Some (asked_view r))
+        (λ why. (asked (subcommand_rows_of matches.now) ≡ None) × IfSome (subcommand_rows_of matches.now) (λ met. AskForNothing met.1 why)) }
+{
+    match matches.subcommand() {
+        Some((command, arguments)) => asked_of(command, arguments),
+        None => Ok(Request::Input),
+    }
+}
+
+/// What the words of a command line ask for; the program's own name is not among them.
+///
+/// The error of the parser has the text to print: help or the version where they were asked for, or
+/// else why the words are refused.
+pub fn request_of<'a>(alloc: Global, words: &'a [String]) -> Result<Request<'a>, Unread<'a>>
+    ensures none { words.entry.now ≡ [] → result ≡ Ok Request.Input }
+    ensures asked { IfOk result (λ r. words_ask (map string_bytes words.entry.now) ≡ Some (asked_view r)) }
+    ensures read { IfOk result (λ r. fault_of program (map string_bytes words.entry.now) ≡ []) }
+    ensures unread { IfErr result (IsUnread (map string_bytes words.entry.now)) }
+{
+    if words.is_empty() {
+        return Ok(Request::Input);
+    }
+    match matches_of(alloc, words) {
+        Ok(matches) => asked(&matches),
+        Err(error) => Err(Unread::Parse(error)),
+    }
+}

@@ -1,0 +1,9 @@
+//! What the words of the command line ask for, by the library `clap`, and the texts of help.
+#![tactic(auto)]
+
+mod command;
+mod help;
+mod order;
+
+pub use command::{Request, Unread, request_of};
+pub use order::{Inquiry, RunOrder};
