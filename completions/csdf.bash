@@ -23,9 +23,13 @@ _csdf() {
         COMPREPLY=(-)
       elif [[ "$command" == run ]]; then
         mapfile -t COMPREPLY < <(compgen -W \
-          "--workers --periods --until-dry --firings --out --journal --progress --room --help" -- "$word")
-      elif [[ "$command" =~ ^(schedule|capacity|dot)$ ]]; then
+          "--workers --periods --until-dry --firings --out --journal --progress --room --json --help" -- "$word")
+      elif [[ "$command" =~ ^(schedule|capacity)$ ]]; then
+        mapfile -t COMPREPLY < <(compgen -W "--room --json --help" -- "$word")
+      elif [[ "$command" == dot ]]; then
         mapfile -t COMPREPLY < <(compgen -W "--room --help" -- "$word")
+      elif [[ "$command" =~ ^(check|repetition)$ ]]; then
+        mapfile -t COMPREPLY < <(compgen -W "--json --help" -- "$word")
       else
         mapfile -t COMPREPLY < <(compgen -W "--help" -- "$word")
       fi

@@ -21,3 +21,4 @@ complete -c csdf -n "__fish_seen_subcommand_from run" -x -l out -a "(__fish_comp
 complete -c csdf -n "__fish_seen_subcommand_from run" -r -l journal -d "A file for the moves of the run, as the script of a graph file"
 complete -c csdf -n "__fish_seen_subcommand_from run" -l progress -d "Tell on standard error how many firings were made"
 complete -c csdf -n "__fish_seen_subcommand_from run schedule capacity dot" -x -l room -a auto -d "Room for so many periods, 1 to 65535, or auto"
+complete -c csdf -n "__fish_seen_subcommand_from check repetition schedule capacity run" -l json -d "Print a JSON object on one line"

@@ -6,6 +6,7 @@ usage: told.py PROGRAM        prints what is wrong, a line each; nothing where a
 Where a document shows a block of lines, they have to be the program's whole answer, or its end where the
 document says so. Where it names a line in backquotes, the answer has to have that line.
 """
+import json
 import re
 import shutil
 import subprocess
@@ -233,6 +234,19 @@ def formats_capacities() -> None:
     see(lines("x 2", "y 2", "cells 4"), answer("capacity", edited(graph, ("initial = [5]", "initial = [5], capacity = 2"))), "FORMATS: with a capacity")
 
 
+def formats_json() -> None:
+    graph = graph_in(FORMATS, "### Least capacities")
+    shows(FORMATS, answer("capacity", graph, "--json"), "FORMATS: capacities as JSON")
+    loop = TOP / "tests" / "cli" / "cases" / "capacity_deadlock" / "graph.toml"
+    shows(FORMATS, answer("capacity", loop, "--json"), "FORMATS: a deadlock as JSON")
+    firings = json.loads(answer("schedule", graph, "--json"))["schedule"]
+    see(answer("schedule", graph).splitlines(), firings, "FORMATS: the schedule as JSON")
+    told, _ = run(METER / "graph.toml", "--json")
+    lines = [f"{it['channel']} written {it['written']} taken {it['taken']} held {it['held']} peak {it['peak']} capacity {it['capacity']} "
+             + ("open" if it["open"] else "closed") for it in json.loads(told)["channels"]]
+    see(run(METER / "graph.toml")[0].splitlines(), [f"ending {json.loads(told)['ending']}", *lines], "FORMATS: the report as JSON")
+
+
 def filter_of(weights: str, shift: int, produce: int, tokens: str) -> str:
     """What a filter that reads all of three tokens writes."""
     (ROOM / "f.toml").write_text(
@@ -277,6 +291,7 @@ def main() -> None:
     guide_room()
     formats_cells()
     formats_capacities()
+    formats_json()
     formats_kernels()
     formats_explanations()
     print("".join(f"{wrong}\n" for wrong in found), end="")

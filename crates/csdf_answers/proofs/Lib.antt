@@ -7,3 +7,4 @@ pub mod CircleLemmas
 pub mod ExplainLemmas
 pub mod ToldLemmas
 pub mod TokenNoteLemmas
+pub mod ObjectLemmas

@@ -43,22 +43,26 @@ abbrev pub end_text : LineEnd → List ℕ
 end_text (end.Syntax line) = codes ": syntax at line " ++ decimal line
 end_text (end.Range line) = codes ": range at line " ++ decimal line
 
--- the text of a fault
+-- the reason of a fault
+abbrev pub reason_text : ToolFault → List ℕ
+reason_text (Graph fault) = codes "graph: " ++ graph_text fault
+reason_text (Line n) = codes "script: line " ++ decimal n
+reason_text (Unbalanced name) = codes "graph: unbalanced at channel " ++ name
+reason_text (TooLarge name) = codes "graph: too large at channel " ++ name
+reason_text Deadlock = codes "graph: deadlock"
+reason_text TooTight = codes "graph: too tight"
+reason_text TooLong = codes "input too long"
+reason_text (TokenSyntax name line) = codes "tokens " ++ name ++ end_text (end.Syntax line)
+reason_text (TokenRange name line) = codes "tokens " ++ name ++ end_text (end.Range line)
+reason_text (TooManyTokens name) = codes "tokens " ++ name ++ codes ": too many"
+reason_text Mixed = codes "run: mixed"
+reason_text Worker = codes "run: worker"
+reason_text (Device stream) = codes "device: " ++ stream_text stream
+reason_text Memory = codes "memory"
+
+-- the text of a fault: the name of the program, and the reason
 abbrev pub fault_text : ToolFault → List ℕ
-fault_text (Graph fault) = codes "csdf: graph: " ++ graph_text fault
-fault_text (Line n) = codes "csdf: script: line " ++ decimal n
-fault_text (Unbalanced name) = codes "csdf: graph: unbalanced at channel " ++ name
-fault_text (TooLarge name) = codes "csdf: graph: too large at channel " ++ name
-fault_text Deadlock = codes "csdf: graph: deadlock"
-fault_text TooTight = codes "csdf: graph: too tight"
-fault_text TooLong = codes "csdf: input too long"
-fault_text (TokenSyntax name line) = codes "csdf: tokens " ++ name ++ end_text (end.Syntax line)
-fault_text (TokenRange name line) = codes "csdf: tokens " ++ name ++ end_text (end.Range line)
-fault_text (TooManyTokens name) = codes "csdf: tokens " ++ name ++ codes ": too many"
-fault_text Mixed = codes "csdf: run: mixed"
-fault_text Worker = codes "csdf: run: worker"
-fault_text (Device stream) = codes "csdf: device: " ++ stream_text stream
-fault_text Memory = codes "csdf: memory"
+fault_text fault = codes "csdf: " ++ reason_text fault
 
 -- ---- passes
 

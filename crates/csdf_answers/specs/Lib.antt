@@ -4,6 +4,7 @@ pub mod Drawing
 pub mod Explained
 pub mod Faults
 pub mod Lines
+pub mod Objects
 pub mod Printed
 pub mod Session
 pub mod TokenNotes

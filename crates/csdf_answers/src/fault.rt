@@ -162,6 +162,45 @@ pub enum ToolFault {
     Memory,
 }
 
+/// The reason of a fault: its line without the name of the program.
+#[derive(Drop)]
+pub(crate) struct Reason<'a>(pub(crate) &'a ToolFault);
+
+impl fmt::Display for Reason<'_> {
+    ghost use Rattle.std.specs.Prelude.{Some};
+    ghost use Rattle.csdf_answers.specs.Faults.{reason_text};
+
+    ghost output = { λ reason. Some (reason_text reason.0.now) };
+
+    fn fmt<W: fmt::Write>(&self, f: &mut fmt::Formatter<W>) -> fmt::Result {
+        match self.0 {
+            ToolFault::Graph(fault) => {
+                let words = InWords(*fault);
+                write!(f, "graph: {words}")
+            }
+            ToolFault::Line(number) => write!(f, "script: line {number}"),
+            ToolFault::Unbalanced(name) => write!(f, "graph: unbalanced at channel {name}"),
+            ToolFault::TooLarge(name) => write!(f, "graph: too large at channel {name}"),
+            ToolFault::Deadlock => write!(f, "graph: deadlock"),
+            ToolFault::TooTight => write!(f, "graph: too tight"),
+            ToolFault::TooLong => write!(f, "input too long"),
+            ToolFault::TokenSyntax(name, line) => {
+                let end = LineEnd::Syntax(*line);
+                write!(f, "tokens {name}{end}")
+            }
+            ToolFault::TokenRange(name, line) => {
+                let end = LineEnd::Range(*line);
+                write!(f, "tokens {name}{end}")
+            }
+            ToolFault::TooManyTokens(name) => write!(f, "tokens {name}: too many"),
+            ToolFault::Mixed => write!(f, "run: mixed"),
+            ToolFault::Worker => write!(f, "run: worker"),
+            ToolFault::Device(stream) => write!(f, "device: {stream}"),
+            ToolFault::Memory => write!(f, "memory"),
+        }
+    }
+}
+
 impl fmt::Display for ToolFault {
     ghost use Rattle.std.specs.Prelude.{Some};
     ghost use Rattle.csdf_answers.specs.Faults.{fault_text};
@@ -169,31 +208,8 @@ impl fmt::Display for ToolFault {
     ghost output = { λ fault. Some (fault_text fault) };
 
     fn fmt<W: fmt::Write>(&self, f: &mut fmt::Formatter<W>) -> fmt::Result {
-        match self {
-            ToolFault::Graph(fault) => {
-                let words = InWords(*fault);
-                write!(f, "csdf: graph: {words}")
-            }
-            ToolFault::Line(number) => write!(f, "csdf: script: line {number}"),
-            ToolFault::Unbalanced(name) => write!(f, "csdf: graph: unbalanced at channel {name}"),
-            ToolFault::TooLarge(name) => write!(f, "csdf: graph: too large at channel {name}"),
-            ToolFault::Deadlock => write!(f, "csdf: graph: deadlock"),
-            ToolFault::TooTight => write!(f, "csdf: graph: too tight"),
-            ToolFault::TooLong => write!(f, "csdf: input too long"),
-            ToolFault::TokenSyntax(name, line) => {
-                let end = LineEnd::Syntax(*line);
-                write!(f, "csdf: tokens {name}{end}")
-            }
-            ToolFault::TokenRange(name, line) => {
-                let end = LineEnd::Range(*line);
-                write!(f, "csdf: tokens {name}{end}")
-            }
-            ToolFault::TooManyTokens(name) => write!(f, "csdf: tokens {name}: too many"),
-            ToolFault::Mixed => write!(f, "csdf: run: mixed"),
-            ToolFault::Worker => write!(f, "csdf: run: worker"),
-            ToolFault::Device(stream) => write!(f, "csdf: device: {stream}"),
-            ToolFault::Memory => write!(f, "csdf: memory"),
-        }
+        let reason = Reason(self);
+        write!(f, "csdf: {reason}")
     }
 }
 

@@ -25,6 +25,15 @@ pub enum Question {
     Dot,
 }
 
+/// In which form an answer or a fault is told.
+#[derive(Clone, Copy, Debug, PartialEq, Eq)]
+pub enum Form {
+    /// Lines of text.
+    Text,
+    /// A JSON object on one line.
+    Json,
+}
+
 /// How many actors and channels a consistent graph has.
 pub(crate) fn check_text(
     alloc: Global,

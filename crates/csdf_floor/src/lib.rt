@@ -31,6 +31,6 @@ pub use laws::{
 };
 pub use limits::{few_in_thousand, may_run, most_periods};
 pub use outcome::{ChannelReport, Outcome};
-pub use printed::printed_report;
+pub use printed::{channel_name, ending_word, printed_report};
 pub use settling::settle;
 pub use work::are_feeds;

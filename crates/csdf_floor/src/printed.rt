@@ -11,8 +11,8 @@ use crate::outcome::{ChannelReport, Outcome};
 use csdf_model::{Channel, Graph};
 use std::alloc::{AllocError, Global};
 
-/// The channel's name.
-fn name_at(channels: &[Channel], number: usize) -> &str
+/// The name of the channel with this number; the empty text where there is none.
+pub fn channel_name(channels: &[Channel], number: usize) -> &str
     ensures { result.now ≡ name_at (names_of (map channel_view channels.now)) number }
 {
     match channels.get(number) {
@@ -21,7 +21,8 @@ fn name_at(channels: &[Channel], number: usize) -> &str
     }
 }
 
-fn ending_word(ending: Ending) -> &'static str
+/// The word that a report has for an ending.
+pub fn ending_word(ending: Ending) -> &'static str
     ensures { result.now ≡ ending_word ending }
 {
     match ending {
@@ -91,7 +92,7 @@ fn push_lines(
         ++ report_lines (names_of (map channel_view channels.now)) (enumerate_from 0 reports.now)) }
 {
     for (number, report) in reports.iter().enumerate() {
-        push_line(text, name_at(channels, number), report)?;
+        push_line(text, channel_name(channels, number), report)?;
     }
     Ok(())
 }

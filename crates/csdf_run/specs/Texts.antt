@@ -137,6 +137,7 @@ pub record TellOutcome (w : Work) (o : Outcome) (t : Texts) : Type 0 where
   pub ending : t.ending ≡ o.ending
   pub sinks : texts_in t.sinks.items ≡ sink_texts w.accepted.graph.actors (feeds_in o.sinks.items)
   pub report : t.report.items ≡ report_text (names_of w.accepted.graph.channels) o.ending o.report.items
+  pub channels : t.channels.items ≡ o.report.items
   pub journal : option_map (λ (text : Vec ℕ). text.items) t.journal ≡ kept_script w.accepted.graph o.journal
 
 -- the texts tell an outcome of a run of the file's graph, accepted with this room, over the texts' tokens, which goes on so long

@@ -19,7 +19,7 @@ use crate::request::Request;
 use crate::running::outcome_of;
 use crate::script::kept_script;
 use csdf_analysis::{AcceptFault, Accepted, Room, accept_in_room};
-use csdf_floor::{Ending, Keeping, Outcome, RunFault, printed_report};
+use csdf_floor::{ChannelReport, Ending, Keeping, Outcome, RunFault, printed_report};
 use csdf_graph::{Actor, Graph, GraphFault, Kernel, Slice, TokenFault, read_graph, read_tokens};
 use std::alloc::{AllocError, Global};
 use std::sync::Wait;
@@ -34,6 +34,8 @@ pub struct Texts {
     pub sinks: Vec<Vec<u8>>,
     /// The printed report.
     pub report: Vec<u8>,
+    /// What the report tells of each channel, in file order.
+    pub channels: Vec<ChannelReport>,
     /// The run's moves as the table `script` of a graph file, where they were asked for.
     pub journal: Option<Vec<u8>>,
 }
@@ -249,15 +251,18 @@ fn texts_of(alloc: Global, graph: &Graph, outcome: &Outcome) -> Result<Texts, Al
     ensures ending { IfOk result (λ texts. texts.ending ≡ outcome.now.ending) }
     ensures sinks { IfOk result (λ texts. texts_in texts.sinks.items ≡ sink_texts graph.now.actors (feeds_in outcome.now.sinks.items)) }
     ensures report { IfOk result (λ texts. texts.report.items ≡ report_text (names_of graph.now.channels) outcome.now.ending outcome.now.report.items) }
+    ensures channels { IfOk result (λ texts. texts.channels.items ≡ outcome.now.report.items) }
     ensures journal { IfOk result (λ texts. option_map (λ t. t.items) texts.journal ≡ kept_script graph.now outcome.now.journal) }
 {
     let sinks = sink_texts(alloc, graph.actors(), &outcome.sinks)?;
     let report = printed_report(alloc, graph, outcome)?;
+    let channels = Vec::from_slice(alloc, &outcome.report)?;
     let journal = kept_script(alloc, graph, &outcome.journal)?;
     Ok(Texts {
         ending: outcome.ending,
         sinks,
         report: report.into_bytes(),
+        channels,
         journal,
     })
 }

@@ -1,17 +1,20 @@
 -- What is asked of files, one thing after another.
 use Rattle.std.proofs.Common.{◌≡◌, ℕ, ◌+◌, ◌<◌, Bool, true, false, cond, List, [], ◌∷◌, ◌++◌, length, map, take, get_or, refl, ap, sym}
-use Rattle.std.proofs.Common.{subst, ◌∙◌, arith, append_assoc, Ok, Err, Option, Some, None, filter}
-use Rattle.std.specs.Prelude.{Result, IfSome, OnErr}
+use Rattle.std.proofs.Common.{subst, ◌∙◌, arith, append_assoc, inl, inr, Ok, Err, Option, Some, None, filter}
+use Rattle.std.specs.Prelude.{◌⊎◌, Result, IfSome, OnErr}
 use Rattle.std.specs.List.{zip, AllByRecursion}
 use Rattle.std.specs.Path.{path_join}
 use Rattle.std.proofs.lemmas.List.{append-nil, length_push, map-append, take_more}
 use Rattle.std.proofs.lemmas.List.Elements.{filter-append}
-use Rattle.csdf_model.specs.Graph.{Actor}
+use Rattle.csdf_model.specs.Graph.{Actor, Graph}
 use Rattle.csdf_core.specs.Layout.{is_source_kernel}
 use Rattle.csdf_bytes.specs.declared.intake.InputFault.{InputFault}
 use Rattle.csdf_tool.specs.Acts.{Act, Asks, IsRead, OnlyReads, Read}
 use Rattle.csdf_tool.specs.GraphFiles.{graph_reads, is_input}
-use Rattle.csdf_tool.specs.Running.{IsReadAfter, feed_paths, feed_reads, in_file, read_whole}
+use Rattle.csdf_answers.specs.declared.fault.ToolFault.{ToolFault}
+use Rattle.csdf_answers.specs.declared.fault.ToolFault.TheVariants.{Memory}
+use Rattle.csdf_tool.specs.Running.{IsFeedMissing, IsReadAfter, LacksFeed, feed_paths, feed_reads, in_file, read_whole, run_reads}
+use Rattle.csdf_words.specs.CommandLine.{Order}
 
 pub asks_none : (before : Option (List Act)) → Asks before before []
 asks_none None = tt
@@ -59,6 +62,15 @@ only_graph a b word bytes p = (graph_reads word bytes, graph_read word bytes, p)
 pub only_feeds : (a b : Option (List Act)) (folder : List ℕ) (actors : List Actor) (texts : List (List ℕ)) → Asks a b (feed_reads folder actors texts)
     → OnlyReads a b
 only_feeds a b folder actors texts p = (feed_reads folder actors texts, rows_read (zip (feed_paths folder actors) texts), p)
+
+pub only_run : (a b : Option (List Act)) (order : Order) (g : Graph) (bytes : List ℕ) (feeds : List (List ℕ)) → Asks a b (run_reads order g bytes feeds)
+    → OnlyReads a b
+only_run a b order g bytes feeds p = (
+  run_reads order g bytes feeds,
+  both_read (graph_reads order.graph bytes) (feed_reads order.folder g.actors feeds) (graph_read order.graph bytes)
+      (rows_read (zip (feed_paths order.folder g.actors) feeds)),
+  p,
+)
 
 -- ---- one source after another
 
@@ -133,6 +145,30 @@ module _ (before now next : Option (List Act)) (folder : List ℕ) (actors : Lis
         asked = subst (λ paths. Asks before now (map read_whole (zip paths texts))) (sym same) so_far.asked;
         many = ap length same ∙ so_far.many;
       }
+
+  pub missing_next : (f : ToolFault) → (f ≡ Memory) ⊎ ((is_source_kernel actor.kernel ≡ true) × IsFeedMissing folder actor.name now next f)
+      → (f ≡ Memory) ⊎ ((acts : List Act) × Asks before next acts × LacksFeed folder actors acts f)
+  missing_next f (inl memory) = inl memory
+  missing_next f (inr missing) =
+      let h = missing.1 in
+      let last : List Act = Read (path_join folder (in_file actor.name)) (Err h.why) ∷ [] in
+      let front : List Act = feed_reads folder (take place actors) texts in
+      inr (
+        front ++ last,
+        asks_more before now next front last so_far.asked h.files,
+        record {
+          place = place;
+          actor = actor;
+          texts = texts;
+          why = h.why;
+          within = there;
+          here = at;
+          source = missing.0;
+          each = so_far.many;
+          acts_are = refl;
+          told = h.told;
+        },
+      )
 
   pub actor_next : (more : List (List ℕ)) → IsReadAfter folder actor now next texts more → IsReadTo before next folder actors (place + 1) more
   actor_next more h = by (is_source_kernel actor.kernel) refl

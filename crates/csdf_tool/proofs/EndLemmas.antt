@@ -1,21 +1,22 @@
 -- How the program ends, by the answer of its command.
-use Rattle.std.proofs.Common.{◌≡◌, ◌≢◌, ℕ, List, [], ◌∷◌, Bool, true, false, codes, map, Option, Some, None, arith, refl, sym, ap, subst, ◌∙◌, inl, inr}
-use Rattle.std.specs.Prelude.{◌<◌, ◌⊎◌, Result, Ok, Err, IfErr, IfSome, OnOk, length}
-use Rattle.csdf_tool.specs.Carried.{IsCarriedOut, IsInputRefused, PutsOut, IsRefusalOf}
+use Rattle.std.proofs.Common.{◌≡◌, ◌≢◌, ℕ, List, [], Bool, true, Option, Some, None, arith, refl, sym, ap, subst, ◌∙◌, inl, inr}
+use Rattle.std.specs.Prelude.{◌⊎◌, Result, Ok, Err, IfErr, OnOk}
+use Rattle.csdf_tool.specs.Carried.{IsCarriedOut}
 use Rattle.clap.specs.Words.{Kinds, HasKind, Text, fault_of, kind_of, takes}
 use Rattle.clap.specs.declared.error.Error.{Error}
 use Rattle.clap.specs.declared.error.kind.ErrorKind.{ErrorKind}
-use Rattle.clap.specs.declared.error.kind.ErrorKind.TheVariants.{OutOfMemory}
+use Rattle.clap.specs.declared.error.kind.ErrorKind.TheVariants.{DisplayHelp, DisplayVersion, OutOfMemory}
 use Rattle.csdf_words.specs.declared.command.Unread.{Unread}
 use Rattle.csdf_words.specs.declared.command.Unread.TheVariants as unread
 use Rattle.csdf_words.specs.CommandLine.{Asked, IsUnread, program, words_ask}
-use Rattle.csdf_tool.specs.Acts.{Asks, Devices}
-use Rattle.csdf_tool.specs.GraphFiles.{IsGivenBy, IsNamed, graph_reads, is_input}
-use Rattle.csdf_tool.specs.Ends.{Ended, EndsAs, EndsBy, EndsFor, EndsForOneOf, EndsUnread, IsFaultOfFile, IsFaultOfInput}
+use Rattle.csdf_tool.specs.Acts.{Devices}
+use Rattle.csdf_tool.specs.Ends.{AreTaken, Ended, Ending, EndsAs, EndsBy, EndsFor, EndsForOneOf, EndsHelp, EndsInForm, EndsTelling, EndsTold, EndsUnread, TellsLine}
 use Rattle.std.specs.Io.KnownBytes.{Appends}
 use Rattle.csdf_answers.specs.declared.fault.Stream.TheVariants.{Output}
+use Rattle.csdf_answers.specs.declared.question.Form.{Form}
+use Rattle.csdf_answers.specs.declared.question.Form.TheVariants as forms
 use Rattle.csdf_answers.specs.Faults.{status_of}
-use Rattle.csdf_answers.specs.Session.{IsAnswer}
+use Rattle.csdf_answers.specs.Objects.{TellsFault}
 use Rattle.csdf_answers.specs.declared.fault.ToolFault.{ToolFault}
 use Rattle.csdf_answers.specs.declared.fault.ToolFault.TheVariants as fault
 
@@ -44,117 +45,52 @@ not_zero n status is (inr three) zero = omega (arith, is, three, zero)
 
 -- ---- the line beside a status
 
-module _ {status : ℕ} {before after : Option (List ℕ)} {failed : Bool} where
-  pub ends_as : (f : ToolFault) → EndsBy f status before after failed → (g : ToolFault) × EndsAs g status before after failed
+-- a line that tells a fault, where it was put or the device failed
+pub tells_line : (form : Form) (f : ToolFault) (line : List ℕ) (before after : Option (List ℕ)) (failed : Bool) → TellsFault form f line
+    → Appends before after line ⊎ (failed ≡ true) → TellsLine form f before after failed
+tells_line form f line before after failed told (inl put) = inl (line, told, put)
+tells_line form f line before after failed told (inr gone) = inr gone
+
+-- the end of an answer in a form of another name
+pub ended_in : (answer : Result (Unit {0}) ToolFault) (status : ℕ) (before after : Option (List ℕ)) (failed : Bool) {form other : Form} → form ≡ other
+    → Ended form answer status before after failed → Ended other answer status before after failed
+ended_in answer status before after failed same h = subst (λ (form : Form). Ended form answer status before after failed) same h
+
+module _ {form : Form} {status : ℕ} {before after : Option (List ℕ)} {failed : Bool} where
+  pub ends_as : (f : ToolFault) → EndsBy form f status before after failed → (g : ToolFault) × EndsAs form g status before after failed
   ends_as f (inl h) = (f, h)
   ends_as f (inr h) = (fault.Memory, h)
 
   -- where the status is 0, what holds of an answer holds
-  pub at_zero : (answer : Result (Unit {0}) ToolFault) (P : Type 0) → Ended answer status before after failed → status ≡ 0 → OnOk answer P → P
+  pub at_zero : (answer : Result (Unit {0}) ToolFault) (P : Type 0) → Ended form answer status before after failed → status ≡ 0 → OnOk answer P → P
   at_zero (Ok u) P h zero p = p
   at_zero (Err f) P h zero p =
       let told = ends_as f h.by in
       absurd (not_zero (status_of told.0) status told.1.ends (one_or_three told.0) zero)
 
-  -- where it is 1 or 3, the line of a fault is told
-  pub lined : (answer : Result (Unit {0}) ToolFault) → Ended answer status before after failed → (status ≡ 1) ⊎ (status ≡ 3)
-      → (f : ToolFault) × EndsAs f status before after failed
+  -- where it is 1 or 3, a fault is told
+  pub lined : (answer : Result (Unit {0}) ToolFault) → Ended form answer status before after failed → (status ≡ 1) ⊎ (status ≡ 3)
+      → (f : ToolFault) × EndsInForm form f status before after failed
   lined (Ok u) h (inl one) = absurd (let no : 1 ≡ 0 = sym one ∙ h.zero in cc)
   lined (Ok u) h (inr three) = absurd (let no : 3 ≡ 0 = sym three ∙ h.zero in cc)
-  lined (Err f) h told = ends_as f h.by
+  lined (Err f) h told = let ends = ends_as f h.by in (ends.0, inl ends.1)
 
-  refused_by : (f : ToolFault) (P : ToolFault → Type 0) → EndsBy f status before after failed → status ≡ 1 → (status_of f ≡ 1 → P f)
-      → (g : ToolFault) × P g × EndsAs g status before after failed
-  refused_by f P (inl h) one p = (f, p (sym h.ends ∙ one), h)
-  refused_by f P (inr h) one p = absurd (let no : 3 ≡ 1 = sym h.ends ∙ one in cc)
+  -- where it is not 0, the fault is told of which holds what holds of the answer's
+  pub told_of : (answer : Result (Unit {0}) ToolFault) (P : ToolFault → Type 0) → Ended form answer status before after failed → status ≢ 0
+      → IfErr answer P → (f : ToolFault) × P f × EndsTelling form f status before after failed
+  told_of (Ok u) P h some p = absurd (some h.zero)
+  told_of (Err f) P h some p = (f, p, inl h.by)
 
-  -- where it is 1, that of a fault of which holds what holds of the answer's fault
-  pub refused : (answer : Result (Unit {0}) ToolFault) (P : ToolFault → Type 0) → Ended answer status before after failed → status ≡ 1
-      → IfErr answer (λ f. status_of f ≡ 1 → P f) → (f : ToolFault) × P f × EndsAs f status before after failed
-  refused (Ok u) P h one p = absurd (let no : 1 ≡ 0 = sym one ∙ h.zero in cc)
-  refused (Err f) P h one p = refused_by f P h.by one p
+  -- an answer that is this fault is told as it
+  pub told_as : (answer : Result (Unit {0}) ToolFault) (f : ToolFault) → answer ≡ Err f → Ended form answer status before after failed
+      → EndsTelling form f status before after failed
+  told_as (Ok u) f is h = absurd (cc)
+  told_as (Err g) f is h = let same : g ≡ f = cc in subst (λ k. EndsTelling form k status before after failed) same (inl h.by)
 
--- where it is not 0, what holds of the answer's fault holds of one
-pub of_fault : {status : ℕ} {before after : Option (List ℕ)} {failed : Bool} (answer : Result (Unit {0}) ToolFault) (P : ToolFault → Type 0)
-    → Ended answer status before after failed → status ≢ 0 → IfErr answer P → (f : ToolFault) × P f
-of_fault (Ok u) P h some p = absurd (some h.zero)
-of_fault (Err f) P h some p = (f, p)
-
--- ---- faults of standard input
-
--- a fault is that the input is too long, or another
-long_or_not : (f : ToolFault) → (f ≡ fault.TooLong) ⊎ (f ≢ fault.TooLong)
-long_or_not (fault.Graph g) = inr (λ e. cc)
-long_or_not (fault.Line n) = inr (λ e. cc)
-long_or_not (fault.Unbalanced name) = inr (λ e. cc)
-long_or_not (fault.TooLarge name) = inr (λ e. cc)
-long_or_not fault.Deadlock = inr (λ e. cc)
-long_or_not fault.TooTight = inr (λ e. cc)
-long_or_not fault.TooLong = inl refl
-long_or_not (fault.TokenSyntax name line) = inr (λ e. cc)
-long_or_not (fault.TokenRange name line) = inr (λ e. cc)
-long_or_not (fault.TooManyTokens name) = inr (λ e. cc)
-long_or_not fault.Mixed = inr (λ e. cc)
-long_or_not fault.Worker = inr (λ e. cc)
-long_or_not (fault.Device d) = inr (λ e. cc)
-long_or_not fault.Memory = inr (λ e. cc)
-
-of_long : (left : Option (List ℕ)) (f : ToolFault) → f ≡ fault.TooLong
-    → IfSome left (λ bytes. 16777216 < length bytes) → IfSome left (λ bytes. IsFaultOfInput bytes f)
-of_long None f is h = tt
-of_long (Some bytes) f is h = inl (is, h)
-
-of_other : (left : Option (List ℕ)) (f : ToolFault) → IfSome left (λ bytes. IsAnswer bytes (Err f)) → IfSome left (λ bytes. IsFaultOfInput bytes f)
-of_other None f h = tt
-of_other (Some bytes) f h = inr h
-
-by_length : (left : Option (List ℕ)) (f : ToolFault) → (f ≡ fault.TooLong) ⊎ (f ≢ fault.TooLong)
-    → (f ≡ fault.TooLong → IfSome left (λ bytes. 16777216 < length bytes))
-    → (f ≢ fault.TooLong → IfSome left (λ bytes. IsAnswer bytes (Err f))) → IfSome left (λ bytes. IsFaultOfInput bytes f)
-by_length left f (inl is) long other = of_long left f is (long is)
-by_length left f (inr is) long other = of_other left f (other is)
-
-pub input_refused : (answer : Result (Unit {0}) ToolFault) (left : Option (List ℕ))
-    → IfErr answer (λ f. status_of f ≡ 1 → IsInputRefused left f)
-    → IfErr answer (λ f. status_of f ≡ 1 → IfSome left (λ bytes. IsFaultOfInput bytes f))
-input_refused (Ok u) left h = tt
-input_refused (Err f) left h = λ one. by_length left f (long_or_not f) (h one).long (h one).other
-
-pub refuses_input : (answer : Result (Unit {0}) ToolFault) (left : Option (List ℕ))
-    → (answer ≡ Err fault.TooLong → IfSome left (λ bytes. 16777216 < length bytes))
-    → IfErr answer (λ f. status_of f ≡ 1 → f ≢ fault.TooLong → IfSome left (λ bytes. IsAnswer bytes (Err f)))
-    → IfErr answer (λ f. status_of f ≡ 1 → IsInputRefused left f)
-refuses_input (Ok u) left long other = tt
-refuses_input (Err f) left long other = λ one. record { long = λ is. long (ap Err is); other = other one }
-
--- ---- what a word names
-
--- `-` alone names standard input
-words_that_name_input : map is_input (codes "-" ∷ codes "./-" ∷ codes "--" ∷ [] ∷ []) ≡ true ∷ false ∷ false ∷ false ∷ []
-words_that_name_input = refl
-
-module _ (IsAnswerTo : List ℕ → Result (List ℕ) ToolFault → Type 0) (word : Text) (d : Devices) where
-  pub puts_out : (answer : Result (Unit {0}) ToolFault) (bytes : List ℕ) (before after : Option (List ℕ)) → IsGivenBy word d bytes
-      → OnOk answer ((text : List ℕ) × IsAnswerTo bytes (Ok text) × Appends before after text) → OnOk answer (PutsOut IsAnswerTo word d before after)
-  puts_out (Ok u) bytes before after named h = (bytes, h.0, named, h.1, h.2)
-  puts_out (Err f) bytes before after named h = tt
-
-  pub refuses_file : (answer : Result (Unit {0}) ToolFault) (bytes : List ℕ) → IsGivenBy word d bytes
-      → IfErr answer (λ f. f ≢ fault.Memory → f ≢ fault.Device Output → IsAnswerTo bytes (Err f))
-      → IfErr answer (λ f. status_of f ≡ 1 → IsFaultOfFile IsAnswerTo word d f)
-  refuses_file (Ok u) bytes named h = tt
-  refuses_file (Err f) bytes named h = λ one.
-      inr (
-        bytes,
-        named,
-        h (λ is. let three : status_of f ≡ 3 = ap status_of is in omega (arith, three, one))
-            (λ is. let three : status_of f ≡ 3 = ap status_of is in omega (arith, three, one)),
-      )
-
--- bytes that came of a word, seen as a slice
-pub given_bytes : (word : Text) (d : Devices) {bytes seen : List ℕ} → IsNamed word d.left bytes → Asks d.before d.after (graph_reads word bytes) → bytes ≡ seen
-    → IsGivenBy word d seen
-given_bytes word d named files same = subst (IsGivenBy word d) same (record { named = named; files = files })
+  -- where it is 3, the fault of words that were not read is told by its line
+  pub lined_unread : ((status ≡ 1) ⊎ (status ≡ 3) → status ≡ 3) → (status ≡ 3 → (f : ToolFault) × EndsAs forms.Text f status before after failed)
+      → (status ≡ 1) ⊎ (status ≡ 3) → (f : ToolFault) × EndsInForm form f status before after failed
+  lined_unread only told known = let three = only known in let ends = told three in (ends.0, inr (three, ends.1))
 
 -- ---- what is asked for by another name
 
@@ -162,35 +98,69 @@ module _ (d : Devices) (answer : Result (Unit {0}) ToolFault) {asked : Asked} (o
   pub carried_as : (before after : Option (List ℕ)) → OnOk answer (IsCarriedOut asked d before after) → OnOk answer (IsCarriedOut other d before after)
   carried_as before after h = subst (λ a. OnOk answer (IsCarriedOut a d before after)) same h
 
-  pub refused_as : IfErr answer (λ f. status_of f ≡ 1 → IsRefusalOf asked d f) → IfErr answer (λ f. status_of f ≡ 1 → IsRefusalOf other d f)
-  refused_as h = subst (λ a. IfErr answer (λ f. status_of f ≡ 1 → IsRefusalOf a d f)) same h
-
 pub one_asked : {asks : Option Asked} {a b : Asked} → asks ≡ Some a → asks ≡ Some b → a ≡ b
 one_asked first second = cc
 
+-- ---- help and the version
+
+-- they are written, or memory ran out, or standard output failed
+pub help_ends : (answer : Result (Unit {0}) ToolFault) (e : Ending) → Ended forms.Text answer e.status e.before e.after e.failed
+    → IfErr answer (λ f. (f ≡ fault.Memory) ⊎ (f ≡ fault.Device Output)) → (answer ≡ Err (fault.Device Output) → e.unwritten ≡ true) → EndsHelp e
+help_ends (Ok u) e h caused failed = inl h.zero
+help_ends (Err f) e h caused failed = by caused h.by
+  where
+    by : (f ≡ fault.Memory) ⊎ (f ≡ fault.Device Output) → EndsBy forms.Text f e.status e.before e.after e.failed → EndsHelp e
+    by (inl memory) (inl ends) = inr (inl (subst (EndsTold e) memory ends))
+    by (inr output) (inl ends) = inr (inr (failed (ap Err output), subst (EndsTold e) output ends))
+    by why (inr ends) = inr (inl ends)
+
+pub help_for : (kind : ErrorKind) (e : Ending) → (kind ≡ DisplayHelp) ⊎ (kind ≡ DisplayVersion) → EndsHelp e → EndsFor kind e
+help_for kind e (inl help) h = subst (λ (k : ErrorKind). EndsFor k e) (sym help) h
+help_for kind e (inr version) h = subst (λ (k : ErrorKind). EndsFor k e) (sym version) h
+
 -- ---- words that are no request
 
-memory_ends : (e : Error) (status : ℕ) → kind_of e ≡ OutOfMemory → EndsFor (kind_of e) status → status ≡ 3
-memory_ends e status memory ends = subst (λ (k : ErrorKind). EndsFor k status) memory ends
+memory_ends : (error : Error) (e : Ending) → kind_of error ≡ OutOfMemory → EndsFor (kind_of error) e → EndsTold e fault.Memory
+memory_ends error e memory ends = subst (λ (k : ErrorKind). EndsFor k e) memory ends
 
-by_kind : (e : Error) (status : ℕ) (kinds : Kinds) → HasKind kinds e → EndsFor (kind_of e) status → EndsForOneOf kinds status
-by_kind e status kinds (inl memory) ends = inl (memory_ends e status memory ends)
-by_kind e status kinds (inr among) ends = inr (kind_of e, among, ends)
+by_kind : (error : Error) (e : Ending) (kinds : Kinds) → HasKind kinds error → EndsFor (kind_of error) e → EndsForOneOf kinds e
+by_kind error e kinds (inl memory) ends = inl (memory_ends error e memory ends)
+by_kind error e kinds (inr among) ends = inr (kind_of error, among, ends)
 
-module _ (words : List Text) {status : ℕ} where
-  pub unread_ends : (u : Unread) → IsUnread words u → EndsUnread u status → fault_of program words ≢ [] → EndsForOneOf (fault_of program words) status
-  unread_ends (unread.Parse e) why ends some = by_kind e status (fault_of program words) why.0 ends
+-- words that are taken are refused for want of memory alone
+of_taken : (words : List Text) (error : Error) → IsUnread words (unread.Parse error) → AreTaken words → kind_of error ≡ OutOfMemory
+of_taken words error why (inl taken) = why.1 taken
+of_taken words error why (inr none) = by (subst (λ (kinds : Kinds). HasKind kinds error) none why.0)
+  where
+    by : HasKind [] error → kind_of error ≡ OutOfMemory
+    by (inl memory) = memory
+    by (inr among) = absurd among
+
+module _ (words : List Text) (e : Ending) where
+  pub unread_ends : (u : Unread) → IsUnread words u → EndsUnread u e → fault_of program words ≢ [] → EndsForOneOf (fault_of program words) e
+  unread_ends (unread.Parse error) why ends some = by_kind error e (fault_of program words) why.0 ends
   unread_ends (unread.Room text) why ends some = absurd (some why.taken)
   unread_ends unread.Lengths why ends some = absurd (some why.taken)
 
-  pub taken_not_two : (u : Unread) → IsUnread words u → EndsUnread u status → takes program words ≡ true → words_ask words ≢ None → status ≢ 2
-  taken_not_two (unread.Parse e) why ends taken asks =
-      let three = memory_ends e status (why.1 taken) ends in
-      λ two. omega (arith, three, two)
-  taken_not_two (unread.Room text) why ends taken asks = absurd (asks why.nothing)
-  taken_not_two unread.Lengths why ends taken asks = absurd (asks why.nothing)
+  pub taken_ends : (u : Unread) → IsUnread words u → EndsUnread u e → AreTaken words → words_ask words ≢ None → EndsTold e fault.Memory
+  taken_ends (unread.Parse error) why ends taken asks = memory_ends error e (of_taken words error why taken) ends
+  taken_ends (unread.Room text) why ends taken asks = absurd (asks why.nothing)
+  taken_ends unread.Lengths why ends taken asks = absurd (asks why.nothing)
 
-  pub nothing_ends : (u : Unread) → IsUnread words u → EndsUnread u status → takes program words ≡ true → (status ≡ 2) ⊎ (status ≡ 3)
-  nothing_ends (unread.Parse e) why ends taken = inr (memory_ends e status (why.1 taken) ends)
+  pub nothing_ends : (u : Unread) → IsUnread words u → EndsUnread u e → AreTaken words → (e.status ≡ 2) ⊎ EndsTold e fault.Memory
+  nothing_ends (unread.Parse error) why ends taken = inr (memory_ends error e (of_taken words error why taken) ends)
   nothing_ends (unread.Room text) why ends taken = inl ends
   nothing_ends unread.Lengths why ends taken = inl ends
+
+-- a status that is told of want of memory is 3
+pub memory_is_three : (e : Ending) → EndsTold e fault.Memory → e.status ≡ 3
+memory_is_three e told = told.ends
+
+pub some_asked : {asks : Option Asked} {asked : Asked} → asks ≡ Some asked → asks ≢ None
+some_asked is none = let no = sym is ∙ none in cc
+
+-- words that were read are taken, and ask for something
+pub taken_words : (words : List Text) (asked : Asked) → fault_of program words ≡ [] → words_ask words ≡ Some asked
+    → (fault_of program words ≢ []) ⊎ (words_ask words ≡ None) → ⊥
+taken_words words asked none is (inl some) = some none
+taken_words words asked none is (inr nothing) = some_asked is nothing

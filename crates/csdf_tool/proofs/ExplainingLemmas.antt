@@ -1,4 +1,4 @@
--- The lines on the token files of sources, actor after actor, and the faults of an explanation.
+-- The lines on the token files of sources, actor after actor, and why there is no explanation.
 use Rattle.std.proofs.Common.{◌≡◌, ◌<◌, ◌+◌, ℕ, suc, Bool, true, false, cond, List, [], ◌∷◌, ◌++◌, length, map, drop, drop-cons, get_or, append_assoc, refl, ap, sym, subst, ◌∙◌, inl, inr, arith}
 use Rattle.std.specs.Prelude.{◌⊎◌, ◌≤◌, Option, Some, None, Result, Ok, Err, IfErr, OnOk, string_bytes}
 use Rattle.std.specs.Io.KnownBytes.{Appends}
@@ -7,12 +7,12 @@ use Rattle.csdf_model.specs.Graph.{Actor, actor_view}
 use Rattle.csdf_model.specs.declared.parts.Actor.{Actor as ActorCode}
 use Rattle.csdf_core.specs.Layout.{is_source_kernel}
 use Rattle.csdf_answers.specs.Explained.{IsExplained}
-use Rattle.csdf_answers.specs.Faults.{status_of}
 use Rattle.csdf_answers.specs.declared.fault.ToolFault.{ToolFault}
 use Rattle.csdf_answers.specs.declared.fault.ToolFault.TheVariants as fault
 use Rattle.csdf_answers.specs.declared.fault.Stream.TheVariants.{Output}
 use Rattle.csdf_answers.specs.declared.token_note.TokenFile.{TokenFile}
-use Rattle.csdf_tool.specs.Acts.{Act, Asks, Look, devices}
+use Rattle.csdf_tool.specs.Acts.{Act, Asks, Look, Marks, devices}
+use Rattle.csdf_tool.specs.Carried.{LacksExplanation}
 use Rattle.csdf_tool.specs.GraphFiles.{IsNamed, graph_reads}
 use Rattle.csdf_tool.specs.Explaining.{Looked, AreNotes, AreNotesOf, ExplainsFiles, IsExplanation, IsNotedAfter, look_of, note_of, source_names, token_path}
 use Rattle.csdf_tool.proofs.DiskLemmas.{asks_more, asks_none}
@@ -158,14 +158,46 @@ explains_files (Ok u) word folder left asked mid answered before after bytes see
 }
 explains_files (Err f) word folder left asked mid answered before after bytes seen named read same h = tt
 
--- ---- faults
+-- ---- no answer
 
--- want of memory and a failure of standard output end with another status than 1
-no_refusal : (f : ToolFault) → (f ≡ fault.Memory) ⊎ (f ≡ fault.Device Output) → status_of f ≡ 1 → ⊥
-no_refusal f (inl memory) one = let no : 3 ≡ 1 = sym (ap status_of memory) ∙ one in cc
-no_refusal f (inr device) one = let no : 3 ≡ 1 = sym (ap status_of device) ∙ one in cc
+module _ (folder : Option Text) (bytes : List ℕ) (asked answered : Option (List Act)) where
+  -- an explanation that was not written
+  pub unwritten_alone : folder ≡ None → Asks asked answered [] → (text : List ℕ) × IsExplained bytes (Ok text)
+      → (looks : List Act) × (text : List ℕ) × IsExplanation folder bytes looks text × Asks asked answered looks
+  unwritten_alone is none h = subst (λ (f : Option Text). (looks : List Act) × (text : List ℕ) × IsExplanation f bytes looks text × Asks asked answered looks)
+      (sym is) ([], h.0, (h.1, refl), none)
 
-pub never_refused : (r : Result (Unit {0}) ToolFault) (P : ToolFault → Type 0) → IfErr r (λ f. (f ≡ fault.Memory) ⊎ (f ≡ fault.Device Output))
-    → IfErr r (λ f. status_of f ≡ 1 → P f)
-never_refused (Ok u) P h = tt
-never_refused (Err f) P h = λ one. absurd (no_refusal f h one)
+  pub unwritten_with : (named : Text) → folder ≡ Some named → (looks : List Act) × (text : List ℕ) × IsExplanation (Some named) bytes looks text × Asks asked answered looks
+      → (looks : List Act) × (text : List ℕ) × IsExplanation folder bytes looks text × Asks asked answered looks
+  unwritten_with named is h = subst (λ (f : Option Text). (looks : List Act) × (text : List ℕ) × IsExplanation f bytes looks text × Asks asked answered looks) (sym is) h
+
+-- with a folder, an explanation that was not written
+pub unwritten_notes : (bytes : List ℕ) (asked answered : Option (List Act)) (folder : Text) (all : List Looked) (notes : List ℕ) → AreNotesOf folder bytes all notes
+    → Asks asked answered (map (look_of folder) all) → (text : List ℕ) × IsExplained bytes (Ok text)
+    → (looks : List Act) × (text : List ℕ) × IsExplanation (Some folder) bytes looks text × Asks asked answered looks
+unwritten_notes bytes asked answered folder all notes are looked h = (map (look_of folder) all, h.0 ++ notes, (all, h.0, notes, h.1, are, refl, refl), looked)
+
+-- of the bytes that a word names
+pub lacks_explanation : (r : Result (Unit {0}) ToolFault) (word : Text) (folder : Option Text) (left : Option (List ℕ)) (asked mid answered : Option (List Act)) (m : Marks)
+    (bytes seen : List ℕ) → IsNamed word left bytes → Asks asked mid (graph_reads word bytes) → bytes ≡ seen
+    → IfErr r (λ f. (f ≡ fault.Memory) ⊎ (f ≡ fault.Device Output))
+    → (r ≡ Err (fault.Device Output)
+    → ((looks : List Act) × (text : List ℕ) × IsExplanation folder seen looks text × Asks mid answered looks) × (m.output ≡ true))
+    → IfErr r (LacksExplanation word folder (devices left asked answered) m)
+lacks_explanation (Ok u) word folder left asked mid answered m bytes seen named read same caused failed = tt
+lacks_explanation (Err f) word folder left asked mid answered m bytes seen named read same caused failed = by caused
+  where
+    by : (f ≡ fault.Memory) ⊎ (f ≡ fault.Device Output) → LacksExplanation word folder (devices left asked answered) m f
+    by (inl memory) = inl (inl memory)
+    by (inr output) =
+        let told = failed (ap Err output) in
+        inr (record {
+          bytes = seen;
+          looks = told.0.0;
+          text = told.0.1;
+          named = subst (IsNamed word left) same named;
+          explanation = told.0.2;
+          files = asks_more asked mid answered (graph_reads word seen) told.0.0 (subst (λ bs. Asks asked mid (graph_reads word bs)) same read) told.0.3;
+          told = output;
+          failed = told.1;
+        })

@@ -1,4 +1,8 @@
+pub mod CauseLemmas
 pub mod DiskLemmas
 pub mod EndLemmas
 pub mod ExplainingLemmas
+pub mod FeedLemmas
+pub mod InputExamples
+pub mod ReportLemmas
 pub mod RunLemmas

@@ -1,14 +1,12 @@
 -- The files of a run, and the faults that are told of them.
-use Rattle.std.proofs.Common.{◌≡◌, ◌≢◌, ℕ, suc, zero, ◌+◌, ◌<◌, true, false, cond, List, [], ◌∷◌, ◌++◌, length, map, take, drop, get_or, refl, ap, sym}
+use Rattle.std.proofs.Common.{◌≡◌, ◌≢◌, ℕ, suc, zero, ◌+◌, ◌<◌, Bool, true, false, cond, List, [], ◌∷◌, ◌++◌, length, map, take, drop, get_or, refl, ap, sym}
 use Rattle.std.proofs.Common.{subst, ◌∙◌, arith, append_assoc, inl, inr, Ok, Err, Option, Some, None, Bor, option_map}
-use Rattle.std.specs.Prelude.{◌⊎◌, is_some}
-use Rattle.std.proofs.lemmas.List.{get_or-drop, get_or-map, length-map, map-append, take_more}
-use Rattle.std.specs.String.{string_bytes}
-use Rattle.csdf_model.specs.Graph.{Actor, Graph, actor_view}
+use Rattle.std.specs.Prelude.{◌⊎◌, IfErr, IsErrAnd, Result, is_some}
+use Rattle.std.proofs.lemmas.List.{get_or-drop, map-append, take_more}
+use Rattle.csdf_model.specs.Graph.{Actor, Graph}
 use Rattle.csdf_graph.specs.GraphText.{IsGraphOf}
 use Rattle.csdf_graph.specs.declared.fault.GraphFault.{GraphFault}
-use Rattle.csdf_model.specs.declared.parts.Actor.{Actor as ActorCode}
-use Rattle.csdf_core.specs.Layout.{is_source_kernel}
+use Rattle.csdf_graph.specs.declared.fault.GraphFault.TheVariants as graph
 use Rattle.csdf_floor.specs.Work.{is_sink_kernel}
 use Rattle.csdf_answers.specs.declared.fault.ToolFault.{ToolFault}
 use Rattle.csdf_answers.specs.declared.fault.ToolFault.TheVariants as fault
@@ -21,14 +19,16 @@ use Rattle.csdf_run.specs.Texts.{MayGoOn}
 use Rattle.csdf_words.specs.CommandLine.{Order}
 use Rattle.csdf_words.specs.HowLong.{MayBeAsked}
 use Rattle.csdf_tool.specs.GraphFiles.{IsNamed}
-use Rattle.csdf_answers.specs.Faults.{fault_of, status_of}
-use Rattle.csdf_tool.specs.Acts.{Act, Asks}
-use Rattle.csdf_tool.specs.Running.{IsCutShort, IsUnput, IsUnread, IsUnreadActor, IsUnreadOf, RefusesFiles, RefusesRun, Written}
+use Rattle.csdf_answers.specs.Faults.{fault_of}
+use Rattle.csdf_tool.specs.Acts.{Act, Asks, Marks, OnlyReads, devices}
+use Rattle.csdf_tool.specs.Running.{EndsBeforeFiles, EndsOnFiles, IsCutShort, IsUnput, LacksFeed, RefusesRun, StopsRun, Written}
 use Rattle.csdf_tool.specs.GraphFiles.{graph_reads}
-use Rattle.csdf_tool.specs.Running.{feed_reads, out_file, put_fault, put_whole, run_reads, sink_files}
+use Rattle.csdf_tool.specs.Running.{feed_paths, feed_reads, out_file, put_fault, put_whole, run_reads, sink_files}
 use Rattle.csdf_tool.specs.declared.put_fault.PutFault.{PutFault}
 use Rattle.csdf_tool.specs.declared.put_fault.PutFault.TheVariants as put
-use Rattle.csdf_tool.proofs.DiskLemmas.{asks_more}
+use Rattle.csdf_tool.proofs.CauseLemmas.{memory_or_not}
+use Rattle.csdf_tool.proofs.FeedLemmas.{no_stream}
+use Rattle.csdf_tool.proofs.DiskLemmas.{asks_more, only_feeds, only_graph, only_more}
 
 -- ---- how long
 
@@ -43,22 +43,6 @@ may_go_on room bytes lengths.UntilDry may = tt
 pub is_some-map : (word : Option (Bor (List ℕ))) → is_some (option_map (λ w. w.now) word) ≡ is_some word
 is_some-map None = refl
 is_some-map (Some w) = refl
-
--- ---- sources
-
--- the token file of the source at a place was not read
-pub unread_here : (actors : List ActorCode) (i : ℕ) (d : ActorCode) (fault : ToolFault) → i < length actors → d ≡ get_or actors i d
-    → is_source_kernel (actor_view d).kernel ≡ true → IsUnread (string_bytes d.name) fault → IsUnreadOf (map actor_view actors) fault
-unread_here actors i d fault lt is source unread =
-    let within : i < length (map actor_view actors) = omega (arith, lt, length-map actors actor_view) in
-    let seen : get_or (map actor_view actors) i (actor_view d) ≡ actor_view d = get_or-map actor_view actors i d (actor_view d) lt ∙ ap actor_view (sym is) in
-    inr (i, actor_view d, within, seen, (source, unread))
-
--- and so of an actor at a place, if it is one
-pub unread_at : (actors : List ActorCode) (i : ℕ) (d : ActorCode) (fault : ToolFault) → i < length actors → d ≡ get_or actors i d
-    → IsUnreadActor (actor_view d) fault → IsUnreadOf (map actor_view actors) fault
-unread_at actors i d fault lt is (inl memory) = inl memory
-unread_at actors i d fault lt is (inr why) = unread_here actors i d fault lt is why.0 why.1
 
 -- ---- sinks
 
@@ -124,40 +108,113 @@ module _ (folder : List ℕ) (n : ℕ) (actor : Actor) (actors : List Actor) (te
 
 -- ---- faults
 
-pub not_memory : (f : ToolFault) → status_of f ≡ 1 → f ≢ fault.Memory
-not_memory f one is =
-    let three : status_of f ≡ 3 = ap status_of is in
-    omega (arith, three, one)
+-- a file that was not put is no failure of standard output
+memory_ends : (f : ToolFault) → f ≡ fault.Memory → f ≢ fault.Device Output
+memory_ends f memory = λ e. let no : fault.Memory ≡ fault.Device Output = sym memory ∙ e in cc
 
--- a file that was not put is a failure, and not one of standard output
-memory_ends : (f : ToolFault) → f ≡ fault.Memory → (status_of f ≡ 3) × (f ≢ fault.Device Output)
-memory_ends f memory = (ap status_of memory, λ e. let no : fault.Memory ≡ fault.Device Output = sym memory ∙ e in cc)
-
-unput_why : (name : List ℕ) (f : ToolFault) (why : PutFault) → f ≡ put_fault name why → (status_of f ≡ 3) × (f ≢ fault.Device Output)
+unput_why : (name : List ℕ) (f : ToolFault) (why : PutFault) → f ≡ put_fault name why → f ≢ fault.Device Output
 unput_why name f put.Memory is = memory_ends f is
-unput_why name f put.Device is = (ap status_of is, λ e. let no : fault.Device (File name) ≡ fault.Device Output = sym is ∙ e in cc)
+unput_why name f put.Device is = λ e. let no : fault.Device (File name) ≡ fault.Device Output = sym is ∙ e in cc
 
-unput_ends : (file : Written) (acts : List Act) (f : ToolFault) → IsUnput file acts f → (status_of f ≡ 3) × (f ≢ fault.Device Output)
+unput_ends : (file : Written) (acts : List Act) (f : ToolFault) → IsUnput file acts f → f ≢ fault.Device Output
 unput_ends file acts f (inl none) = memory_ends f none.1
 unput_ends file acts f (inr some) = unput_why file.name f some.0 some.2
 
 cut_by : (files : List Written) (many : ℕ) (last : List Act) (f : ToolFault)
     → ((last ≡ []) × (f ≡ fault.Memory)) ⊎ ((file : Written) × (many < length files) × (get_or files many file ≡ file) × IsUnput file last f)
-    → (status_of f ≡ 3) × (f ≢ fault.Device Output)
+    → f ≢ fault.Device Output
 cut_by files many last f (inl none) = memory_ends f none.1
 cut_by files many last f (inr some) = unput_ends some.0 last f some.3
 
-pub cut_ends : (files : List Written) (acts : List Act) (f : ToolFault) → IsCutShort files acts f → (status_of f ≡ 3) × (f ≢ fault.Device Output)
+pub cut_ends : (files : List Written) (acts : List Act) (f : ToolFault) → IsCutShort files acts f → f ≢ fault.Device Output
 cut_ends files acts f cut = cut_by files cut.many cut.last f cut.cut
 
--- why a graph file is not run
-module _ (order : Order) (left : Option (List ℕ)) (bytes : List ℕ) (named : IsNamed order.graph left bytes) (f : ToolFault) where
-  pub refused_by_graph : (why : GraphFault) → IsGraphOf bytes (Err why) → f ≡ fault_of why → RefusesFiles order left f
-  refused_by_graph why read is = inr (bytes, named, inl (why, read, is))
+-- ---- why a run ends before its files are put
 
-  module _ (g : Graph) (read : IsGraphOf bytes (Ok g)) where
-    pub refused_by_feed : IsUnreadOf g.actors f → RefusesFiles order left f
-    refused_by_feed unread = inr (bytes, named, inr (g, read, inl unread))
+graph_memory : (why : GraphFault) → (why ≡ graph.Memory) ⊎ (why ≢ graph.Memory)
+graph_memory graph.NotToml = inr (λ e. cc)
+graph_memory (graph.Shape at) = inr (λ e. cc)
+graph_memory (graph.Name at) = inr (λ e. cc)
+graph_memory (graph.Range at) = inr (λ e. cc)
+graph_memory (graph.UnknownActor c) = inr (λ e. cc)
+graph_memory (graph.PhaseLength c) = inr (λ e. cc)
+graph_memory (graph.ZeroRate c) = inr (λ e. cc)
+graph_memory (graph.KernelPorts a) = inr (λ e. cc)
+graph_memory graph.NotConnected = inr (λ e. cc)
+graph_memory graph.Memory = inl refl
 
-    pub refused_by_texts : (feeds : List (List ℕ)) → RefusesRun order.room g bytes feeds f → RefusesFiles order left f
-    refused_by_texts feeds refuses = inr (bytes, named, inr (g, read, inr (feeds, refuses)))
+module _ (order : Order) (left : Option (List ℕ)) (failed : Bool) (bytes seen : List ℕ) (same : bytes ≡ seen) (named : IsNamed order.graph left bytes) (f : ToolFault) where
+  module _ (a b : Option (List Act)) (read : Asks a b (graph_reads order.graph bytes)) where
+    -- the graph is refused
+    pub stops_by_graph : (why : GraphFault) → (why ≢ graph.Memory → IsGraphOf seen (Err why)) → f ≡ fault_of why
+        → EndsBeforeFiles order (devices left a b) failed f
+    stops_by_graph why is told = record { only = only_graph a b order.graph bytes read; why = by (graph_memory why) }
+      where
+        by : (why ≡ graph.Memory) ⊎ (why ≢ graph.Memory) → StopsRun order (devices left a b) failed f
+        by (inl memory) = inl (inl (told ∙ ap fault_of memory))
+        by (inr other) =
+            inr (
+              seen,
+              subst (IsNamed order.graph left) same named,
+              inl (why, is other, subst (λ bs. Asks a b (graph_reads order.graph bs)) same read, told),
+            )
+
+  module _ (a b c : Option (List Act)) (read : Asks a b (graph_reads order.graph bytes)) (g : Graph) (is : IsGraphOf seen (Ok g)) where
+    -- a token file is not read
+    pub stops_by_feed : OnlyReads b c → (actors : List Actor) → actors ≡ g.actors
+        → (f ≡ fault.Memory) ⊎ ((acts : List Act) × Asks b c acts × LacksFeed order.folder actors acts f)
+        → EndsBeforeFiles order (devices left a c) failed f
+    stops_by_feed more actors same_actors missing =
+        record { only = only_more a b c (only_graph a b order.graph bytes read) more; why = by missing }
+      where
+        by : (f ≡ fault.Memory) ⊎ ((acts : List Act) × Asks b c acts × LacksFeed order.folder actors acts f) → StopsRun order (devices left a c) failed f
+        by (inl memory) = inl (inl memory)
+        by (inr lacks) =
+            inr (
+              seen,
+              subst (IsNamed order.graph left) same named,
+              inr (
+                g,
+                is,
+                inl (
+                  lacks.0,
+                  asks_more a b c (graph_reads order.graph seen) lacks.0 (subst (λ bs. Asks a b (graph_reads order.graph bs)) same read) lacks.1,
+                  subst (λ xs. LacksFeed order.folder xs lacks.0 f) same_actors lacks.2,
+                ),
+              ),
+            )
+
+    -- the texts make no run
+    pub stops_by_texts : (actors : List Actor) → actors ≡ g.actors → (feeds others : List (List ℕ)) → feeds ≡ others
+        → Asks b c (feed_reads order.folder actors feeds) → length (feed_paths order.folder actors) ≡ length feeds
+        → (f ≢ fault.Memory → RefusesRun order.room g seen others f) → EndsBeforeFiles order (devices left a c) failed f
+    stops_by_texts actors same_actors feeds others same_feeds more each refuses = record {
+      only = only_more a b c (only_graph a b order.graph bytes read) (only_feeds b c order.folder actors feeds more);
+      why = by (memory_or_not f);
+    }
+      where
+        by : (f ≡ fault.Memory) ⊎ (f ≢ fault.Memory) → StopsRun order (devices left a c) failed f
+        by (inl memory) = inl (inl memory)
+        by (inr other) =
+            inr (
+              seen,
+              subst (IsNamed order.graph left) same named,
+              inr (
+                g,
+                is,
+                inr (record {
+                  feeds = others;
+                  files = run_asks order g bytes seen actors feeds others a b c read more same same_actors same_feeds;
+                  each = subst (λ fs. length (feed_paths order.folder g.actors) ≡ length fs) same_feeds
+                      (subst (λ xs. length (feed_paths order.folder xs) ≡ length feeds) same_actors each);
+                  refuses = refuses other;
+                  no_stream = no_stream order.room g seen others f (refuses other);
+                }),
+              ),
+            )
+
+-- memory ran out before a file was put
+pub ends_for_memory : (r : Result (Unit {0}) ToolFault) (order : Order) (left : Option (List ℕ)) (a b : Option (List Act)) (m : Marks)
+    → IsErrAnd r (λ e. e ≡ fault.Memory) → OnlyReads a b → IfErr r (EndsOnFiles order (devices left a b) m)
+ends_for_memory (Ok u) order left a b m is only = absurd is
+ends_for_memory (Err f) order left a b m is only = inl (record { only = only; why = inl (inl is) })

@@ -1,5 +1,5 @@
 -- What is asked of files, and what comes of it.
-use Rattle.std.specs.Prelude.{◌≡◌, ◌++◌, ℕ, List, Option, Some, None, Result, Ok, Err, IfSome}
+use Rattle.std.specs.Prelude.{◌≡◌, ◌++◌, ℕ, Bool, List, Option, Some, None, Result, Ok, Err, IfSome}
 use Rattle.std.specs.List.{AllByRecursion}
 use Rattle.std.specs.Global.{Vec}
 use Rattle.clap.specs.Words.{Text}
@@ -46,3 +46,11 @@ pub record Devices : Type 0 where
 
 abbrev pub devices : Option (List ℕ) → Option (List Act) → Option (List Act) → Devices
 devices left before after = record { left = left; before = before; after = after }
+
+-- the marks of standard input and standard output after a command: whether each has failed
+pub record Marks : Type 0 where
+  pub input : Bool
+  pub output : Bool
+
+abbrev pub marks : Bool → Bool → Marks
+marks input output = record { input = input; output = output }

@@ -1,40 +1,70 @@
 -- What comes of what is asked for.
-use Rattle.std.specs.Prelude.{◌≡◌, ◌≢◌, ◌<◌, ℕ, List, Option, Result, Ok, Err, IfSome, length}
+use Rattle.std.specs.Prelude.{◌≡◌, ◌⊎◌, ℕ, List, Option, Bool, true, Result, Ok, Err, codes, ◌++◌}
 use Rattle.std.specs.Io.KnownBytes.{Appends}
 use Rattle.clap.specs.Words.{Text}
-use Rattle.csdf_answers.specs.Described.{IsDescription}
+use Rattle.csdf_answers.specs.Objects.{IsDescriptionAs}
 use Rattle.csdf_answers.specs.Session.{IsAnswer}
 use Rattle.csdf_answers.specs.declared.fault.ToolFault.{ToolFault}
-use Rattle.csdf_answers.specs.declared.fault.ToolFault.TheVariants.{TooLong}
+use Rattle.csdf_answers.specs.declared.fault.ToolFault.TheVariants.{Device}
+use Rattle.csdf_answers.specs.declared.fault.Stream.TheVariants.{Output}
 use Rattle.csdf_words.specs.CommandLine.{Asked, Input, Moves, Ask, Explain, Run}
-use Rattle.csdf_tool.specs.Ends.{IsFaultOfFile}
-use Rattle.csdf_tool.specs.Acts.{Devices}
-use Rattle.csdf_tool.specs.Explaining.{ExplainsFiles}
-use Rattle.csdf_tool.specs.GraphFiles.{IsGivenBy, IsTooLong}
-use Rattle.csdf_tool.specs.Running.{RefusesFiles, RunsOnFiles}
+use Rattle.csdf_tool.specs.Acts.{Act, Asks, Devices, Marks}
+use Rattle.csdf_tool.specs.Explaining.{ExplainsFiles, IsExplanation}
+use Rattle.csdf_tool.specs.GraphFiles.{IsGivenBy, IsNamed, IsNotGiven, graph_reads, is_input}
+use Rattle.csdf_tool.specs.Running.{EndsOnFiles, RunsOnFiles}
 
 -- bytes that a word names have an answer by a command, and it was put at the end of what a device has taken, where that is known
 abbrev pub PutsOut : (List ℕ → Result (List ℕ) ToolFault → Type 0) → Text → Devices → Option (List ℕ) → Option (List ℕ) → Type 0
 PutsOut IsAnswerTo word d before after =
     (bytes : List ℕ) × (text : List ℕ) × IsGivenBy word d bytes × IsAnswerTo bytes (Ok text) × Appends before after text
 
--- what is asked for is put out: of standard input, where what is left of it is known, or of what a word names
+-- what is asked for is put out: of standard input, or of what a word names
 abbrev pub IsCarriedOut : Asked → Devices → Option (List ℕ) → Option (List ℕ) → Type 0
-IsCarriedOut Input d before after = IfSome d.left (λ bytes. (text : List ℕ) × IsAnswer bytes (Ok text) × Appends before after text)
+IsCarriedOut Input d before after = PutsOut IsAnswer (codes "-") d before after
 IsCarriedOut (Moves path) d before after = PutsOut IsAnswer path d before after
-IsCarriedOut (Ask question room path) d before after = PutsOut (IsDescription question room) path d before after
+IsCarriedOut (Ask question form room path) d before after = PutsOut (IsDescriptionAs form question room) path d before after
 IsCarriedOut (Explain path folder) d before after = ExplainsFiles path folder d before after
 IsCarriedOut (Run order) d before after = RunsOnFiles order d before after
 
--- standard input is too long, or what is left of it has this fault by its script
-pub record IsInputRefused (left : Option (List ℕ)) (fault : ToolFault) : Type 0 where
-  pub long : fault ≡ TooLong → IfSome left (λ bytes. 16777216 < length bytes)
-  pub other : fault ≢ TooLong → IfSome left (λ bytes. IsAnswer bytes (Err fault))
+-- ---- why it is not
 
--- why what is asked for is refused
-abbrev pub IsRefusalOf : Asked → Devices → ToolFault → Type 0
-IsRefusalOf Input d fault = IsInputRefused d.left fault
-IsRefusalOf (Moves path) d fault = IsFaultOfFile IsAnswer path d fault
-IsRefusalOf (Ask question room path) d fault = IsFaultOfFile (IsDescription question room) path d fault
-IsRefusalOf (Explain path folder) d fault = IsTooLong path d.left fault
-IsRefusalOf (Run order) d fault = RefusesFiles order d.left fault
+-- these bytes have this fault by a command; or they have an answer, and standard output failed
+abbrev pub IsUnanswered : (List ℕ → Result (List ℕ) ToolFault → Type 0) → List ℕ → Marks → ToolFault → Type 0
+IsUnanswered IsAnswerTo bytes m fault =
+    IsAnswerTo bytes (Err fault) ⊎ ((text : List ℕ) × IsAnswerTo bytes (Ok text) × (fault ≡ Device Output) × (m.output ≡ true))
+
+-- why a command has no answer: no bytes came of what the word names, or memory ran out; or the bytes that came have none, and nothing else was asked of files
+abbrev pub LacksAnswer : (List ℕ → Result (List ℕ) ToolFault → Type 0) → Text → Devices → Marks → ToolFault → Type 0
+LacksAnswer IsAnswerTo word d m fault =
+    IsNotGiven word d m.input fault ⊎ ((bytes : List ℕ) × IsGivenBy word d bytes × IsUnanswered IsAnswerTo bytes m fault)
+
+-- there is an explanation of the bytes that a word names, and standard output failed
+pub record IsUnexplained (word : Text) (folder : Option Text) (d : Devices) (m : Marks) (fault : ToolFault) : Type 0 where
+  pub bytes : List ℕ
+  pub looks : List Act
+  pub text : List ℕ
+  pub named : IsNamed word d.left bytes
+  pub explanation : IsExplanation folder bytes looks text
+  pub files : Asks d.before d.after (graph_reads word bytes ++ looks)
+  pub told : fault ≡ Device Output
+  pub failed : m.output ≡ true
+
+-- why there is no explanation: no fault of the file is a cause
+abbrev pub LacksExplanation : Text → Option Text → Devices → Marks → ToolFault → Type 0
+LacksExplanation word folder d m fault = IsNotGiven word d m.input fault ⊎ IsUnexplained word folder d m fault
+
+-- why what is asked for is not put out, as the fault tells it
+abbrev pub IsCauseOf : Asked → Devices → Marks → ToolFault → Type 0
+IsCauseOf Input d m fault = LacksAnswer IsAnswer (codes "-") d m fault
+IsCauseOf (Moves path) d m fault = LacksAnswer IsAnswer path d m fault
+IsCauseOf (Ask question form room path) d m fault = LacksAnswer (IsDescriptionAs form question room) path d m fault
+IsCauseOf (Explain path folder) d m fault = LacksExplanation path folder d m fault
+IsCauseOf (Run order) d m fault = EndsOnFiles order d m fault
+
+-- whether what is asked for is asked of standard input
+abbrev pub reads_input : Asked → Bool
+reads_input Input = true
+reads_input (Moves path) = is_input path
+reads_input (Ask question form room path) = is_input path
+reads_input (Explain path folder) = is_input path
+reads_input (Run order) = is_input order.graph

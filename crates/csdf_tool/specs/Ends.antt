@@ -1,59 +1,87 @@
 -- How the program ends: its exit status, and the line beside it on standard error.
-use Rattle.std.specs.Prelude.{◌≡◌, ◌⊎◌, ◌<◌, ℕ, List, ◌++◌, Bool, true, Option, Result, Err, IfErr, OnOk, length}
+use Rattle.std.specs.Prelude.{◌≡◌, ◌⊎◌, ℕ, List, [], Bool, true, Option, Result, IfErr, OnOk}
 use Rattle.std.specs.Io.KnownBytes.{Appends}
-use Rattle.clap.specs.Words.{Kinds, Text, IsAmong, kind_of}
+use Rattle.clap.specs.Words.{Kinds, Text, IsAmong, fault_of, kind_of, takes}
 use Rattle.clap.specs.declared.error.kind.ErrorKind.{ErrorKind}
 use Rattle.clap.specs.declared.error.kind.ErrorKind.TheVariants.{DisplayHelp, DisplayVersion, OutOfMemory}
 use Rattle.csdf_answers.specs.declared.fault.ToolFault.{ToolFault}
-use Rattle.csdf_answers.specs.declared.fault.ToolFault.TheVariants.{TooLong, Memory}
-use Rattle.csdf_answers.specs.Faults.{fault_text, status_of}
-use Rattle.csdf_answers.specs.Printed.{newline}
-use Rattle.csdf_answers.specs.Session.{IsAnswer}
-use Rattle.csdf_tool.specs.Acts.{Devices}
-use Rattle.csdf_tool.specs.GraphFiles.{IsGivenBy, IsTooLong}
+use Rattle.csdf_answers.specs.declared.fault.ToolFault.TheVariants.{Device, Memory}
+use Rattle.csdf_answers.specs.declared.fault.Stream.TheVariants.{Output}
+use Rattle.csdf_answers.specs.declared.question.Form.{Form}
+use Rattle.csdf_answers.specs.declared.question.Form.TheVariants as forms
+use Rattle.csdf_answers.specs.Faults.{status_of}
+use Rattle.csdf_answers.specs.Objects.{TellsFault}
+use Rattle.csdf_words.specs.CommandLine.{program}
 use Rattle.csdf_words.specs.declared.command.Unread.{Unread}
 use Rattle.csdf_words.specs.declared.command.Unread.TheVariants as unread
 
--- the fault's line was put at the end of what a device has taken, where that is known, or the device failed
-abbrev pub TellsLine : ToolFault → Option (List ℕ) → Option (List ℕ) → Bool → Type 0
-TellsLine fault before after failed = Appends before after (fault_text fault ++ newline) ⊎ (failed ≡ true)
+-- a text that tells the fault in a form was put at the end of what a device has taken, where that is known, or the device failed
+abbrev pub TellsLine : Form → ToolFault → Option (List ℕ) → Option (List ℕ) → Bool → Type 0
+TellsLine form fault before after failed = ((line : List ℕ) × TellsFault form fault line × Appends before after line) ⊎ (failed ≡ true)
 
--- the status is the fault's, and its line is told
-pub record EndsAs (fault : ToolFault) (status : ℕ) (before after : Option (List ℕ)) (failed : Bool) : Type 0 where
+-- the status is the fault's, and it is told in this form
+pub record EndsAs (form : Form) (fault : ToolFault) (status : ℕ) (before after : Option (List ℕ)) (failed : Bool) : Type 0 where
   pub ends : status ≡ status_of fault
-  pub line : TellsLine fault before after failed
+  pub line : TellsLine form fault before after failed
 
 -- the same, or the end is that of want of memory
-abbrev pub EndsBy : ToolFault → ℕ → Option (List ℕ) → Option (List ℕ) → Bool → Type 0
-EndsBy fault status before after failed = EndsAs fault status before after failed ⊎ EndsAs Memory status before after failed
+abbrev pub EndsBy : Form → ToolFault → ℕ → Option (List ℕ) → Option (List ℕ) → Bool → Type 0
+EndsBy form fault status before after failed = EndsAs form fault status before after failed ⊎ EndsAs form Memory status before after failed
 
 -- the end of an answer: status 0, or that of its fault
-pub record Ended (answer : Result (Unit {0}) ToolFault) (status : ℕ) (before after : Option (List ℕ)) (failed : Bool) : Type 0 where
+pub record Ended (form : Form) (answer : Result (Unit {0}) ToolFault) (status : ℕ) (before after : Option (List ℕ)) (failed : Bool) : Type 0 where
   pub zero : OnOk answer (status ≡ 0)
-  pub by : IfErr answer (λ fault. EndsBy fault status before after failed)
+  pub by : IfErr answer (λ fault. EndsBy form fault status before after failed)
 
--- these bytes are too long, or have this fault by their script
-abbrev pub IsFaultOfInput : List ℕ → ToolFault → Type 0
-IsFaultOfInput bytes fault = ((fault ≡ TooLong) × (16777216 < length bytes)) ⊎ IsAnswer bytes (Err fault)
+-- the status is the fault's, and it is told in this form, or where the status is 3 by its line
+abbrev pub EndsInForm : Form → ToolFault → ℕ → Option (List ℕ) → Option (List ℕ) → Bool → Type 0
+EndsInForm form fault status before after failed =
+    EndsAs form fault status before after failed ⊎ ((status ≡ 3) × EndsAs forms.Text fault status before after failed)
 
--- what a word names is too long, or the bytes that it names have this fault by a command
-abbrev pub IsFaultOfFile : (List ℕ → Result (List ℕ) ToolFault → Type 0) → Text → Devices → ToolFault → Type 0
-IsFaultOfFile IsAnswerTo word d fault =
-    IsTooLong word d.left fault ⊎ ((bytes : List ℕ) × IsGivenBy word d bytes × IsAnswerTo bytes (Err fault))
+-- the fault is told in this form, or want of memory is: for the line, or where memory ran out before the words were read, by its line
+abbrev pub EndsTelling : Form → ToolFault → ℕ → Option (List ℕ) → Option (List ℕ) → Bool → Type 0
+EndsTelling form fault status before after failed =
+    EndsBy form fault status before after failed ⊎ EndsAs forms.Text Memory status before after failed
 
--- how words that are refused for this reason end: help and the version are answered unless memory or a device fails, and no other words are
-abbrev pub EndsFor : ErrorKind → ℕ → Type 0
-EndsFor DisplayHelp status = (status ≡ 0) ⊎ (status ≡ 3)
-EndsFor DisplayVersion status = (status ≡ 0) ⊎ (status ≡ 3)
-EndsFor OutOfMemory status = status ≡ 3
-EndsFor _ status = status ≡ 2
+-- ---- words that are refused
+
+-- how the program ends: its status, what standard error had taken before and after, whether it failed, and whether standard output did
+pub record Ending : Type 0 where
+  pub status : ℕ
+  pub before : Option (List ℕ)
+  pub after : Option (List ℕ)
+  pub failed : Bool
+  pub unwritten : Bool
+
+abbrev pub ending : ℕ → Option (List ℕ) → Option (List ℕ) → Bool → Bool → Ending
+ending status before after failed unwritten =
+    record { status = status; before = before; after = after; failed = failed; unwritten = unwritten }
+
+-- with this fault and its line
+abbrev pub EndsTold : Ending → ToolFault → Type 0
+EndsTold e fault = EndsAs forms.Text fault e.status e.before e.after e.failed
+
+-- how help and the version end: they are written, or memory ran out, or standard output failed
+abbrev pub EndsHelp : Ending → Type 0
+EndsHelp e = (e.status ≡ 0) ⊎ (EndsTold e Memory ⊎ ((e.unwritten ≡ true) × EndsTold e (Device Output)))
+
+-- how words that are refused for this reason end: no others are answered
+abbrev pub EndsFor : ErrorKind → Ending → Type 0
+EndsFor DisplayHelp e = EndsHelp e
+EndsFor DisplayVersion e = EndsHelp e
+EndsFor OutOfMemory e = EndsTold e Memory
+EndsFor _ e = e.status ≡ 2
 
 -- the same for one of these reasons, unless memory ran out
-abbrev pub EndsForOneOf : Kinds → ℕ → Type 0
-EndsForOneOf kinds status = (status ≡ 3) ⊎ ((kind : ErrorKind) × IsAmong kind kinds × EndsFor kind status)
+abbrev pub EndsForOneOf : Kinds → Ending → Type 0
+EndsForOneOf kinds e = EndsTold e Memory ⊎ ((kind : ErrorKind) × IsAmong kind kinds × EndsFor kind e)
 
 -- how words that are no request end
-abbrev pub EndsUnread : Unread → ℕ → Type 0
-EndsUnread (unread.Parse error) status = EndsFor (kind_of error) status
-EndsUnread (unread.Room text) status = status ≡ 2
-EndsUnread unread.Lengths status = status ≡ 2
+abbrev pub EndsUnread : Unread → Ending → Type 0
+EndsUnread (unread.Parse error) e = EndsFor (kind_of error) e
+EndsUnread (unread.Room text) e = e.status ≡ 2
+EndsUnread unread.Lengths e = e.status ≡ 2
+
+-- the parser takes the words: by its test, or since no reason is among those that it may refuse them for
+abbrev pub AreTaken : List Text → Type 0
+AreTaken words = (takes program words ≡ true) ⊎ (fault_of program words ≡ [])

@@ -1,10 +1,12 @@
 -- A run of a graph file over the token files of a folder.
-use Rattle.std.specs.Prelude.{◌≡◌, ◌⊎◌, ℕ, true, List, [], ◌∷◌, ◌++◌, ◌<◌, false, Option, Some, None, Result, Ok, Err, codes, drop, filter, is_some, length, option_map, take, map, if◌then◌else◌, slice_index_or}
+use Rattle.std.specs.Prelude.{◌≡◌, ◌≢◌, ◌⊎◌, ℕ, Bool, true, List, [], ◌∷◌, ◌++◌, ◌<◌, false, Option, Some, None, Result, Ok, Err, codes, drop, filter, is_some, length, option_map, take, map, if◌then◌else◌, slice_index_or}
 use Rattle.std.specs.Io.KnownBytes.{Appends}
 use Rattle.std.specs.Global.{Vec}
 use Rattle.std.specs.Path.{path_join}
-use Rattle.std.specs.List.{Any, zip}
+use Rattle.std.specs.List.{zip}
 use Rattle.csdf_graph.specs.declared.fault.GraphFault.{GraphFault}
+use Rattle.csdf_bytes.specs.declared.intake.InputFault.{InputFault}
+use Rattle.csdf_bytes.specs.declared.intake.InputFault.TheVariants as input
 use Rattle.csdf_bytes.specs.declared.tokens.TokenFault.{TokenFault}
 use Rattle.csdf_bytes.specs.declared.tokens.TokenFault.TheVariants as token
 use Rattle.csdf_model.specs.Graph.{Actor, Graph}
@@ -18,15 +20,17 @@ use Rattle.csdf_run.specs.declared.texts.TextsFault.TheVariants as texts
 use Rattle.csdf_analysis.specs.declared.room.Room.{Room}
 use Rattle.csdf_run.specs.Texts.{IsRefusal, TellRun, TellSequentialRun, texts_in}
 use Rattle.csdf_floor.specs.Work.{is_sink_kernel}
+use Rattle.csdf_answers.specs.declared.fault.Stream.{Stream}
 use Rattle.csdf_answers.specs.declared.fault.Stream.TheVariants.{File, Output}
 use Rattle.csdf_answers.specs.declared.fault.ToolFault.{ToolFault}
 use Rattle.csdf_answers.specs.declared.fault.ToolFault.TheVariants.{TokenSyntax, TokenRange, TooManyTokens, Mixed, Worker, Device, Memory}
 use Rattle.csdf_tool.specs.declared.run_files.SinkFile.{SinkFile}
 use Rattle.csdf_tool.specs.declared.put_fault.PutFault.{PutFault}
 use Rattle.csdf_tool.specs.declared.put_fault.PutFault.TheVariants as put
-use Rattle.csdf_tool.specs.Acts.{Act, Asks, Devices, OnlyReads, Put, Read}
+use Rattle.csdf_tool.specs.Acts.{Act, Asks, Devices, Marks, OnlyReads, Put, Read}
 use Rattle.csdf_words.specs.CommandLine.{Order}
-use Rattle.csdf_tool.specs.GraphFiles.{IsNamed, IsTooLong, graph_reads}
+use Rattle.csdf_tool.specs.GraphFiles.{IsNamed, IsNotGiven, graph_reads}
+use Rattle.csdf_tool.specs.Reports.{TellsReport}
 use Rattle.csdf_answers.specs.Described.{actor_names}
 use Rattle.csdf_answers.specs.Faults.{accept_fault, fault_of}
 use Rattle.csdf_answers.specs.Printed.{name_at, names_of}
@@ -63,18 +67,13 @@ journal_files None text = []
 journal_files (Some path) None = []
 journal_files (Some path) (Some text) = record { folder = []; name = path; text = text } ∷ []
 
--- why the token file of a source was not read, and that of one of the sources
-abbrev pub IsUnread : List ℕ → ToolFault → Type 0
-IsUnread name fault = (fault ≡ Memory) ⊎ (fault ≡ Device (File (in_file name))) ⊎ (fault ≡ TooManyTokens name)
-
--- why the token file of an actor was not read, if it is a source
-abbrev pub IsUnreadActor : Actor → ToolFault → Type 0
-IsUnreadActor actor fault = (fault ≡ Memory) ⊎ ((is_source_kernel actor.kernel ≡ true) × IsUnread actor.name fault)
-
-abbrev pub IsUnreadOf : List Actor → ToolFault → Type 0
-IsUnreadOf actors fault = (fault ≡ Memory) ⊎ Any (λ (actor : Actor). (is_source_kernel actor.kernel ≡ true) × IsUnread actor.name fault) actors
-
 -- ---- faults
+
+-- why the token file of a source was not read, as the program tells it
+abbrev pub feed_fault : List ℕ → InputFault → ToolFault
+feed_fault name input.Read = Device (File (in_file name))
+feed_fault name input.TooLong = TooManyTokens name
+feed_fault name input.Memory = Memory
 
 -- why the tokens of a source are refused, as the program tells it
 abbrev pub token_fault : List ℕ → TokenFault → ToolFault
@@ -112,25 +111,10 @@ pub record IsRunBy (order : Order) (g : Graph) (bytes : List ℕ) (feeds : List 
   pub sequential : TellSequentialRun order.room bytes feeds order.how_long order.firings t
   pub kept : is_some t.journal ≡ is_some order.journal
 
--- why a graph is not run with this room: a token file is too long, or the texts make no run
-abbrev pub IsRefusedOn : Room → Graph → List ℕ → ToolFault → Type 0
-IsRefusedOn room g bytes fault = IsUnreadOf g.actors fault ⊎ ((feeds : List (List ℕ)) × RefusesRun room g bytes feeds fault)
-
--- why a graph file is not run: those of the file come first
-abbrev pub IsRefusedFile : Room → List ℕ → ToolFault → Type 0
-IsRefusedFile room bytes fault =
-    ((why : GraphFault) × IsGraphOf bytes (Err why) × (fault ≡ fault_of why))
-    ⊎ ((g : Graph) × IsGraphOf bytes (Ok g) × IsRefusedOn room g bytes fault)
-
 -- the run that is asked for, of what the devices gave: of the graph file's bytes, over a text for each source
 pub record RunsOn (order : Order) (left : Option (List ℕ)) (g : Graph) (bytes : List ℕ) (feeds : List (List ℕ)) (t : Texts) : Type 0 where
   pub named : IsNamed order.graph left bytes
   pub run : IsRunBy order g bytes feeds t
-
--- why a run that is asked for is refused: its graph file is too long, or what it holds and the texts make no run
-abbrev pub RefusesFiles : Order → Option (List ℕ) → ToolFault → Type 0
-RefusesFiles order left fault =
-    IsTooLong order.graph left fault ⊎ ((bytes : List ℕ) × IsNamed order.graph left bytes × IsRefusedFile order.room bytes fault)
 
 -- ---- what is asked of files
 
@@ -157,6 +141,25 @@ pub record IsReadAfter (folder : List ℕ) (actor : Actor) (before after : Optio
       → (text : List ℕ) × (more ≡ texts ++ text ∷ []) × Asks before after (Read (path_join folder (in_file actor.name)) (Ok text) ∷ [])
   pub other : is_source_kernel actor.kernel ≡ false → (more ≡ texts) × (after ≡ before)
 
+-- the token file of a source was asked for, and this came of it in place of its bytes
+pub record IsFeedMissing (folder name : List ℕ) (before after : Option (List Act)) (fault : ToolFault) : Type 0 where
+  pub why : InputFault
+  pub files : Asks before after (Read (path_join folder (in_file name)) (Err why) ∷ [])
+  pub told : fault ≡ feed_fault name why
+
+-- the token files of the sources before one were read, and that one's was not
+pub record LacksFeed (folder : List ℕ) (actors : List Actor) (acts : List Act) (fault : ToolFault) : Type 0 where
+  pub place : ℕ
+  pub actor : Actor
+  pub texts : List (List ℕ)
+  pub why : InputFault
+  pub within : place < length actors
+  pub here : slice_index_or actors place actor ≡ actor
+  pub source : is_source_kernel actor.kernel ≡ true
+  pub each : length (feed_paths folder (take place actors)) ≡ length texts
+  pub acts_are : acts ≡ feed_reads folder (take place actors) texts ++ Read (path_join folder (in_file actor.name)) (Err why) ∷ []
+  pub told : fault ≡ feed_fault actor.name why
+
 -- a file is put in its place, or this comes of it
 abbrev pub put_as : Result (Unit {0}) PutFault → Written → Act
 put_as came file = Put (path_join file.folder file.name) file.text came
@@ -171,7 +174,7 @@ files_of order g t =
     ++ journal_files order.journal (option_map (λ (text : Vec ℕ). text.items) t.journal)
 
 -- the run was made of the bytes of the graph file and of the sources' token files; then the text of each sink was put in the place of its file, and after them
--- the moves where they are asked for, and its report was written
+-- the moves where they are asked for, and its report was written in the form that is asked for
 pub record RunsOnFiles (order : Order) (d : Devices) (before after : Option (List ℕ)) : Type 0 where
   pub graph : Graph
   pub bytes : List ℕ
@@ -179,7 +182,9 @@ pub record RunsOnFiles (order : Order) (d : Devices) (before after : Option (Lis
   pub texts : Texts
   pub runs : RunsOn order d.left graph bytes feeds texts
   pub files : Asks d.before d.after (run_reads order graph bytes feeds ++ map put_whole (files_of order graph texts))
-  pub report : Appends before after texts.report.items
+  pub report : List ℕ
+  pub tells : TellsReport order.form graph texts report
+  pub written : Appends before after report
 
 -- why a file was not put in its place, as the program tells it
 abbrev pub put_fault : List ℕ → PutFault → ToolFault
@@ -218,8 +223,40 @@ pub record EndsAfterFiles (order : Order) (d : Devices) : Type 0 where
   pub runs : RunsOn order d.left graph bytes feeds texts
   pub files : Asks d.before d.after (run_reads order graph bytes feeds ++ map put_whole (files_of order graph texts))
 
--- what was asked of files by a run that ends with this fault: no file was to be put; or the run was made, and the files of some sinks were put, from the first
--- on; or all of them were, and standard output failed
-abbrev pub EndsOnFiles : Order → Devices → ToolFault → Type 0
-EndsOnFiles order d fault =
-    OnlyReads d.before d.after ⊎ (EndsAmongFiles order d fault ⊎ ((fault ≡ Device Output) × EndsAfterFiles order d))
+-- ---- why a run ends before its files are put
+
+-- a token file was not read
+abbrev pub StopsOnFeeds : Order → Graph → List ℕ → Devices → ToolFault → Type 0
+StopsOnFeeds order g bytes d fault =
+    (acts : List Act) × Asks d.before d.after (graph_reads order.graph bytes ++ acts) × LacksFeed order.folder g.actors acts fault
+
+-- one text came for each source, and they make no run; that is never told of a stream
+pub record StopsOnTexts (order : Order) (g : Graph) (bytes : List ℕ) (d : Devices) (fault : ToolFault) : Type 0 where
+  pub feeds : List (List ℕ)
+  pub files : Asks d.before d.after (run_reads order g bytes feeds)
+  pub each : length (feed_paths order.folder g.actors) ≡ length feeds
+  pub refuses : RefusesRun order.room g bytes feeds fault
+  pub no_stream : (stream : Stream) → fault ≢ Device stream
+
+-- the graph of these bytes is refused, or a token file was not read, or they were all read and make no run
+abbrev pub StopsOnGraph : Order → List ℕ → Devices → ToolFault → Type 0
+StopsOnGraph order bytes d fault =
+    ((why : GraphFault) × IsGraphOf bytes (Err why) × Asks d.before d.after (graph_reads order.graph bytes) × (fault ≡ fault_of why))
+    ⊎ ((g : Graph) × IsGraphOf bytes (Ok g) × (StopsOnFeeds order g bytes d fault ⊎ StopsOnTexts order g bytes d fault))
+
+-- memory ran out, or the graph file was not read, or its bytes and the token files make no run
+abbrev pub StopsRun : Order → Devices → Bool → ToolFault → Type 0
+StopsRun order d failed fault =
+    IsNotGiven order.graph d failed fault ⊎ ((bytes : List ℕ) × IsNamed order.graph d.left bytes × StopsOnGraph order bytes d fault)
+
+-- no file was to be put, and this is why
+pub record EndsBeforeFiles (order : Order) (d : Devices) (failed : Bool) (fault : ToolFault) : Type 0 where
+  pub only : OnlyReads d.before d.after
+  pub why : StopsRun order d failed fault
+
+-- what was asked of files by a run that ends with this fault, and why: no file was to be put; or the run was made, and the files of some sinks were put, from
+-- the first on; or all of them were, and standard output failed
+abbrev pub EndsOnFiles : Order → Devices → Marks → ToolFault → Type 0
+EndsOnFiles order d m fault =
+    EndsBeforeFiles order d m.input fault
+    ⊎ (EndsAmongFiles order d fault ⊎ ((fault ≡ Device Output) × (m.output ≡ true) × EndsAfterFiles order d))

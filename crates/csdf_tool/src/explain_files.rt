@@ -3,10 +3,10 @@
 ghost use Rattle.std.specs.Prelude.{◌≡◌, ◌≢◌, ◌⊎◌, ◌++◌, [], ◌∷◌, ℕ, List, true, map, option_map, string_bytes, Some, Err, IfErr, IfOk, OnOk};
 ghost use Rattle.std.specs.Io.KnownBytes.{Appends};
 ghost use Rattle.csdf_model.specs.Graph.{actor_view};
-ghost use Rattle.csdf_answers.specs.Faults.{status_of};
-ghost use Rattle.csdf_tool.specs.Acts.{Act, Asks, devices};
+ghost use Rattle.csdf_tool.specs.Acts.{Act, Asks, devices, marks};
+ghost use Rattle.csdf_tool.specs.Carried.{LacksExplanation};
 ghost use Rattle.csdf_tool.specs.Explaining.{Looked, AreNotes, AreNotesOf, ExplainsFiles, IsExplanation, IsNotedAfter, look_of, note_of};
-ghost use Rattle.csdf_tool.specs.GraphFiles.{IsTooLong};
+ghost use Rattle.csdf_tool.specs.GraphFiles.{is_input};
 
 use crate::disk::Disk;
 use crate::files::{graph_bytes, token_path};
@@ -101,7 +101,8 @@ fn explain_with_folder<D: Disk, O: Outlet>(
         × Asks (D.acts disk.old) (D.acts disk.new) looks × Appends (O.written out.old) (O.written out.new) text) }
     ensures refused { IfErr result (λ fault. (fault ≡ ToolFault.Memory) ⊎ (fault ≡ ToolFault.Device Stream.Output)) }
     ensures unwritten { IfErr result (λ fault. fault ≢ ToolFault.Device Stream.Output → out.new ≡ out.old) }
-    ensures failed { result ≡ Err (ToolFault.Device Stream.Output) → O.failed out.new ≡ true }
+    ensures failed { result ≡ Err (ToolFault.Device Stream.Output) → ((looks : List Act) × (text : List ℕ)
+        × IsExplanation (Some folder.now) bytes.now looks text × Asks (D.acts disk.old) (D.acts disk.new) looks) × (O.failed out.new ≡ true) }
 {
     let notes = notes_of(alloc, disk, folder, bytes)?;
     explain_with(alloc, bytes, notes.as_str(), out)
@@ -119,7 +120,9 @@ fn explain_in<D: Disk, O: Outlet>(
         × Asks (D.acts disk.old) (D.acts disk.new) looks × Appends (O.written out.old) (O.written out.new) text) }
     ensures refused { IfErr result (λ fault. (fault ≡ ToolFault.Memory) ⊎ (fault ≡ ToolFault.Device Stream.Output)) }
     ensures unwritten { IfErr result (λ fault. fault ≢ ToolFault.Device Stream.Output → out.new ≡ out.old) }
-    ensures failed { result ≡ Err (ToolFault.Device Stream.Output) → O.failed out.new ≡ true }
+    ensures failed { result ≡ Err (ToolFault.Device Stream.Output) → ((looks : List Act) × (text : List ℕ)
+        × IsExplanation (option_map (λ f. f.now) folder.entry) bytes.now looks text × Asks (D.acts disk.old) (D.acts disk.new) looks)
+        × (O.failed out.new ≡ true) }
 {
     match folder {
         Some(folder) => explain_with_folder(alloc, disk, bytes, folder, out),
@@ -141,7 +144,9 @@ pub(crate) fn explain_files<D: Disk, I: Intake, O: Outlet>(
         (devices (I.left reader.old) (D.acts disk.old) (D.acts disk.new)) (O.written out.old) (O.written out.new)) }
     ensures unwritten { IfErr result (λ fault. fault ≢ ToolFault.Device Stream.Output → out.new ≡ out.old) }
     ensures failed { result ≡ Err (ToolFault.Device Stream.Output) → O.failed out.new ≡ true }
-    ensures refused { IfErr result (λ fault. status_of fault ≡ 1 → IsTooLong graph.now (I.left reader.old) fault) }
+    ensures caused { IfErr result (LacksExplanation graph.now (option_map (λ f. f.now) folder.entry)
+        (devices (I.left reader.old) (D.acts disk.old) (D.acts disk.new)) (marks (I.failed reader.new) (O.failed out.new))) }
+    ensures input { is_input graph.now ≡ true → I.failed reader.new ≡ true → result ≡ Err (ToolFault.Device Stream.Input) }
 {
     let bytes = graph_bytes(alloc, disk, graph, reader)?;
     explain_in(alloc, disk, &bytes, folder, out)

@@ -1,12 +1,12 @@
 //! Whole files, read and put in their places, and standard input.
 
-ghost use Rattle.std.specs.Prelude.{◌≡◌, ◌≢◌, ◌<◌, ◌↔◌, [], ◌∷◌, List, true, false, length, Ok, Err, IfErr, IfOk, IfSome, OnErr, OnOk};
+ghost use Rattle.std.specs.Prelude.{◌≡◌, ◌≢◌, ◌⊎◌, ◌↔◌, [], ◌∷◌, List, true, false, Ok, Err, IfErr, IfOk, IfSome, OnErr, OnOk};
 ghost use Rattle.std.specs.Path.{path_buf_bytes, path_join};
-ghost use Rattle.csdf_answers.specs.Faults.{status_of};
-ghost use Rattle.csdf_tool.specs.Acts.{Act, Asks, OnlyReads, Put, Read};
+ghost use Rattle.csdf_answers.specs.Faults.{unread};
+ghost use Rattle.csdf_tool.specs.Acts.{Act, Asks, OnlyReads, Put, Read, devices};
 ghost use Rattle.csdf_tool.specs.Explaining.{token_path};
-ghost use Rattle.csdf_tool.specs.GraphFiles.{graph_reads, is_input, IsNamed, IsTooLong};
-ghost use Rattle.csdf_tool.specs.Running.{IsUnput, IsUnread, in_file};
+ghost use Rattle.csdf_tool.specs.GraphFiles.{graph_reads, is_input, IsInputFault, IsNamed, IsNotGiven};
+ghost use Rattle.csdf_tool.specs.Running.{IsFeedMissing, IsUnput, in_file};
 
 use crate::disk::Disk;
 use crate::put_fault::PutFault;
@@ -18,10 +18,10 @@ use std::path::{Path, PathBuf};
 /// All bytes of standard input.
 pub(crate) fn input_bytes<I: Intake>(alloc: Global, reader: &mut I) -> Result<Vec<u8>, ToolFault>
     ensures all { IfOk result (λ bytes. IfSome (I.left reader.old) (λ all. bytes.items ≡ all)) }
+    ensures missing { IfErr result (λ fault. (why : InputFault) × IsInputFault (I.left reader.old) (I.failed reader.new) why
+        × (fault ≡ unread Stream.Input why)) }
     ensures device { result ≡ Err (ToolFault.Device Stream.Input) ↔ (I.failed reader.new ≡ true) }
     ensures other { IfErr result (λ fault. fault ≢ ToolFault.Device Stream.Output) }
-    ensures one { IfErr result (λ fault. status_of fault ≡ 1 → fault ≡ ToolFault.TooLong) }
-    ensures long { result ≡ Err ToolFault.TooLong → IfSome (I.left reader.old) (λ all. 16777216 < length all) }
 {
     match read_bytes(alloc, reader) {
         Ok(bytes) => Ok(bytes),
@@ -33,8 +33,9 @@ pub(crate) fn input_bytes<I: Intake>(alloc: Global, reader: &mut I) -> Result<Ve
 fn file_bytes<D: Disk>(alloc: Global, disk: &mut D, path: &str) -> Result<Vec<u8>, ToolFault>
     ensures read { IfOk result (λ bytes. Asks (D.acts disk.old) (D.acts disk.new) (Read path.now (Ok bytes.items) ∷ [])) }
     ensures unread { OnErr result (OnlyReads (D.acts disk.old) (D.acts disk.new)) }
+    ensures missing { IfErr result (λ fault. (fault ≡ ToolFault.Memory) ⊎ ((why : InputFault)
+        × Asks (D.acts disk.old) (D.acts disk.new) (Read path.now (Err why) ∷ []) × (fault ≡ unread (Stream.File path.now) why))) }
     ensures other { IfErr result (λ fault. fault ≢ ToolFault.Device Stream.Output) }
-    ensures long { IfErr result (λ fault. status_of fault ≡ 1 → fault ≡ ToolFault.TooLong) }
 {
     let name = Name::new(alloc, path)?;
     match disk.read(path) {
@@ -53,7 +54,7 @@ pub(crate) fn graph_bytes<D: Disk, I: Intake>(
     ensures read { IfOk result (λ bytes. Asks (D.acts disk.old) (D.acts disk.new) (graph_reads word.now bytes.items)) }
     ensures unread { OnErr result (OnlyReads (D.acts disk.old) (D.acts disk.new)) }
     ensures named { IfOk result (λ bytes. IsNamed word.now (I.left reader.old) bytes.items) }
-    ensures long { IfErr result (λ fault. status_of fault ≡ 1 → IsTooLong word.now (I.left reader.old) fault) }
+    ensures missing { IfErr result (IsNotGiven word.now (devices (I.left reader.old) (D.acts disk.old) (D.acts disk.new)) (I.failed reader.new)) }
     ensures other { IfErr result (λ fault. fault ≢ ToolFault.Device Stream.Output) }
     ensures device { is_input word.now ≡ true → (result ≡ Err (ToolFault.Device Stream.Input) ↔ (I.failed reader.new ≡ true)) }
     ensures untouched { is_input word.now ≡ false → reader.new ≡ reader.old }
@@ -82,7 +83,8 @@ pub(crate) fn feed_bytes<D: Disk>(
     ensures read { IfOk result (λ bytes. Asks (D.acts disk.old) (D.acts disk.new)
         (Read (path_join folder.now (in_file source.now)) (Ok bytes.items) ∷ [])) }
     ensures only { OnErr result (OnlyReads (D.acts disk.old) (D.acts disk.new)) }
-    ensures unread { IfErr result (λ fault. IsUnread source.now fault) }
+    ensures missing { IfErr result (λ fault. (fault ≡ ToolFault.Memory)
+        ⊎ IsFeedMissing folder.now source.now (D.acts disk.old) (D.acts disk.new) fault) }
 {
     let source = Name::new(alloc, source)?;
     let file = Name::with_ending(alloc, source.as_str(), ".in")?;

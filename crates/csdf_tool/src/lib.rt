@@ -2,6 +2,7 @@
 //! faults and exit statuses.
 #![tactic(auto)]
 
+mod answer_files;
 mod disk;
 mod explain_files;
 mod files;
@@ -9,6 +10,7 @@ mod look;
 mod program;
 mod progress;
 mod put_fault;
+mod report;
 mod run_files;
 
 pub use disk::{Disk, HostDisk};

@@ -1,6 +1,6 @@
 //! A run of a graph file over the token files of a folder.
 
-ghost use Rattle.std.specs.Prelude.{◌≡◌, ◌≢◌, ℕ, List, [], true, Err, is_some, length, map, option_map, option_to_list, slice_index_or, IfErr, IfOk, OnErr, OnOk};
+ghost use Rattle.std.specs.Prelude.{◌≡◌, ◌≢◌, ◌⊎◌, ℕ, List, [], true, Err, is_some, length, map, option_map, option_to_list, slice_index_or, IfErr, IfOk, OnErr, OnOk};
 ghost use Rattle.csdf_model.specs.Graph.{actor_view};
 ghost use Rattle.csdf_graph.specs.GraphText.{IsGraphOf};
 ghost use Rattle.csdf_core.specs.Layout.{is_source_kernel};
@@ -8,15 +8,17 @@ ghost use Rattle.csdf_run.specs.Texts.{TellRun, TellSequentialRun, source_count,
 ghost use Rattle.csdf_floor.specs.Work.{is_sink_kernel};
 ghost use Rattle.csdf_journal.specs.View.{is_kept};
 ghost use Rattle.csdf_words.specs.CommandLine.{order_view};
-ghost use Rattle.csdf_answers.specs.Faults.{status_of};
-ghost use Rattle.csdf_tool.specs.Acts.{Act, Asks, OnlyReads, devices};
-ghost use Rattle.csdf_tool.specs.Running.{EndsOnFiles, IsCutShort, IsUnreadOf, IsReadAfter, IsUnreadActor, RefusesFiles, RefusesRun, RunsOn, RunsOnFiles};
-ghost use Rattle.csdf_tool.specs.Running.{feed_reads, file_view, files_of, journal_files, put_whole, run_fault, run_reads, sink_files, texts_fault, token_fault};
+ghost use Rattle.csdf_tool.specs.Acts.{Act, Asks, OnlyReads, devices, marks};
+ghost use Rattle.csdf_tool.specs.GraphFiles.{is_input};
+ghost use Rattle.csdf_tool.specs.Reports.{TellsReport};
+ghost use Rattle.csdf_tool.specs.Running.{EndsBeforeFiles, EndsOnFiles, IsCutShort, IsFeedMissing, IsReadAfter, LacksFeed, RefusesRun, RunsOn, RunsOnFiles};
+ghost use Rattle.csdf_tool.specs.Running.{feed_paths, feed_reads, file_view, files_of, journal_files, put_whole, run_fault, run_reads, sink_files, texts_fault, token_fault};
 
 use crate::disk::Disk;
 use crate::files::{feed_bytes, graph_bytes, put_file};
 use crate::progress::Progress;
-use csdf_answers::{Name, Stream, ToolFault, accept_fault, actor_name};
+use crate::report::report_object;
+use csdf_answers::{Form, Name, Stream, ToolFault, accept_fault, actor_name};
 use csdf_graph::{Actor, Graph, Intake, Kernel, Outlet, TokenFault, read_graph, write_bytes};
 use csdf_run::{Keeping, RunFault, RunOptions, Texts, TextsFault, run_texts_with};
 use csdf_words::RunOrder;
@@ -47,7 +49,8 @@ fn push_feed<D: Disk>(
     ensures read { OnOk result (IsReadAfter folder.now (actor_view actor.now) (D.acts disk.old) (D.acts disk.new)
         (texts_in feeds.old.items) (texts_in feeds.new.items)) }
     ensures only { OnErr result (OnlyReads (D.acts disk.old) (D.acts disk.new)) }
-    ensures refused { IfErr result (IsUnreadActor (actor_view actor.now)) }
+    ensures missing { IfErr result (λ fault. (fault ≡ ToolFault.Memory) ⊎ ((is_source_kernel (actor_view actor.now).kernel ≡ true)
+        × IsFeedMissing folder.now (actor_view actor.now).name (D.acts disk.old) (D.acts disk.new) fault)) }
 {
     if !is_source(actor) {
         return Ok(());
@@ -66,8 +69,10 @@ fn feeds_in<D: Disk>(
 ) -> Result<Vec<Vec<u8>>, ToolFault>
     ensures read { IfOk result (λ feeds. Asks (D.acts disk.old) (D.acts disk.new)
         (feed_reads folder.now (map actor_view actors.now) (texts_in feeds.items))) }
+    ensures each { IfOk result (λ feeds. length (feed_paths folder.now (map actor_view actors.now)) ≡ length (texts_in feeds.items)) }
     ensures only { OnErr result (OnlyReads (D.acts disk.old) (D.acts disk.new)) }
-    ensures refused { IfErr result (IsUnreadOf (map actor_view actors.now)) }
+    ensures missing { IfErr result (λ fault. (fault ≡ ToolFault.Memory) ⊎ ((acts : List Act) × Asks (D.acts disk.old) (D.acts disk.new) acts
+        × LacksFeed folder.now (map actor_view actors.now) acts fault)) }
 {
     let mut feeds = Vec::new(alloc);
     for actor in actors {
@@ -177,9 +182,9 @@ fn ran_by<R: AllocGlobal + Eprint + Threads + Wait + Sync, D: Disk, I: Intake>(
     ensures ran { IfOk result (λ ran. (bytes : List ℕ) × (feeds : List (List ℕ))
         × RunsOn (order_view order.entry) (I.left reader.old) ran.graph bytes feeds ran.texts
         × Asks (D.acts disk.old) (D.acts disk.new) (run_reads (order_view order.entry) ran.graph bytes feeds)) }
-    ensures only { OnErr result (OnlyReads (D.acts disk.old) (D.acts disk.new)) }
-    ensures refused { IfErr result (λ fault. status_of fault ≡ 1
-        → RefusesFiles (order_view order.entry) (I.left reader.old) fault) }
+    ensures stopped { IfErr result (EndsBeforeFiles (order_view order.entry) (devices (I.left reader.old) (D.acts disk.old) (D.acts disk.new))
+        (I.failed reader.new)) }
+    ensures input { is_input order.entry.graph.now ≡ true → I.failed reader.new ≡ true → result ≡ Err (ToolFault.Device Stream.Input) }
     ensures other { IfErr result (λ fault. fault ≢ ToolFault.Device Stream.Output) }
 {
     let alloc = rt.alloc();
@@ -302,6 +307,16 @@ fn put_sinks<D: Disk>(
     }
 }
 
+/// The report of a run in a form.
+fn report_in(alloc: Global, form: Form, ran: &Ran) -> Result<Vec<u8>, AllocError>
+    ensures { IfOk result (λ text. TellsReport form ran.now.graph ran.now.texts text.items) }
+{
+    match form {
+        Form::Text => Vec::from_slice(alloc, &ran.texts.report),
+        Form::Json => report_object(alloc, &ran.graph, ran.texts.ending, &ran.texts.channels),
+    }
+}
+
 /// Runs the graph of a file, or of standard input, over the token files of a folder: puts what each
 /// sink took in its file, and then writes the report.
 pub(crate) fn run_files<
@@ -314,13 +329,14 @@ pub(crate) fn run_files<
         (O.written out.old) (O.written out.new)) }
     ensures unwritten { IfErr result (λ fault. fault ≢ ToolFault.Device Stream.Output → out.new ≡ out.old) }
     ensures failed { result ≡ Err (ToolFault.Device Stream.Output) → O.failed out.new ≡ true }
-    ensures refused { IfErr result (λ fault. status_of fault ≡ 1
-        → RefusesFiles (order_view order.entry) (I.left reader.old) fault) }
-    ensures ended { IfErr result (EndsOnFiles (order_view order.entry) (devices (I.left reader.old) (D.acts disk.old) (D.acts disk.new))) }
+    ensures ended { IfErr result (EndsOnFiles (order_view order.entry) (devices (I.left reader.old) (D.acts disk.old) (D.acts disk.new))
+        (marks (I.failed reader.new) (O.failed out.new))) }
+    ensures input { is_input order.entry.graph.now ≡ true → I.failed reader.new ≡ true → result ≡ Err (ToolFault.Device Stream.Input) }
 {
     let ran = ran_by(rt, disk, order, reader)?;
+    let report = report_in(rt.alloc(), order.form, &ran)?;
     put_sinks(rt.alloc(), disk, order, &ran)?;
-    match write_bytes(out, &ran.texts.report) {
+    match write_bytes(out, &report) {
         Ok(()) => Ok(()),
         Err(_) => Err(ToolFault::Device(Stream::Output)),
     }

@@ -5,7 +5,7 @@ use std::alloc::{AllocError, Global};
 use std::process::Abort;
 use std::test::*;
 
-const PAIR: &str = r#"actor = [
+pub(crate) const PAIR: &str = r#"actor = [
   { name = "src", kernel = "source", phases = 2 },
   { name = "snk", kernel = "sink" },
 ]
@@ -136,7 +136,7 @@ fn explained(alloc: Global, bytes: &[u8]) -> Result<String, AllocError> {
 }
 
 /// Asserts what is said of a text that came of an edit.
-fn expect_explained(
+pub(crate) fn expect_explained(
     rt: &(impl Abort + AllocGlobal),
     text: &str,
     told: &str,
@@ -197,7 +197,11 @@ fn explained_script(alloc: Global, text: &str) -> Result<String, Fail> {
 }
 
 /// Asserts what is said of the pair with this table of its script.
-fn check_script(rt: &(impl Abort + AllocGlobal), table: &str, wanted: &str) -> Result<(), Fail> {
+pub(crate) fn check_script(
+    rt: &(impl Abort + AllocGlobal),
+    table: &str,
+    wanted: &str,
+) -> Result<(), Fail> {
     let text = format!(in rt.alloc(); "{PAIR}[script]\n{table}\n")?;
     let told = explained_script(rt.alloc(), text.as_str())?;
     expect_eq(rt, told.as_str(), wanted);

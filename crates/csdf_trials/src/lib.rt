@@ -21,6 +21,8 @@ mod journal_tests;
 #[cfg(test)]
 mod memory_tests;
 #[cfg(test)]
+mod misfit_tests;
+#[cfg(test)]
 mod note_tests;
 #[cfg(test)]
 mod period_tests;

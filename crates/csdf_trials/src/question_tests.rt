@@ -2,7 +2,10 @@
 
 use crate::shared::{CHAIN, DISAGREEING, STUCK_CYCLE, expect_eq, line_of};
 use csdf_analysis::Room;
-use csdf_answers::{Question, describe, describe_with_room};
+use csdf_answers::{
+    Form, Name, Question, Stream, ToolFault, describe, describe_as, describe_with_room, fault_line,
+    memory_line,
+};
 use csdf_graph::ToWriter;
 use std::process::Abort;
 use std::test::Fail;
@@ -85,6 +88,83 @@ fn fewer_cells_are_told(rt: HostRuntime) -> Result<(), Fail> {
         graph.as_str(),
         "x 4\ny 2\ncells 4\n",
     )
+}
+
+/// A fault as it is told in a form.
+fn told_in(rt: &impl AllocGlobal, form: Form, fault: &ToolFault) -> Result<String, Fail> {
+    let line = fault_line(rt.alloc(), form, fault)?;
+    Ok(String::from_utf8(line)?)
+}
+
+/// The answer to a question as JSON, or the object of the fault, for which nothing is written.
+fn object_for(
+    rt: &(impl Abort + AllocGlobal),
+    question: Question,
+    graph: &str,
+) -> Result<String, Fail> {
+    let mut written = Vec::new(rt.alloc());
+    let mut writer = ToWriter::new(&mut written);
+    let (form, room) = (Form::Json, Room::Least);
+    match describe_as(rt.alloc(), question, form, graph.as_bytes(), room, &mut writer) {
+        Ok(()) => Ok(String::from_utf8(written)?),
+        Err(fault) => {
+            expect_eq(rt, written.len(), 0);
+            told_in(rt, form, &fault)
+        }
+    }
+}
+
+const CHECK_OBJECT: &str = r#"{"consistent":true,"actors":3,"channels":2}
+"#;
+
+const REPETITION_OBJECT: &str = r#"{"repetition":[{"actor":"a","cycles":3,"firings":3},{"actor":"b","cycles":2,"firings":2},{"actor":"c","cycles":1,"firings":1}]}
+"#;
+
+const SCHEDULE_OBJECT: &str = r#"{"schedule":["a","a","b","a","b","c"]}
+"#;
+
+const CAPACITY_OBJECT: &str = r#"{"capacities":[{"channel":"x","capacity":4},{"channel":"y","capacity":2}],"cells":6}
+"#;
+
+const DEADLOCK_OBJECT: &str = r#"{"fault":"graph: deadlock","status":1}
+"#;
+
+const OBJECTS: [(Question, &str, &str); 6] = [
+    (Question::Check, CHAIN, CHECK_OBJECT),
+    (Question::Repetition, CHAIN, REPETITION_OBJECT),
+    (Question::Schedule, CHAIN, SCHEDULE_OBJECT),
+    (Question::Capacity, CHAIN, CAPACITY_OBJECT),
+    (Question::Capacity, STUCK_CYCLE, DEADLOCK_OBJECT),
+    (Question::Dot, CHAIN, DRAWN_CHAIN),
+];
+
+#[test]
+fn questions_are_answered_as_json(rt: HostRuntime) -> Result<(), Fail> {
+    for (question, graph, want) in &OBJECTS {
+        let answer = object_for(&rt, *question, *graph)?;
+        expect_eq(&rt, answer.as_str(), *want);
+    }
+    Ok(())
+}
+
+const UNREAD_OBJECT: &str = r#"{"fault":"device: a \"b\\c\"\t\u001fé","status":3}
+"#;
+
+#[test]
+fn texts_are_escaped(rt: HostRuntime) -> Result<(), Fail> {
+    let name = Name::new(rt.alloc(), "a \"b\\c\"\t\u{1f}é")?;
+    let told = told_in(&rt, Form::Json, &ToolFault::Device(Stream::File(name)))?;
+    expect_eq(&rt, told.as_str(), UNREAD_OBJECT);
+    Ok(())
+}
+
+#[test]
+fn want_of_memory_is_told_without_memory(rt: HostRuntime) -> Result<(), Fail> {
+    for form in [Form::Text, Form::Json] {
+        let told = told_in(&rt, form, &ToolFault::Memory)?;
+        expect_eq(&rt, told.as_str(), memory_line(form));
+    }
+    Ok(())
 }
 
 /// A row whose first channel begins with three tokens, whose second with as many as are drawn, and

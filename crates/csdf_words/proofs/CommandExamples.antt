@@ -2,6 +2,8 @@
 use Rattle.std.proofs.Common.{◌≡◌, ℕ, Bool, List, [], ◌∷◌, ◌++◌, Option, Some, None, true, false, codes, map, refl}
 use Rattle.clap.specs.Words.{Shape, Text, fault_of, takes}
 use Rattle.clap.proofs.OnLiterals.{clap_on_literals}
+use Rattle.csdf_answers.specs.declared.question.Form.{Form}
+use Rattle.csdf_answers.specs.declared.question.Form.TheVariants as forms
 use Rattle.csdf_answers.specs.declared.question.Question.TheVariants.{Check, Repetition, Schedule, Capacity, Dot}
 use Rattle.csdf_analysis.specs.declared.room.Room.{Room}
 use Rattle.csdf_analysis.specs.declared.room.Room.TheVariants.{Least, Periods, Auto}
@@ -12,23 +14,23 @@ use Rattle.csdf_words.specs.CommandLine.{program, asked_by, asked_with, room_in,
 abbrev on : Text → List Text
 on command = command ∷ codes "a.toml" ∷ []
 
-check_asks : words_ask (on (codes "check")) ≡ Some (Ask Check Least (codes "a.toml"))
+check_asks : words_ask (on (codes "check")) ≡ Some (Ask Check forms.Text Least (codes "a.toml"))
 unfolding clap_on_literals asked_by asked_with
 check_asks = refl
 
-repetition_asks : words_ask (on (codes "repetition")) ≡ Some (Ask Repetition Least (codes "a.toml"))
+repetition_asks : words_ask (on (codes "repetition")) ≡ Some (Ask Repetition forms.Text Least (codes "a.toml"))
 unfolding clap_on_literals asked_by asked_with
 repetition_asks = refl
 
-schedule_asks : words_ask (on (codes "schedule")) ≡ Some (Ask Schedule Least (codes "a.toml"))
+schedule_asks : words_ask (on (codes "schedule")) ≡ Some (Ask Schedule forms.Text Least (codes "a.toml"))
 unfolding clap_on_literals asked_by asked_with
 schedule_asks = refl
 
-capacity_asks : words_ask (on (codes "capacity")) ≡ Some (Ask Capacity Least (codes "a.toml"))
+capacity_asks : words_ask (on (codes "capacity")) ≡ Some (Ask Capacity forms.Text Least (codes "a.toml"))
 unfolding clap_on_literals asked_by asked_with
 capacity_asks = refl
 
-dot_asks : words_ask (on (codes "dot")) ≡ Some (Ask Dot Least (codes "a.toml"))
+dot_asks : words_ask (on (codes "dot")) ≡ Some (Ask Dot forms.Text Least (codes "a.toml"))
 unfolding clap_on_literals asked_by asked_with
 dot_asks = refl
 
@@ -48,25 +50,46 @@ moves_asks : words_ask (on (codes "moves")) ≡ Some (Moves (codes "a.toml"))
 unfolding clap_on_literals asked_by asked_with
 moves_asks = refl
 
-capacity_with_room_asks : words_ask (codes "capacity" ∷ codes "a.toml" ∷ codes "--room" ∷ codes "64" ∷ []) ≡ Some (Ask Capacity (Periods 64) (codes "a.toml"))
+capacity_with_room_asks : words_ask (codes "capacity" ∷ codes "a.toml" ∷ codes "--room" ∷ codes "64" ∷ []) ≡ Some (Ask Capacity forms.Text (Periods 64) (codes "a.toml"))
 unfolding clap_on_literals asked_by asked_with
 capacity_with_room_asks = refl
 
-schedule_with_room_asks : words_ask (codes "schedule" ∷ codes "--room=auto" ∷ codes "a.toml" ∷ []) ≡ Some (Ask Schedule Auto (codes "a.toml"))
+schedule_with_room_asks : words_ask (codes "schedule" ∷ codes "--room=auto" ∷ codes "a.toml" ∷ []) ≡ Some (Ask Schedule forms.Text Auto (codes "a.toml"))
 unfolding clap_on_literals asked_by asked_with
 schedule_with_room_asks = refl
 
-dot_with_room_asks : words_ask (codes "dot" ∷ codes "--room=1" ∷ codes "a.toml" ∷ []) ≡ Some (Ask Dot (Periods 1) (codes "a.toml"))
+dot_with_room_asks : words_ask (codes "dot" ∷ codes "--room=1" ∷ codes "a.toml" ∷ []) ≡ Some (Ask Dot forms.Text (Periods 1) (codes "a.toml"))
 unfolding clap_on_literals asked_by asked_with
 dot_with_room_asks = refl
 
-input_asks : words_ask (codes "check" ∷ codes "-" ∷ []) ≡ Some (Ask Check Least (codes "-"))
+check_as_json_asks : words_ask (codes "check" ∷ codes "--json" ∷ codes "a.toml" ∷ []) ≡ Some (Ask Check forms.Json Least (codes "a.toml"))
+unfolding clap_on_literals asked_by asked_with
+check_as_json_asks = refl
+
+repetition_as_json_asks : words_ask (codes "repetition" ∷ codes "a.toml" ∷ codes "--json" ∷ []) ≡ Some (Ask Repetition forms.Json Least (codes "a.toml"))
+unfolding clap_on_literals asked_by asked_with
+repetition_as_json_asks = refl
+
+schedule_as_json_asks : words_ask (codes "schedule" ∷ codes "--json" ∷ codes "a.toml" ∷ []) ≡ Some (Ask Schedule forms.Json Least (codes "a.toml"))
+unfolding clap_on_literals asked_by asked_with
+schedule_as_json_asks = refl
+
+capacity_with_room_as_json_asks :
+    words_ask (codes "capacity" ∷ codes "a.toml" ∷ codes "--room=2" ∷ codes "--json" ∷ []) ≡ Some (Ask Capacity forms.Json (Periods 2) (codes "a.toml"))
+unfolding clap_on_literals asked_by asked_with
+capacity_with_room_as_json_asks = refl
+
+input_asks : words_ask (codes "check" ∷ codes "-" ∷ []) ≡ Some (Ask Check forms.Text Least (codes "-"))
 unfolding clap_on_literals asked_by asked_with
 input_asks = refl
 
 check_with_room_is_refused : takes program (codes "check" ∷ codes "a.toml" ∷ codes "--room" ∷ codes "2" ∷ []) ≡ false
 unfolding clap_on_literals
 check_with_room_is_refused = refl
+
+dot_as_json_is_refused : takes program (codes "dot" ∷ codes "a.toml" ∷ codes "--json" ∷ []) ≡ false
+unfolding clap_on_literals
+dot_as_json_is_refused = refl
 
 pub no_words_no_fault : fault_of program [] ≡ []
 unfolding clap_on_literals
@@ -77,7 +100,7 @@ abbrev file_of : Option Asked → Text
 file_of None = []
 file_of (Some Input) = []
 file_of (Some (Moves path)) = path
-file_of (Some (Ask question room path)) = path
+file_of (Some (Ask question form room path)) = path
 file_of (Some (Explain path folder)) = path
 file_of (Some (Run order)) = order.graph
 
@@ -116,8 +139,8 @@ unknown_command_is_refused = refl
 abbrev run_on : List Text → List Text
 run_on options = codes "run" ∷ codes "a.toml" ∷ codes "d" ∷ options
 
-abbrev run_with : Option Text → Bool → Length → Text → ℕ → Option ℕ → Room → Option Asked
-run_with journal progress how_long sinks workers firings room = Some (Run (record {
+abbrev run_told : Form → Option Text → Bool → Length → Text → ℕ → Option ℕ → Room → Option Asked
+run_told form journal progress how_long sinks workers firings room = Some (Run (record {
   graph = codes "a.toml";
   folder = codes "d";
   sink_folder = sinks;
@@ -127,7 +150,12 @@ run_with journal progress how_long sinks workers firings room = Some (Run (recor
   room = room;
   journal = journal;
   progress = progress;
+  form = form;
 }))
+
+-- it is told by lines where no JSON is asked for
+abbrev run_with : Option Text → Bool → Length → Text → ℕ → Option ℕ → Room → Option Asked
+run_with = run_told forms.Text
 
 -- no moves are written where no file for them is named, and nothing is told on the way where it is not asked for
 abbrev run_for : Length → Text → ℕ → Option ℕ → Room → Option Asked
@@ -175,6 +203,10 @@ journal_asks = refl
 progress_asks : words_ask (run_on (codes "--progress" ∷ [])) ≡ run_with None true (lengths.Periods 1) (codes "d") 1 None Least
 unfolding clap_on_literals asked_with
 progress_asks = refl
+
+run_as_json_asks : words_ask (run_on (codes "--json" ∷ [])) ≡ run_told forms.Json None false (lengths.Periods 1) (codes "d") 1 None Least
+unfolding clap_on_literals asked_with
+run_as_json_asks = refl
 
 two_lengths_ask_nothing : words_ask (run_on (codes "--until-dry" ∷ codes "--periods" ∷ codes "1" ∷ [])) ≡ None
 unfolding clap_on_literals asked_with

@@ -18,6 +18,8 @@ use Rattle.csdf_words.specs.declared.command.Request.TheVariants as request
 use Rattle.csdf_words.specs.declared.command.Unread.{Unread}
 use Rattle.csdf_words.specs.declared.command.Unread.TheVariants as unread
 use Rattle.csdf_words.specs.declared.order.RunOrder.{RunOrder}
+use Rattle.csdf_answers.specs.declared.question.Form.{Form}
+use Rattle.csdf_answers.specs.declared.question.Form.TheVariants as forms
 use Rattle.csdf_answers.specs.declared.question.Question.{Question}
 use Rattle.csdf_answers.specs.declared.question.Question.TheVariants.{Check, Repetition, Schedule, Capacity, Dot}
 
@@ -43,16 +45,19 @@ flag name = record (new_rule name) { long = Some name; action = Some SetTrue }
 abbrev pub on_files : App
 on_files = with_rule (on_graph (codes "run")) (record (new_rule (codes "DIR")) { required = true })
 
--- the option for room
+-- the option for room, and that for JSON
 abbrev pub with_room : App → App
 with_room a = with_rule a (text_option (codes "room"))
+
+abbrev pub with_json : App → App
+with_json a = with_rule a (flag (codes "json"))
 
 abbrev pub run_command : App
 run_command =
     let two = with_rule (with_rule on_files (number_option (codes "workers") 1 8)) (number_option (codes "periods") 1 1000) in
     let four = with_rule (with_rule two (flag (codes "until-dry"))) (number_option (codes "firings") 0 1048576000) in
     let six = with_rule (with_rule four (text_option (codes "out"))) (text_option (codes "journal")) in
-    with_room (with_rule six (flag (codes "progress")))
+    with_json (with_room (with_rule six (flag (codes "progress"))))
 
 -- a program with a version, whose own name is not among the words
 abbrev pub no_commands : App
@@ -61,9 +66,15 @@ no_commands = on_top (λ s. record s { no_binary_name = true; has_version = true
 abbrev pub with_command : App → Text → App
 with_command a name = with_subcommand a (on_graph name).top
 
--- the same with a command that takes room
+-- the same with a command that takes room, with one that answers as JSON too, and with one that does both
 abbrev pub with_roomy_command : App → Text → App
 with_roomy_command a name = with_subcommand a (with_room (on_graph name)).top
+
+abbrev pub with_question : App → Text → App
+with_question a name = with_subcommand a (with_json (on_graph name)).top
+
+abbrev pub with_roomy_question : App → Text → App
+with_roomy_question a name = with_subcommand a (with_json (with_room (on_graph name))).top
 
 -- the command that explains asks for a folder too, which may be left out
 abbrev pub explain_command : App
@@ -75,9 +86,9 @@ with_explain a = with_subcommand a explain_command.top
 -- a program with the commands that answer a question or play a script
 abbrev pub with_questions : App → App
 with_questions a =
-    let two = with_command (with_command a (codes "moves")) (codes "check") in
-    let four = with_roomy_command (with_command two (codes "repetition")) (codes "schedule") in
-    let six = with_roomy_command (with_roomy_command four (codes "capacity")) (codes "dot") in
+    let two = with_question (with_command a (codes "moves")) (codes "check") in
+    let four = with_roomy_question (with_question two (codes "repetition")) (codes "schedule") in
+    let six = with_roomy_command (with_roomy_question four (codes "capacity")) (codes "dot") in
     with_explain six
 
 abbrev pub program : App
@@ -97,6 +108,7 @@ pub record Order : Type 0 where
   pub room : Room
   pub journal : Option Text
   pub progress : Bool
+  pub form : Form
 
 abbrev pub order_view : RunOrder → Order
 order_view o = record {
@@ -109,21 +121,30 @@ order_view o = record {
   room = o.room;
   journal = option_map (λ file. file.now) o.journal;
   progress = o.progress;
+  form = o.form;
 }
 
 pub data Asked : Type 0 where
   Input : Asked
   Moves : Text → Asked
-  Ask : Question → Room → Text → Asked
+  Ask : Question → Form → Room → Text → Asked
   Explain : Text → Option Text → Asked
   Run : Order → Asked
 
 abbrev pub asked_view : Request → Asked
 asked_view request.Input = Input
 asked_view (request.Moves path) = Moves path.now
-asked_view (request.Ask inquiry) = Ask inquiry.question inquiry.room inquiry.graph.now
+asked_view (request.Ask inquiry) = Ask inquiry.question inquiry.form inquiry.room inquiry.graph.now
 asked_view (request.Explain path folder) = Explain path.now (option_map (λ f. f.now) folder)
 asked_view (request.Run order) = Run (order_view order)
+
+-- the form in which what is asked for is told, and a fault of it
+abbrev pub form_of : Asked → Form
+form_of Input = forms.Text
+form_of (Moves path) = forms.Text
+form_of (Ask question form room path) = form
+form_of (Explain path folder) = forms.Text
+form_of (Run order) = order.form
 
 -- the number in a text, where it is one and in the range
 abbrev pub number_in : ℕ → ℕ → Text → Option ℕ
@@ -153,6 +174,10 @@ room_of rows = option_map_or room_in (first_of (codes "room") rows) (Some Least)
 abbrev pub is_given : Text → List Row → Bool
 is_given name rows = bytes_eq (word_of name rows) (codes "true")
 
+-- the form that is asked for
+abbrev pub form_in : List Row → Form
+form_in rows = if is_given (codes "json") rows then forms.Json else forms.Text
+
 -- how long a run goes on, by whether `--until-dry` is given and which periods are: they exclude each other, and it is one period where neither is
 abbrev pub how_long_by : Bool → Option ℕ → Option Length
 how_long_by true None = Some lengths.UntilDry
@@ -175,16 +200,17 @@ order_of rows room how_long = record {
   room = room;
   journal = first_of (codes "journal") rows;
   progress = is_given (codes "progress") rows;
+  form = form_in rows;
 }
 
--- what a command but `run` and `explain` asks for with this room and the file that it names; no other command has a file alone
-unfoldable pub asked_by : Text → Room → Text → Asked
-asked_by name room path =
-    if bytes_eq name (codes "check") then Ask Check room path
-    else if bytes_eq name (codes "repetition") then Ask Repetition room path
-    else if bytes_eq name (codes "schedule") then Ask Schedule room path
-    else if bytes_eq name (codes "capacity") then Ask Capacity room path
-    else if bytes_eq name (codes "dot") then Ask Dot room path
+-- what a command but `run` and `explain` asks for in this form with this room and the file that it names; no other command has a file alone, and a drawing is text
+unfoldable pub asked_by : Text → Form → Room → Text → Asked
+asked_by name form room path =
+    if bytes_eq name (codes "check") then Ask Check form room path
+    else if bytes_eq name (codes "repetition") then Ask Repetition form room path
+    else if bytes_eq name (codes "schedule") then Ask Schedule form room path
+    else if bytes_eq name (codes "capacity") then Ask Capacity form room path
+    else if bytes_eq name (codes "dot") then Ask Dot forms.Text room path
     else if bytes_eq name (codes "moves") then Moves path
     else Input
 
@@ -193,7 +219,7 @@ unfoldable pub asked_with : Text → List Row → Room → Option Asked
 asked_with name rows room =
     if bytes_eq name (codes "run") then option_map (λ how_long. Run (order_of rows room how_long)) (how_long_of rows)
     else if bytes_eq name (codes "explain") then Some (Explain (word_of (codes "GRAPH") rows) (first_of (codes "DIR") rows))
-    else Some (asked_by name room (word_of (codes "GRAPH") rows))
+    else Some (asked_by name (form_in rows) room (word_of (codes "GRAPH") rows))
 
 -- what a command asks for with the words after it; nothing where they name no room
 abbrev pub asked_of : Text → List Row → Option Asked
@@ -214,6 +240,11 @@ asked (Some met) = asked_of met.0 met.1
 abbrev pub words_ask : List Text → Option Asked
 words_ask [] = Some Input
 words_ask (word ∷ words) = asked (subcommand_of program (word ∷ words))
+
+-- the form in which it is told, and that of lines where words ask for nothing
+abbrev pub form_asked : Option Asked → Form
+form_asked None = forms.Text
+form_asked (Some asks) = form_of asks
 
 -- the parser takes the words, and they ask for nothing, for this reason
 pub record AsksNothing (words : List Text) (reason : Unread) : Type 0 where

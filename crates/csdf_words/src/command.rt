@@ -4,10 +4,10 @@ ghost use Rattle.std.specs.Prelude.{◌≡◌, ◌≤◌, [], true, false, map, 
 ghost use Rattle.clap.specs.Words.{App, app_of, fault_of, first_of, found_of, kind_of, rows_of, rule_of, subcommand_of, subcommand_rows_of, takes, with_rule, FailsBy};
 ghost use Rattle.clap.specs.declared.builder.command.Command.TheViews.{out-Command as fields_of};
 ghost use Rattle.csdf_words.specs.CommandLine.{on_graph, on_files, run_command, flag, number_option, text_option};
-ghost use Rattle.csdf_words.specs.CommandLine.{explain_command, no_commands, with_command, with_explain, with_questions, with_room, with_roomy_command, program};
+ghost use Rattle.csdf_words.specs.CommandLine.{explain_command, no_commands, with_command, with_explain, with_json, with_question, with_questions, with_room, with_roomy_command, with_roomy_question, program};
 ghost use Rattle.csdf_analysis.specs.Room.{HasSomePeriod};
 ghost use Rattle.csdf_words.specs.CommandLine.{Ask, Run, AskForNothing, asked_view, asked_by, asked_of, asked_with, asked, words_ask, IsUnread};
-ghost use Rattle.csdf_words.specs.CommandLine.{how_long_of, is_given, number_in, number_of, order_of, order_view, room_in, room_of, word_of, word_or};
+ghost use Rattle.csdf_words.specs.CommandLine.{form_in, form_of, how_long_of, is_given, number_in, number_of, order_of, order_view, room_in, room_of, word_of, word_or};
 ghost use Rattle.csdf_words.specs.HowLong.{MayBeAsked};
 
 use crate::help;
@@ -16,7 +16,7 @@ use clap::builder::ValueParser;
 use clap::error::ErrorKind;
 use clap::{Arg, ArgAction, ArgMatches, Command, Error};
 use csdf_analysis::Room;
-use csdf_answers::Question;
+use csdf_answers::{Form, Question};
 use csdf_run::Length;
 use std::alloc::{AllocError, Global};
 
@@ -66,6 +66,8 @@ const JOURNAL: &str = "journal";
 const PROGRESS: &str = "progress";
 
 const ROOM: &str = "room";
+
+const JSON: &str = "json";
 
 /// A command with a graph file, and what its help ends with.
 fn on_graph<'a>(
@@ -156,6 +158,15 @@ fn with_room<'a>(alloc: Global, command: Command<'a>) -> Result<Command<'a>, All
     with_text(alloc, command, ROOM, "M", room)
 }
 
+/// A command with the option for JSON.
+fn with_json<'a>(alloc: Global, command: Command<'a>) -> Result<Command<'a>, AllocError>
+    ensures app { IfOk result (λ r. app_of r ≡ with_json (app_of command.entry)) }
+    ensures globals { IfOk result (λ r. (fields_of r).has_globals ≡ (fields_of command.entry).has_globals) }
+{
+    let json = "Print a JSON object on one line, for a fault too";
+    with_flag(alloc, command, JSON, json)
+}
+
 /// The command that runs a graph, and no option yet.
 fn on_files<'a>(alloc: Global) -> Result<Command<'a>, AllocError>
     ensures app { IfOk result (λ command. app_of command ≡ on_files) }
@@ -188,7 +199,8 @@ fn run_command<'a>(alloc: Global) -> Result<Command<'a>, AllocError>
     let command = with_text(alloc, command, JOURNAL, "FILE", journal)?;
     let progress = "Tell on standard error how many firings were made";
     let command = with_flag(alloc, command, PROGRESS, progress)?;
-    with_room(alloc, command)
+    let command = with_room(alloc, command)?;
+    with_json(alloc, command)
 }
 
 /// The program, and no command yet.
@@ -216,18 +228,45 @@ fn with_command<'a>(
     program.subcommand(on_graph(alloc, name, about, more)?)
 }
 
+/// A command with a graph file and the option for JSON.
+fn on_question<'a>(
+    alloc: Global,
+    name: &'a str,
+    about: &'a str,
+    more: &'a str,
+) -> Result<Command<'a>, AllocError>
+    ensures app { IfOk result (λ command. app_of command ≡ with_json (on_graph name.entry.now)) }
+    ensures local { IfOk result (λ command. (fields_of command).has_globals ≡ false) }
+{
+    let command = on_graph(alloc, name, about, more)?;
+    with_json(alloc, command)
+}
+
+/// The program with one more command on a graph file, which answers as JSON too.
+fn with_question<'a>(
+    alloc: Global,
+    program: Command<'a>,
+    name: &'a str,
+    about: &'a str,
+    more: &'a str,
+) -> Result<Command<'a>, AllocError>
+    ensures { IfOk result (λ r. app_of r ≡ with_question (app_of program.entry) name.entry.now) }
+{
+    program.subcommand(on_question(alloc, name, about, more)?)
+}
+
 /// The same, where there is a program yet.
-fn then_command<'a>(
+fn then_question<'a>(
     alloc: Global,
     program: Result<Command<'a>, AllocError>,
     name: &'a str,
     about: &'a str,
     more: &'a str,
 ) -> Result<Command<'a>, AllocError>
-    ensures { (before : App) → IfOk program.entry (λ p. app_of p ≡ before) → IfOk result (λ r. app_of r ≡ with_command before name.entry.now) }
+    ensures { (before : App) → IfOk program.entry (λ p. app_of p ≡ before) → IfOk result (λ r. app_of r ≡ with_question before name.entry.now) }
 {
     match program {
-        Ok(program) => with_command(alloc, program, name, about, more),
+        Ok(program) => with_question(alloc, program, name, about, more),
         Err(error) => Err(error),
     }
 }
@@ -275,6 +314,49 @@ fn then_roomy_command<'a>(
     }
 }
 
+/// A command with a graph file and the options for room and JSON.
+fn on_roomy_question<'a>(
+    alloc: Global,
+    name: &'a str,
+    about: &'a str,
+    more: &'a str,
+) -> Result<Command<'a>, AllocError>
+    ensures app { IfOk result (λ command. app_of command ≡ with_json (with_room (on_graph name.entry.now))) }
+    ensures local { IfOk result (λ command. (fields_of command).has_globals ≡ false) }
+{
+    let command = on_roomy_graph(alloc, name, about, more)?;
+    with_json(alloc, command)
+}
+
+/// The program with one more command on a graph file, which takes room and answers as JSON too.
+fn with_roomy_question<'a>(
+    alloc: Global,
+    program: Command<'a>,
+    name: &'a str,
+    about: &'a str,
+    more: &'a str,
+) -> Result<Command<'a>, AllocError>
+    ensures { IfOk result (λ r. app_of r ≡ with_roomy_question (app_of program.entry) name.entry.now) }
+{
+    program.subcommand(on_roomy_question(alloc, name, about, more)?)
+}
+
+/// The same, where there is a program yet.
+fn then_roomy_question<'a>(
+    alloc: Global,
+    program: Result<Command<'a>, AllocError>,
+    name: &'a str,
+    about: &'a str,
+    more: &'a str,
+) -> Result<Command<'a>, AllocError>
+    ensures { (before : App) → IfOk program.entry (λ p. app_of p ≡ before) → IfOk result (λ r. app_of r ≡ with_roomy_question before name.entry.now) }
+{
+    match program {
+        Ok(program) => with_roomy_question(alloc, program, name, about, more),
+        Err(error) => Err(error),
+    }
+}
+
 /// The command that explains.
 fn explain_command<'a>(alloc: Global) -> Result<Command<'a>, AllocError>
     ensures app { IfOk result (λ command. app_of command ≡ explain_command) }
@@ -313,13 +395,13 @@ fn with_questions<'a>(alloc: Global, program: Command<'a>) -> Result<Command<'a>
     let about = "Play the script of a graph file";
     let program = with_command(alloc, program, "moves", about, help::MOVES);
     let about = "Tell whether a graph is consistent";
-    let program = then_command(alloc, program, "check", about, help::CHECK);
+    let program = then_question(alloc, program, "check", about, help::CHECK);
     let about = "Print each actor's cycles and firings in a period";
-    let program = then_command(alloc, program, "repetition", about, help::REPETITION);
+    let program = then_question(alloc, program, "repetition", about, help::REPETITION);
     let about = "Print the actor of each firing of a period";
-    let program = then_roomy_command(alloc, program, "schedule", about, help::SCHEDULE);
+    let program = then_roomy_question(alloc, program, "schedule", about, help::SCHEDULE);
     let about = "Print the least channel capacities";
-    let program = then_roomy_command(alloc, program, "capacity", about, help::CAPACITY);
+    let program = then_roomy_question(alloc, program, "capacity", about, help::CAPACITY);
     let about = "Print the graph for Graphviz, which draws it";
     let program = then_roomy_command(alloc, program, "dot", about, help::DOT);
     then_explain(alloc, program)
@@ -342,31 +424,43 @@ fn matches_of<'a>(alloc: Global, words: &'a [String]) -> Result<ArgMatches<'a>, 
     program(alloc)?.try_get_matches_from(words)
 }
 
-/// A question about the graph of a file, with this room.
-fn asking<'a>(question: Question, room: Room, graph: &'a str) -> Request<'a>
+/// The form in which what is asked for is told, and a fault of it.
+pub fn form_of(request: &Request<'_>) -> Form
+    ensures { result ≡ form_of (asked_view request.now) }
+{
+    match request {
+        Request::Ask(inquiry) => inquiry.form,
+        Request::Run(order) => order.form,
+        Request::Input | Request::Moves(_) | Request::Explain(_, _) => Form::Text,
+    }
+}
+
+/// A question about the graph of a file, to be answered in this form with this room.
+fn asking<'a>(question: Question, form: Form, room: Room, graph: &'a str) -> Request<'a>
     requires { HasSomePeriod room }
-    ensures { asked_view result ≡ Ask question room graph.entry.now }
+    ensures { asked_view result ≡ Ask question form room graph.entry.now }
 {
     Request::Ask(Inquiry {
         question,
+        form,
         graph,
         room,
     })
 }
 
-/// What a command but `run` and `explain` asks for with this room and the file that it names. No
-/// other command has a file alone.
+/// What a command but `run` and `explain` asks for in this form with this room and the file that it
+/// names. No other command has a file alone, and a drawing is text.
 #[tactic(auto, unfolding(crate::specs::CommandLine::asked_by))]
-fn asked_by<'a>(command: &str, room: Room, graph: &'a str) -> Request<'a>
+fn asked_by<'a>(command: &str, form: Form, room: Room, graph: &'a str) -> Request<'a>
     requires { HasSomePeriod room }
-    ensures { asked_view result ≡ asked_by command.now room graph.entry.now }
+    ensures { asked_view result ≡ asked_by command.now form room graph.entry.now }
 {
     match command {
-        "check" => asking(Question::Check, room, graph),
-        "repetition" => asking(Question::Repetition, room, graph),
-        "schedule" => asking(Question::Schedule, room, graph),
-        "capacity" => asking(Question::Capacity, room, graph),
-        "dot" => asking(Question::Dot, room, graph),
+        "check" => asking(Question::Check, form, room, graph),
+        "repetition" => asking(Question::Repetition, form, room, graph),
+        "schedule" => asking(Question::Schedule, form, room, graph),
+        "capacity" => asking(Question::Capacity, form, room, graph),
+        "dot" => asking(Question::Dot, Form::Text, room, graph),
         "moves" => Request::Moves(graph),
         _ => Request::Input,
     }
@@ -454,6 +548,17 @@ fn room_of<'a>(arguments: &ArgMatches<'a>) -> Result<Room, &'a str>
     }
 }
 
+/// The form that is asked for.
+fn form_in(arguments: &ArgMatches<'_>) -> Form
+    ensures { result ≡ form_in (rows_of (found_of arguments.now)) }
+{
+    if is_given(arguments, JSON) {
+        Form::Json
+    } else {
+        Form::Text
+    }
+}
+
 /// Whether an option without a value is given.
 fn is_given(arguments: &ArgMatches<'_>, option: &str) -> bool
     ensures { result ≡ is_given option.now (rows_of (found_of arguments.now)) }
@@ -496,6 +601,7 @@ fn order_of<'a>(arguments: &ArgMatches<'a>, room: Room, how_long: Length) -> Run
         room,
         journal: given_of(arguments, JOURNAL),
         progress: is_given(arguments, PROGRESS),
+        form: form_in(arguments),
     }
 }
 
@@ -522,7 +628,7 @@ fn asked_with<'a>(command: &str, arguments: &ArgMatches<'a>, room: Room) -> Opti
     match command {
         "run" => run_of(arguments, room),
         "explain" => Some(Request::Explain(word_of(arguments, GRAPH), given_of(arguments, FOLDER))),
-        _ => Some(asked_by(command, room, word_of(arguments, GRAPH))),
+        _ => Some(asked_by(command, form_in(arguments), room, word_of(arguments, GRAPH))),
     }
 }
 

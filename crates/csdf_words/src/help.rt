@@ -32,8 +32,12 @@ command csdf moves plays them again, of the graph file with FILE at its end. --p
 standard error how many firings were made, in a line that is written over.
 
 Memory holds the tokens that are read and those that the sinks take. A firing leaves nothing else
-behind, unless its moves are asked for. More workers pay where single firings are long, of 16,384 products or more. Lighter ones are
-made by one worker, however many there are.
+behind, unless its moves are asked for. More workers pay where single firings are long, of 16,384
+products or more. Lighter ones are made by one worker, however many there are.
+
+With --json the report is {\"ending\":\"complete\",\"channels\":[..]} on one line, with an object for each
+channel, as {\"channel\":\"x\",\"written\":4,\"taken\":4,\"held\":0,\"peak\":2,\"capacity\":2,\"open\":false},
+and a fault is an object too.
 
 Exit status: 0 the run has ended (complete, dry, stopped or starved), 1 an input was refused,
 2 these words were refused, 3 a file, memory or the run itself failed.
@@ -58,6 +62,9 @@ A graph is consistent where some numbers of firings, one for each actor, leave e
 many tokens as before. A consistent graph may still deadlock, for want of initial tokens: the command
 does not look at these. csdf capacity answers whether a graph can run for ever.
 
+With --json the answer is {\"consistent\":true,\"actors\":3,\"channels\":2} for such a graph, and a fault
+an object too.
+
 Exit status: 0 it is consistent, 1 it is not or is too large, or the file was refused,
 2 these words were refused, 3 a file or memory failed.
 
@@ -68,6 +75,9 @@ pub(crate) const REPETITION: &str = "\
 Prints a line 'NAME cycles firings' for each actor in file order. The first number is how often the
 actor goes through its phases in a period, the second one how often it fires. The command answers
 for a graph that deadlocks too, as csdf check does.
+
+With --json it prints {\"repetition\":[..]} on one line, with an object for each actor, as
+{\"actor\":\"src\",\"cycles\":2,\"firings\":4}, and a fault is an object too.
 
 Exit status: 0 answered, 1 there is no such period, or the file was refused, 2 these words were
 refused, 3 a file or memory failed.
@@ -81,6 +91,9 @@ first actor in file order that has firings of the period left and is able to fir
 capacities: the least ones, or those of a run with --room.
 
 The schedule is for as many cells as these capacities add up to. With fewer, a run may end starved.
+
+With --json it prints {\"schedule\":[..]} on one line, with the name of each firing's actor, and a fault
+is an object too.
 
 Exit status: 0 answered, 1 the graph or its file was refused, as by csdf capacity, 2 these words
 were refused, 3 a file or memory failed.
@@ -102,6 +115,9 @@ on. With the channels in another order the total may be less.
 
 With --room the capacities are those of a run with it: each channel that has no capacity in the file
 has room for its initial tokens and those of M periods, and at most for 65535 tokens.
+
+With --json it prints {\"capacities\":[..],\"cells\":N} on one line, with an object for each channel, as
+{\"channel\":\"x\",\"capacity\":4}, and a fault is an object too.
 
 Exit status: 0 it can, 1 it cannot or is too large, or the file was refused, 2 these words were
 refused, 3 a file or memory failed.

@@ -5,5 +5,5 @@ mod command;
 mod help;
 mod order;
 
-pub use command::{Request, Unread, request_of};
+pub use command::{Request, Unread, form_of, request_of};
 pub use order::{Inquiry, RunOrder};

@@ -6,13 +6,15 @@ ghost use Rattle.csdf_words.specs.Rooms.{HasSomePeriod-prop};
 ghost use Rattle.csdf_words.specs.HowLong.{MayBeAsked, MayBeAsked-prop};
 
 use csdf_analysis::Room;
-use csdf_answers::Question;
+use csdf_answers::{Form, Question};
 use csdf_run::Length;
 
 /// A question about the graph of a file.
 #[derive(Clone, Copy)]
 pub struct Inquiry<'a> {
     pub question: Question,
+    /// The form of the answer, and of a fault.
+    pub form: Form,
     /// The graph file.
     pub graph: &'a str,
     /// The room of the channels that have no capacity in the file.
@@ -41,6 +43,8 @@ pub struct RunOrder<'a> {
     pub journal: Option<&'a str>,
     /// Whether standard error is to tell how far the run has come.
     pub progress: bool,
+    /// The form of the report, and of a fault.
+    pub form: Form,
     ghost some_worker: { 1 ≤ workers },
     ghost few_workers: { workers ≤ 8 },
     ghost may_be_asked: { MayBeAsked how_long } by { MayBeAsked-prop how_long },

@@ -15,6 +15,7 @@ returns-clause-told g c =
         ending = c.in_ok-texts.ensures.ending;
         sinks = c.in_ok-texts.ensures.sinks ∙ ap (λ (g : Graph). sink_texts g.actors (feeds_in o.sinks.items)) c.graph.ensures;
         report = c.in_ok-texts.ensures.report ∙ ap (λ (g : Graph). report_text (names_of g.channels) o.ending o.report.items) c.graph.ensures;
+        channels = c.in_ok-texts.ensures.channels;
         journal = c.in_ok-texts.ensures.journal ∙ ap (λ (g : Graph). kept_script g o.journal) c.graph.ensures;
       },
     )

@@ -1,56 +1,56 @@
-use Rattle.std.proofs.Common.{sym, ap, inl}
-use Rattle.csdf_answers.specs.Described.{IsDescription}
-use Rattle.csdf_answers.specs.Session.{IsAnswer}
-use Rattle.csdf_answers.proofs.ToldLemmas.{if_err_fault}
+use Rattle.std.proofs.Common.{sym, ap, refl, ◌∙◌}
 use Rattle.csdf_words.specs.CommandLine.{asked_view}
-use Rattle.csdf_tool.proofs.EndLemmas.{given_bytes, carried_as, puts_out, refused_as, refuses_file, refuses_input}
+use Rattle.csdf_tool.specs.Carried.{reads_input}
+use Rattle.csdf_tool.proofs.CauseLemmas.{caused_as}
+use Rattle.csdf_tool.proofs.EndLemmas.{carried_as}
 use Rattle.csdf_tool.proofs.program.carry_out.Goals as goal
 
-pub returns-in-Input-clause-refused : goal.returns-in-Input-clause-refused
-returns-in-Input-clause-refused g c =
-    refused_as _ c.play_input.result (asked_view c.args.request) (sym (ap asked_view c.in-Input.is))
-    (refuses_input c.play_input.result _ c.play_input.ensures.long c.play_input.ensures.refused)
+pub returns-in-Input-clause-carried : goal.returns-in-Input-clause-carried
+returns-in-Input-clause-carried g c =
+    carried_as _ c.play_file.result (asked_view c.args.request) (sym (ap asked_view c.in-Input.is)) (g.O.Outlet.written c.args.out.now) _ c.play_file.ensures.written
 
-pub returns-in_ok-graph_bytes-in-Moves-clause-carried : goal.returns-in_ok-graph_bytes-in-Moves-clause-carried
-returns-in_ok-graph_bytes-in-Moves-clause-carried g c =
-    let given = given_bytes c.in-Moves.path.now _ c.in_ok-graph_bytes-in-Moves.ensures.named c.in_ok-graph_bytes-in-Moves.ensures.read (sym c.deref.ensures.value) in
-    carried_as _ c.play_script.result (asked_view c.args.request) (sym (ap asked_view c.in-Moves.is)) (g.O.Outlet.written c.args.out.now) _
-    (puts_out IsAnswer c.in-Moves.path.now _ c.play_script.result _ _ _ given c.play_script.ensures.written)
+pub returns-in-Input-clause-caused : goal.returns-in-Input-clause-caused
+returns-in-Input-clause-caused g c = caused_as _ c.play_file.result (asked_view c.args.request) (sym (ap asked_view c.in-Input.is)) _ c.play_file.ensures.caused
 
-pub returns-in_ok-graph_bytes-in-Moves-clause-refused : goal.returns-in_ok-graph_bytes-in-Moves-clause-refused
-returns-in_ok-graph_bytes-in-Moves-clause-refused g c =
-    let given = given_bytes c.in-Moves.path.now _ c.in_ok-graph_bytes-in-Moves.ensures.named c.in_ok-graph_bytes-in-Moves.ensures.read (sym c.deref.ensures.value) in
-    refused_as _ c.play_script.result (asked_view c.args.request) (sym (ap asked_view c.in-Moves.is))
-    (refuses_file IsAnswer c.in-Moves.path.now _ c.play_script.result _ given c.play_script.ensures.refused)
+pub returns-in-Input-clause-input : goal.returns-in-Input-clause-input
+returns-in-Input-clause-input g c = λ is failed. c.play_file.ensures.input refl failed
 
-pub returns-in_ok-bytes-in-Ask-clause-carried : goal.returns-in_ok-bytes-in-Ask-clause-carried
-returns-in_ok-bytes-in-Ask-clause-carried g c =
-    let asks = c.in-Ask.inquiry in
-    let given = given_bytes asks.graph.now _ c.in_ok-bytes-in-Ask.ensures.named c.in_ok-bytes-in-Ask.ensures.read (sym c.deref-in-Ask.ensures.value) in
-    carried_as _ c.describe_with_room.result (asked_view c.args.request) (sym (ap asked_view c.in-Ask.is)) (g.O.Outlet.written c.args.out.now) _
-    (puts_out (IsDescription asks.question asks.room) asks.graph.now _ c.describe_with_room.result _ _ _ given c.describe_with_room.ensures.written)
+pub returns-in-Moves-clause-carried : goal.returns-in-Moves-clause-carried
+returns-in-Moves-clause-carried g c =
+    carried_as _ c.play_file-in-Moves.result (asked_view c.args.request) (sym (ap asked_view c.in-Moves.is)) (g.O.Outlet.written c.args.out.now) _ c.play_file-in-Moves.ensures.written
 
-pub returns-in_ok-bytes-in-Ask-clause-refused : goal.returns-in_ok-bytes-in-Ask-clause-refused
-returns-in_ok-bytes-in-Ask-clause-refused g c =
-    let asks = c.in-Ask.inquiry in
-    let given = given_bytes asks.graph.now _ c.in_ok-bytes-in-Ask.ensures.named c.in_ok-bytes-in-Ask.ensures.read (sym c.deref-in-Ask.ensures.value) in
-    refused_as _ c.describe_with_room.result (asked_view c.args.request) (sym (ap asked_view c.in-Ask.is))
-    (refuses_file (IsDescription asks.question asks.room) asks.graph.now _ c.describe_with_room.result _ given c.describe_with_room.ensures.refused)
+pub returns-in-Moves-clause-caused : goal.returns-in-Moves-clause-caused
+returns-in-Moves-clause-caused g c = caused_as _ c.play_file-in-Moves.result (asked_view c.args.request) (sym (ap asked_view c.in-Moves.is)) _ c.play_file-in-Moves.ensures.caused
 
-pub returns-in_err-graph_bytes-in-Moves-clause-refused : goal.returns-in_err-graph_bytes-in-Moves-clause-refused
-returns-in_err-graph_bytes-in-Moves-clause-refused g c =
-    refused_as _ _ (asked_view c.args.request) (sym (ap asked_view c.in-Moves.is))
-    (if_err_fault _ c.in_err-graph_bytes-in-Moves.field-0.0 _ c.from_residual.ensures.1 (λ one. inl (c.in_err-graph_bytes-in-Moves.ensures.long one)))
+pub returns-in-Moves-clause-input : goal.returns-in-Moves-clause-input
+returns-in-Moves-clause-input g c = λ is failed. c.play_file-in-Moves.ensures.input (sym (ap (λ r. reads_input (asked_view r)) c.in-Moves.is) ∙ is) failed
 
-pub returns-in_err-bytes-in-Ask-clause-refused : goal.returns-in_err-bytes-in-Ask-clause-refused
-returns-in_err-bytes-in-Ask-clause-refused g c =
-    refused_as _ _ (asked_view c.args.request) (sym (ap asked_view c.in-Ask.is))
-    (if_err_fault _ c.in_err-bytes-in-Ask.field-0.0 _ c.from_residual-in_err-bytes-in-Ask.ensures.1 (λ one. inl (c.in_err-bytes-in-Ask.ensures.long one)))
+pub returns-in-Ask-clause-carried : goal.returns-in-Ask-clause-carried
+returns-in-Ask-clause-carried g c =
+    carried_as _ c.ask_file.result (asked_view c.args.request) (sym (ap asked_view c.in-Ask.is)) (g.O.Outlet.written c.args.out.now) _ c.ask_file.ensures.written
 
-pub returns-in-Run-clause-refused : goal.returns-in-Run-clause-refused
-returns-in-Run-clause-refused g c =
-    refused_as _ c.run_files.result (asked_view c.args.request) (sym (ap asked_view c.in-Run.is)) c.run_files.ensures.refused
+pub returns-in-Ask-clause-caused : goal.returns-in-Ask-clause-caused
+returns-in-Ask-clause-caused g c = caused_as _ c.ask_file.result (asked_view c.args.request) (sym (ap asked_view c.in-Ask.is)) _ c.ask_file.ensures.caused
 
-pub returns-in-Explain-clause-refused : goal.returns-in-Explain-clause-refused
-returns-in-Explain-clause-refused g c =
-    refused_as _ c.explain_files.result (asked_view c.args.request) (sym (ap asked_view c.in-Explain.is)) c.explain_files.ensures.refused
+pub returns-in-Ask-clause-input : goal.returns-in-Ask-clause-input
+returns-in-Ask-clause-input g c = λ is failed. c.ask_file.ensures.input (sym (ap (λ r. reads_input (asked_view r)) c.in-Ask.is) ∙ is) failed
+
+pub returns-in-Explain-clause-carried : goal.returns-in-Explain-clause-carried
+returns-in-Explain-clause-carried g c =
+    carried_as _ c.explain_files.result (asked_view c.args.request) (sym (ap asked_view c.in-Explain.is)) (g.O.Outlet.written c.args.out.now) _ c.explain_files.ensures.written
+
+pub returns-in-Explain-clause-caused : goal.returns-in-Explain-clause-caused
+returns-in-Explain-clause-caused g c = caused_as _ c.explain_files.result (asked_view c.args.request) (sym (ap asked_view c.in-Explain.is)) _ c.explain_files.ensures.caused
+
+pub returns-in-Explain-clause-input : goal.returns-in-Explain-clause-input
+returns-in-Explain-clause-input g c = λ is failed. c.explain_files.ensures.input (sym (ap (λ r. reads_input (asked_view r)) c.in-Explain.is) ∙ is) failed
+
+pub returns-in-Run-clause-carried : goal.returns-in-Run-clause-carried
+returns-in-Run-clause-carried g c =
+    carried_as _ c.run_files.result (asked_view c.args.request) (sym (ap asked_view c.in-Run.is)) (g.O.Outlet.written c.args.out.now) _ c.run_files.ensures.written
+
+pub returns-in-Run-clause-caused : goal.returns-in-Run-clause-caused
+returns-in-Run-clause-caused g c = caused_as _ c.run_files.result (asked_view c.args.request) (sym (ap asked_view c.in-Run.is)) _ c.run_files.ensures.ended
+
+pub returns-in-Run-clause-input : goal.returns-in-Run-clause-input
+returns-in-Run-clause-input g c = λ is failed. c.run_files.ensures.input (sym (ap (λ r. reads_input (asked_view r)) c.in-Run.is) ∙ is) failed

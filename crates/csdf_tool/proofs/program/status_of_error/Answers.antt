@@ -1,5 +1,8 @@
-use Rattle.std.proofs.Common.{rules}
-use Rattle.csdf_tool.proofs.EndLemmas.{ends_as}
+use Rattle.std.proofs.Common.{rules, subst, ◌≡◌}
+use Rattle.std.specs.Prelude.{◌⊎◌}
+use Rattle.clap.specs.declared.error.kind.ErrorKind.{ErrorKind}
+use Rattle.clap.specs.declared.error.kind.ErrorKind.TheVariants.{DisplayHelp, DisplayVersion}
+use Rattle.csdf_tool.proofs.EndLemmas.{ends_as, help_ends, help_for}
 use Rattle.csdf_tool.proofs.program.status_of_error.Goals as goal
 
 pub returns-in-OutOfMemory-clause-lined : goal.returns-in-OutOfMemory-clause-lined
@@ -7,3 +10,8 @@ returns-in-OutOfMemory-clause-lined g c = λ three. ends_as _ c.tell.ensures
 
 pub returns-in_default : goal.returns-in_default
 returns-in_default g c = search rules
+
+pub returns-in-DisplayHelp-clause-ends : goal.returns-in-DisplayHelp-clause-ends
+returns-in-DisplayHelp-clause-ends g c =
+    help_for _ _ (subst (λ (k : ErrorKind). (k ≡ DisplayHelp) ⊎ (k ≡ DisplayVersion)) c.kind.ensures c.in-DisplayHelp.is)
+    (help_ends c.print_help.result _ c.status_after.ensures.ends c.print_help.ensures.caused c.print_help.ensures.failed)

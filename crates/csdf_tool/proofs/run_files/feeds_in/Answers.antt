@@ -2,16 +2,22 @@ use Rattle.std.proofs.Common.{◌≡◌, ◌<◌, length, get_or, map, ap, sym, 
 use Rattle.std.proofs.lemmas.List.{get_or-map, length-map}
 use Rattle.csdf_model.specs.Graph.{actor_view}
 use Rattle.csdf_run.specs.Texts.{texts_in}
-use Rattle.csdf_tool.proofs.DiskLemmas.{actor_next, on_err, only_more, only_read_to}
-use Rattle.csdf_tool.proofs.RunLemmas.{unread_at}
+use Rattle.csdf_tool.proofs.DiskLemmas.{actor_next, missing_next, on_err, only_more, only_read_to}
 use Rattle.csdf_answers.proofs.ToldLemmas.{if_err_fault}
 use Rattle.csdf_tool.proofs.run_files.feeds_in.Goals as goal
 
-pub returns-in_err-push_feed-clause-refused : goal.returns-in_err-push_feed-clause-refused
-returns-in_err-push_feed-clause-refused g c =
+pub returns-in_err-push_feed-clause-missing : goal.returns-in_err-push_feed-clause-missing
+returns-in_err-push_feed-clause-missing g c =
+    let actors = c.args.actors.now in
+    let i = c.loop-actor.actor-index in
+    let d = c.actor-item.result in
     let fault = c.in_err-push_feed.field-0.0 in
+    let there : i < length (map actor_view actors) = omega (arith, c.loop-actor-test.true, length-map actors actor_view) in
+    let at : get_or (map actor_view actors) i (actor_view d) ≡ actor_view d =
+    get_or-map actor_view actors i d (actor_view d) c.loop-actor-test.true ∙ ap actor_view (sym c.actor-item.is) in
     if_err_fault _ fault _ c.from_residual.ensures.1
-    (unread_at c.args.actors.now c.loop-actor.actor-index c.actor-item.result fault c.loop-actor-test.true c.actor-item.is c.in_err-push_feed.ensures.refused)
+    (missing_next _ _ _ c.args.folder.now (map actor_view actors) i (actor_view d) (texts_in c.loop-actor.feeds.items) there at c.loop-actor.invariant fault
+    c.in_err-push_feed.ensures.missing)
 
 pub returns-in_err-push_feed-clause-only : goal.returns-in_err-push_feed-clause-only
 returns-in_err-push_feed-clause-only g c =

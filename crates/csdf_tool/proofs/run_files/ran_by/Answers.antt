@@ -1,47 +1,54 @@
-use Rattle.std.proofs.Common.{Ok, ap, map, sym, subst, inl, ◌∙◌}
+use Rattle.std.proofs.Common.{Ok, ap, map, refl, sym, subst, inl, ◌∙◌}
 use Rattle.csdf_model.specs.Graph.{actor_view}
 use Rattle.csdf_graph.specs.GraphText.{IsGraphOf}
 use Rattle.csdf_run.specs.Texts.{texts_in}
 use Rattle.csdf_words.specs.CommandLine.{order_view}
 use Rattle.csdf_tool.specs.GraphFiles.{IsNamed}
-use Rattle.csdf_tool.specs.Running.{IsUnreadOf}
-use Rattle.csdf_tool.proofs.DiskLemmas.{on_err, only_feeds, only_graph, only_more}
-use Rattle.csdf_tool.proofs.RunLemmas.{is_some-map, not_memory, refused_by_feed, refused_by_texts, run_asks}
+use Rattle.csdf_answers.specs.Faults.{fault_of}
+use Rattle.csdf_answers.specs.declared.fault.Stream.TheVariants.{Input}
+use Rattle.csdf_answers.specs.declared.fault.ToolFault.TheVariants.{Device}
+use Rattle.csdf_tool.proofs.CauseLemmas.{err_as}
+use Rattle.csdf_tool.proofs.RunLemmas.{is_some-map, run_asks, stops_by_feed, stops_by_graph, stops_by_texts}
 use Rattle.csdf_answers.proofs.ToldLemmas.{if_err_fault}
 use Rattle.csdf_tool.proofs.run_files.ran_by.Goals as goal
 
-pub returns-in_err-bytes-clause-refused : goal.returns-in_err-bytes-clause-refused
-returns-in_err-bytes-clause-refused g c =
-    if_err_fault _ c.in_err-bytes.field-0.0 _ c.from_residual.ensures.1 (λ one. inl (c.in_err-bytes.ensures.long one))
+pub returns-in_err-bytes-clause-stopped : goal.returns-in_err-bytes-clause-stopped
+returns-in_err-bytes-clause-stopped g c =
+    if_err_fault _ c.in_err-bytes.field-0.0 _ c.from_residual.ensures.1
+    (record { only = c.in_err-bytes.ensures.unread; why = inl c.in_err-bytes.ensures.missing })
 
-pub returns-in_err-feeds-clause-refused : goal.returns-in_err-feeds-clause-refused
-returns-in_err-feeds-clause-refused g c =
+pub returns-in_err-bytes-clause-input : goal.returns-in_err-bytes-clause-input
+returns-in_err-bytes-clause-input g c = λ is failed.
+    let told = (c.in_err-bytes.ensures.device is).1 failed in
+    err_as _ c.in_err-bytes.field-0.0 (Device Input) c.from_residual.ensures.1 (cc)
+
+pub returns-in_err-graph-clause-stopped : goal.returns-in_err-graph-clause-stopped
+returns-in_err-graph-clause-stopped g c =
+    let left = g.I.Intake.left c.args.reader.now in
+    let why = c.in_err-graph.field-0.0 in
+    if_err_fault _ (fault_of why) _ c.from_residual-in_err-graph.ensures.1
+    (stops_by_graph (order_view c.args.order) left _ c.in_ok-bytes.bytes.items c.deref.result.now (sym c.deref.ensures.value) c.in_ok-bytes.ensures.named
+    (fault_of why) _ _ c.in_ok-bytes.ensures.read why c.in_err-graph.ensures refl)
+
+pub returns-in_err-feeds-clause-stopped : goal.returns-in_err-feeds-clause-stopped
+returns-in_err-feeds-clause-stopped g c =
     let fault = c.in_err-feeds.field-0.0 in
-    let unread = subst (λ actors. IsUnreadOf actors fault) c.actors.ensures.value c.in_err-feeds.ensures.refused in
     let left = g.I.Intake.left c.args.reader.now in
-    let named = subst (λ bytes. IsNamed c.args.order.graph.now left bytes) (sym c.deref.ensures.value) c.in_ok-bytes.ensures.named in
     if_err_fault _ fault _ c.from_residual-in_err-feeds.ensures.1
-    (λ one. refused_by_feed (order_view c.args.order) left c.deref.result.now named fault c.in_ok-graph.graph c.in_ok-graph.ensures unread)
+    (stops_by_feed (order_view c.args.order) left _ c.in_ok-bytes.bytes.items c.deref.result.now (sym c.deref.ensures.value) c.in_ok-bytes.ensures.named fault
+    _ _ _ c.in_ok-bytes.ensures.read c.in_ok-graph.graph c.in_ok-graph.ensures c.in_err-feeds.ensures.only (map actor_view c.actors.result.now)
+    c.actors.ensures.value c.in_err-feeds.ensures.missing)
 
-pub returns-in_err-feeds-clause-only : goal.returns-in_err-feeds-clause-only
-returns-in_err-feeds-clause-only g c =
-    on_err _ _ (only_more _ _ _ (only_graph _ _ c.args.order.graph.now _ c.in_ok-bytes.ensures.read) c.in_err-feeds.ensures.only)
-
-pub returns-in_err-texts-clause-refused : goal.returns-in_err-texts-clause-refused
-returns-in_err-texts-clause-refused g c =
+pub returns-in_err-texts-clause-stopped : goal.returns-in_err-texts-clause-stopped
+returns-in_err-texts-clause-stopped g c =
     let fault = c.in_err-texts.field-0.0 in
-    let read = subst (λ bytes. IsGraphOf bytes (Ok c.in_ok-graph.graph)) (c.deref.ensures.value ∙ sym c.deref-2.ensures.value) c.in_ok-graph.ensures in
     let left = g.I.Intake.left c.args.reader.now in
-    let named = subst (λ bytes. IsNamed c.args.order.graph.now left bytes) (sym c.deref-2.ensures.value) c.in_ok-bytes.ensures.named in
+    let read = subst (λ bytes. IsGraphOf bytes (Ok c.in_ok-graph.graph)) (c.deref.ensures.value ∙ sym c.deref-2.ensures.value) c.in_ok-graph.ensures in
     if_err_fault _ fault _ c.from_residual-in_err-texts.ensures.1
-    (λ one.
-    refused_by_texts (order_view c.args.order) left c.deref-2.result.now named fault c.in_ok-graph.graph read _
-    (c.in_err-texts.ensures.refused (not_memory fault one)))
-
-pub returns-in_err-texts-clause-only : goal.returns-in_err-texts-clause-only
-returns-in_err-texts-clause-only g c =
-    on_err _ _ (only_more _ _ _ (only_graph _ _ c.args.order.graph.now _ c.in_ok-bytes.ensures.read)
-    (only_feeds _ _ c.args.order.folder.now (map actor_view c.actors.result.now) (texts_in c.in_ok-feeds.feeds.items) c.in_ok-feeds.ensures.read))
+    (stops_by_texts (order_view c.args.order) left _ c.in_ok-bytes.bytes.items c.deref-2.result.now (sym c.deref-2.ensures.value) c.in_ok-bytes.ensures.named fault
+    _ _ _ c.in_ok-bytes.ensures.read c.in_ok-graph.graph read (map actor_view c.actors.result.now) c.actors.ensures.value
+    (texts_in c.in_ok-feeds.feeds.items) (texts_in c.deref-3.result.now) (ap texts_in (sym c.deref-3.ensures.value)) c.in_ok-feeds.ensures.read
+    c.in_ok-feeds.ensures.each c.in_err-texts.ensures.refused)
 
 pub returns-clause-ran : goal.returns-clause-ran
 returns-clause-ran g c =

@@ -2,28 +2,26 @@ use Rattle.std.proofs.Common.{sym, subst, refl, ◌≡◌, ◌∙◌, inl, inr}
 use Rattle.csdf_answers.specs.declared.fault.ToolFault.TheVariants as fault
 use Rattle.csdf_answers.specs.declared.fault.Stream.TheVariants.{Output}
 use Rattle.std.specs.Io.KnownBytes.{Appends}
-use Rattle.csdf_tool.proofs.DiskLemmas.{asks_more}
-use Rattle.csdf_tool.proofs.RunLemmas.{cut_ends}
+use Rattle.csdf_tool.proofs.DiskLemmas.{asks_more, only_run}
+use Rattle.csdf_words.specs.CommandLine.{order_view}
+use Rattle.csdf_tool.proofs.RunLemmas.{cut_ends, ends_for_memory}
 use Rattle.csdf_answers.proofs.ToldLemmas.{if_err_fault}
 use Rattle.csdf_tool.proofs.run_files.run_files.Goals as goal
 
-pub returns-in_err-ran-clause-refused : goal.returns-in_err-ran-clause-refused
-returns-in_err-ran-clause-refused g c = if_err_fault _ c.in_err-ran.field-0.0 _ c.from_residual.ensures.1 c.in_err-ran.ensures.refused
-
 pub returns-in_err-ran-clause-ended : goal.returns-in_err-ran-clause-ended
-returns-in_err-ran-clause-ended g c = if_err_fault _ c.in_err-ran.field-0.0 _ c.from_residual.ensures.1 (inl c.in_err-ran.ensures.only)
+returns-in_err-ran-clause-ended g c = if_err_fault _ c.in_err-ran.field-0.0 _ c.from_residual.ensures.1 (inl c.in_err-ran.ensures.stopped)
+
+pub returns-in_err-report-clause-ended : goal.returns-in_err-report-clause-ended
+returns-in_err-report-clause-ended g c =
+    let ran = c.in_ok-ran.ensures.ran in
+    let only = only_run _ _ (order_view c.args.order) c.in_ok-ran.ran.graph ran.0 ran.1 ran.3 in
+    ends_for_memory _ (order_view c.args.order) (g.I.Intake.left c.args.reader.now) _ _ _ c.from_residual-in_err-report.ensures.1 only
 
 pub returns-in_err-put_sinks-clause-failed : goal.returns-in_err-put_sinks-clause-failed
 returns-in_err-put_sinks-clause-failed g c = λ e.
     let told = rw e at c.from_residual-in_err-put_sinks.ensures in
     let same : c.in_err-put_sinks.field-0.0 ≡ fault.Device Output = cc in
-    absurd ((cut_ends _ _ c.in_err-put_sinks.field-0.0 c.in_err-put_sinks.ensures.cut.2).1 same)
-
-pub returns-in_err-put_sinks-clause-refused : goal.returns-in_err-put_sinks-clause-refused
-returns-in_err-put_sinks-clause-refused g c =
-    let three = (cut_ends _ _ c.in_err-put_sinks.field-0.0 c.in_err-put_sinks.ensures.cut.2).0 in
-    if_err_fault _ c.in_err-put_sinks.field-0.0 _ c.from_residual-in_err-put_sinks.ensures.1
-    (λ one. let no : 3 ≡ 1 = sym three ∙ one in absurd (cc))
+    absurd (cut_ends _ _ c.in_err-put_sinks.field-0.0 c.in_err-put_sinks.ensures.cut.2 same)
 
 pub returns-in_err-put_sinks-clause-ended : goal.returns-in_err-put_sinks-clause-ended
 returns-in_err-put_sinks-clause-ended g c =
@@ -51,7 +49,9 @@ returns-in-Ok-clause-written g c =
       texts = c.in_ok-ran.ran.texts;
       runs = ran.2;
       files = asks_more _ _ _ _ _ ran.3 c.in_ok-put_sinks.ensures.put;
-      report = subst (Appends _ _) c.deref.ensures.value c.in-Ok.ensures.written;
+      report = c.in_ok-report.report.items;
+      tells = c.in_ok-report.ensures;
+      written = subst (Appends _ _) c.deref.ensures.value c.in-Ok.ensures.written;
     }
 
 pub returns-clause-ended : goal.returns-clause-ended
@@ -59,6 +59,7 @@ returns-clause-ended g c =
     let ran = c.in_ok-ran.ensures.ran in
     inr (inr (
       refl,
+      c.in-Err.ensures.marked,
       record {
         graph = c.in_ok-ran.ran.graph;
         bytes = ran.0;

@@ -1,7 +1,7 @@
 use Rattle.std.proofs.Common.{refl, map, [], ◌∙◌}
 use Rattle.csdf_model.specs.Graph.{Channel, channel_view}
 use Rattle.csdf_core.proofs.LayoutLemmas.{seen_at}
-use Rattle.csdf_floor.proofs.printed.name_at.Goals as goal
+use Rattle.csdf_floor.proofs.printed.channel_name.Goals as goal
 
 pub returns-in-Some : goal.returns-in-Some
 returns-in-Some c =

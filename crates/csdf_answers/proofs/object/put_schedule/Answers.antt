@@ -1,0 +1,17 @@
+use Rattle.std.proofs.Common.{[], ◌∷◌, codes, map}
+use Rattle.std.proofs.lemmas.Result.{on_ok_weaker}
+use Rattle.json.specs.Token.{begin_object, end_object}
+use Rattle.json.specs.Tree.{items_tokens}
+use Rattle.csdf_json.specs.Lines.{list_tokens}
+use Rattle.csdf_model.specs.Graph.{actor_view}
+use Rattle.csdf_answers.specs.Described.{actor_names}
+use Rattle.csdf_answers.specs.Objects.{firing_items}
+use Rattle.csdf_json.proofs.LineLemmas.{wrote_four}
+use Rattle.csdf_answers.proofs.object.put_schedule.Goals as goal
+
+pub returns-clause-tokens : goal.returns-clause-tokens
+returns-clause-tokens c =
+    on_ok_weaker c.end_object.result
+    (λ e. wrote_four c.args.writer.now.tokens (begin_object ∷ []) (list_tokens (codes "schedule")) (items_tokens (firing_items (actor_names (map actor_view c.args.actors.now)) c.args.firings.now)) (end_object ∷ []) _ _ _ _
+    c.in_ok-begin_object.ensures.ok c.in_ok-open_list.ensures.tokens c.in_ok-put_firings.ensures.tokens e)
+    c.end_object.ensures.ok

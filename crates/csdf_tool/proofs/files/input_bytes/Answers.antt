@@ -1,0 +1,8 @@
+use Rattle.std.proofs.Common.{refl}
+use Rattle.csdf_tool.proofs.CauseLemmas.{input_fault}
+use Rattle.csdf_tool.proofs.files.input_bytes.Goals as goal
+
+pub returns-in-Err-clause-missing : goal.returns-in-Err-clause-missing
+returns-in-Err-clause-missing g c =
+    let why = c.in-Err.fault in
+    (why, input_fault (g.I.Intake.left c.args.reader.now) _ why (λ e. c.in-Err.ensures.read.0 e) (λ e. c.in-Err.ensures.long e), c.unread.ensures)
