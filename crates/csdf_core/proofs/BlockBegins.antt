@@ -5,7 +5,7 @@ use Rattle.std.specs.Prelude.{find, IfSome}
 use Rattle.std.specs.List.{AllByRecursion}
 use Rattle.std.proofs.lemmas.Bool.Decides.{nat_tests}
 use Rattle.csdf_core.specs.declared.refusal.Refusal.TheVariants.{Stopped, NoCells}
-use Rattle.csdf_core.specs.Blocks.{gifts_of, needs_of, FindsAll, capacity_at}
+use Rattle.csdf_core.specs.Blocks.{gifts_of, needs_of, takes_at, gives_at, FindsAll, capacity_at}
 use Rattle.csdf_core.specs.Going.{CanGo}
 use Rattle.csdf_core.specs.Moves.{Begin}
 use Rattle.csdf_core.specs.Plan.{Channel, Plan}
@@ -15,8 +15,8 @@ use Rattle.csdf_core.specs.Rows.{need, gift, is_short, is_full, first}
 use Rattle.csdf_core.specs.State.{Present}
 use Rattle.csdf_core.specs.Step.{count, given, is_dry, is_stopped, is_reached, lacks_cells, refusal, first_of, when, begun_count, held, reserved}
 use Rattle.csdf_core.proofs.Accepting.{begin_is}
-use Rattle.csdf_core.proofs.BlockPorts.{both, each, each_within, sum_none}
-use Rattle.csdf_core.proofs.PortLemmas.{first_short, first_full, need_is, gift_is}
+use Rattle.csdf_core.proofs.BlockPorts.{each, sum_none}
+use Rattle.csdf_core.proofs.PortLemmas.{first_short, first_full, need_is}
 use Rattle.csdf_core.proofs.Totals.{given-suc}
 
 -- what the firings give is told by the sums
@@ -66,24 +66,19 @@ module _ (plan : Plan) (p : Present) (a n : ℕ) (fit : IsFit plan p) (h : Finds
 
   not_short : first (is_short a k) plan.channels p.tokens ≡ None
   not_short =
-      let each : AllByRecursion (λ c. take_at plan.channels k c ≤ need a k plan.channels) (inputs_at plan.channels a) =
-      each_within (take_at plan.channels k) (inputs_at plan.channels a) (need a k plan.channels) (omega (arith, need_is a k plan.channels)) in
       let none : AllByRecursion (λ c. short_at plan.channels k p.tokens c ≡ false) (inputs_at plan.channels a) =
-      both (inputs_at plan.channels a)
-      (λ c (x : take_at plan.channels k c ≤ need a k plan.channels) (y : needs_of plan.channels a k (suc n) ≤ length (tokens_at p.tokens c)).
-      le-ltb (length (tokens_at p.tokens c)) (take_at plan.channels k c) (omega (arith, x, y))) each h.tokens in
+      each (inputs_at plan.channels a)
+      (λ c (x : takes_at plan.channels k (suc n) c ≤ length (tokens_at p.tokens c)).
+      le-ltb (length (tokens_at p.tokens c)) (take_at plan.channels k c) (omega (arith, x))) h.tokens in
       sym (first_short a k plan.channels p.tokens fit.queued) ∙ none_found (short_at plan.channels k p.tokens) (inputs_at plan.channels a) none
 
   not_full : first (is_full a k) plan.channels p.tokens ≡ None
   not_full =
-      let each : AllByRecursion (λ c. give_at plan.channels k c ≤ gift a k plan.channels) (outputs_at plan.channels a) =
-      each_within (give_at plan.channels k) (outputs_at plan.channels a) (gift a k plan.channels) (omega (arith, gift_is a k plan.channels)) in
       let none : AllByRecursion (λ c. full_at plan.channels a k p.tokens c ≡ false) (outputs_at plan.channels a) =
-      both (outputs_at plan.channels a)
-      (λ c (x : give_at plan.channels k c ≤ gift a k plan.channels)
-      (y : length (tokens_at p.tokens c) + gifts_of plan.channels a k (suc n) ≤ capacity_at plan.channels c).
-      le-ltb (capacity_at plan.channels c) (length (tokens_at p.tokens c) - own_take_at plan.channels a k c + give_at plan.channels k c) (omega (arith, x, y)))
-      each h.room in
+      each (outputs_at plan.channels a)
+      (λ c (x : length (tokens_at p.tokens c) + gives_at plan.channels k (suc n) c ≤ capacity_at plan.channels c).
+      le-ltb (capacity_at plan.channels c) (length (tokens_at p.tokens c) - own_take_at plan.channels a k c + give_at plan.channels k c) (omega (arith, x)))
+      h.room in
       sym (first_full a k plan.channels p.tokens fit.queued) ∙ none_found (full_at plan.channels a k p.tokens) (outputs_at plan.channels a) none
 
   not_dry : is_dry plan p a ≡ false
@@ -121,15 +116,20 @@ module _ (plan : Plan) (p : Present) (a n : ℕ) (fit : IsFit plan p) (h : Finds
 
 -- ---- fewer firings move no more
 
-pub needs_fewer : (channels : List Channel) (a k m n : ℕ) → m ≤ n → needs_of channels a k m ≤ needs_of channels a k n
-needs_fewer channels a k zero n le = omega arith
-needs_fewer channels a k (suc m) zero le = absurd (omega arith)
-needs_fewer channels a k (suc m) (suc n) le = let r = needs_fewer channels a (suc k) m n (omega arith) in omega (arith, r)
-
 pub gifts_fewer : (channels : List Channel) (a k m n : ℕ) → m ≤ n → gifts_of channels a k m ≤ gifts_of channels a k n
 gifts_fewer channels a k zero n le = omega arith
 gifts_fewer channels a k (suc m) zero le = absurd (omega arith)
 gifts_fewer channels a k (suc m) (suc n) le = let r = gifts_fewer channels a (suc k) m n (omega arith) in omega (arith, r)
+
+takes_fewer : (channels : List Channel) (k m n c : ℕ) → m ≤ n → takes_at channels k m c ≤ takes_at channels k n c
+takes_fewer channels k zero n c le = omega arith
+takes_fewer channels k (suc m) zero c le = absurd (omega arith)
+takes_fewer channels k (suc m) (suc n) c le = let r = takes_fewer channels (suc k) m n c (omega arith) in omega (arith, r)
+
+gives_fewer : (channels : List Channel) (k m n c : ℕ) → m ≤ n → gives_at channels k m c ≤ gives_at channels k n c
+gives_fewer channels k zero n c le = omega arith
+gives_fewer channels k (suc m) zero c le = absurd (omega arith)
+gives_fewer channels k (suc m) (suc n) c le = let r = gives_fewer channels (suc k) m n c (omega arith) in omega (arith, r)
 
 fewer_begun : (o : Option ℕ) (b m n : ℕ) → m ≤ n → IfSome o (λ most. b + n ≤ most) → IfSome o (λ most. b + m ≤ most)
 fewer_begun None b m n le h = tt
@@ -138,10 +138,9 @@ fewer_begun (Some most) b m n le h = omega (arith, le, h)
 -- an actor that can make n firings can make any fewer
 pub finds_fewer : (plan : Plan) (p : Present) (a k m n : ℕ) → m ≤ n → FindsAll plan p a k n → FindsAll plan p a k m
 finds_fewer plan p a k m n le h =
-    let needs = needs_fewer plan.channels a k m n le in
     let gifts = gifts_fewer plan.channels a k m n le in
     record {
-      plain = h.plain;
+      apart = h.apart;
       there = h.there;
       number = h.number;
       idle = h.idle;
@@ -149,11 +148,13 @@ finds_fewer plan p a k m n le h =
       opens = h.opens;
       supply = λ source. (let s = h.supply source in omega (arith, s, gifts, given_more plan a k m, given_more plan a k n));
       tokens = each (inputs_at plan.channels a)
-          (λ c (x : needs_of plan.channels a k n ≤ length (tokens_at p.tokens c)).
-          (let r : needs_of plan.channels a k m ≤ length (tokens_at p.tokens c) = omega (arith, x, needs) in r)) h.tokens;
+          (λ c (x : takes_at plan.channels k n c ≤ length (tokens_at p.tokens c)).
+          (let t = takes_fewer plan.channels k m n c le in
+          let r : takes_at plan.channels k m c ≤ length (tokens_at p.tokens c) = omega (arith, x, t) in r)) h.tokens;
       room = each (outputs_at plan.channels a)
-          (λ c (x : length (tokens_at p.tokens c) + gifts_of plan.channels a k n ≤ capacity_at plan.channels c).
-          (let r : length (tokens_at p.tokens c) + gifts_of plan.channels a k m ≤ capacity_at plan.channels c = omega (arith, x, gifts) in r)) h.room;
+          (λ c (x : length (tokens_at p.tokens c) + gives_at plan.channels k n c ≤ capacity_at plan.channels c).
+          (let t = gives_fewer plan.channels k m n c le in
+          let r : length (tokens_at p.tokens c) + gives_at plan.channels k m c ≤ capacity_at plan.channels c = omega (arith, x, t) in r)) h.room;
       firings = fewer_begun plan.firings (begun_count p) m n le h.firings;
       cells = (let c = h.cells in omega (arith, c, gifts));
     }

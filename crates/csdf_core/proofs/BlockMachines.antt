@@ -1,4 +1,4 @@
--- What a core keeps, through the four moves of a firing of an actor with one input and one output at most.
+-- What a core keeps, through the four moves of a firing.
 use Rattle.std.proofs.Common.{◌≡◌, ℕ, ◌+◌, ◌-◌, ◌<◌, ◌≤◌, ◌==◌, List, [], ◌∷◌, length, get_or, set, refl, ap, ap₂, subst, ◌∙◌, sym, arith, None}
 use Rattle.std.specs.Prelude.{ℤ, Ok, sum_by}
 use Rattle.std.proofs.lemmas.List.Elements.{recursion_from_All}
@@ -9,7 +9,7 @@ use Rattle.csdf_core.specs.Moves.{Move}
 use Rattle.csdf_core.specs.Moves.{Begin, Read, Write, Finish}
 use Rattle.csdf_core.specs.Next.{begun, fetched, written, finished}
 use Rattle.csdf_core.specs.Plan.{Channel, Plan}
-use Rattle.csdf_core.specs.Ports.{inputs_at, outputs_at, take_at, give_at, tokens_in}
+use Rattle.csdf_core.specs.Ports.{inputs_at, outputs_at, take_at, give_at, tokens_in, takes_over, puts_over}
 use Rattle.csdf_core.specs.Rows.{need, gift, left, joined, shares}
 use Rattle.csdf_core.specs.Shows.{View, Follows, Plays, AreSharedOut, raised, raised_over}
 use Rattle.csdf_core.specs.Sound.{IsSound}
@@ -17,7 +17,7 @@ use Rattle.csdf_core.specs.State.{Present}
 use Rattle.csdf_core.specs.Step.{Reply, count, held, refusal, first_of, write_table, answer, after}
 use Rattle.csdf_core.specs.Transfers.{after_read, after_write}
 use Rattle.csdf_core.proofs.BlockPools.{Holds}
-use Rattle.csdf_core.proofs.BlockPorts.{AreWithin, took, gave, one_takes, one_puts, one_took, one_gave, holds_took, holds_gave}
+use Rattle.csdf_core.proofs.BlockPorts.{AreWithin, one_takes, one_puts, holds_takes, holds_puts}
 use Rattle.csdf_core.proofs.CoreLemmas.{held-chains}
 use Rattle.csdf_core.proofs.Follows.{follows_accepted}
 use Rattle.csdf_core.proofs.Kept.{writes}
@@ -136,70 +136,63 @@ module _ (plan : Plan) (a : ℕ) where
           follows_accepted (view plan m) (view plan m_begun) (Begin a) [] refl none refl refl good.sound.fit good.chains good.sound.cells
           (sym (peaks_stay plan m.now m.peaks m.sums m.started m.kept m.pool good.sound))
 
-      module _ (plain : IsPlain plan.channels a) where
-        pub read_is : after_read plan a (count m.now a) m.pool ≡ takes_in ins needed m.pool
-        read_is = one_takes ins (take_at plan.channels (count m.now a)) needed m.pool plain.one_in (need_is a (count m.now a) plan.channels)
+      read_holds : Holds m.pool m_fetched.pool (takes_over (take_at plan.channels (count m.now a)) ins (tokens_in m.pool))
+      read_holds = holds_takes (take_at plan.channels (count m.now a)) ins m.pool (ins_within (length m.pool.chains) good.sound.chained)
 
-        read_holds : Holds m.pool m_fetched.pool (took ins needed (tokens_in m.pool))
-        read_holds =
-            subst (λ (q : Shared). Holds m.pool q (took ins needed (tokens_in m.pool))) (sym read_is)
-            (holds_took ins needed m.pool (ins_within (length m.pool.chains) good.sound.chained))
+      pub tokens_read : tokens_in m_fetched.pool ≡ left a (count m.now a) plan.channels m.now.tokens
+      tokens_read =
+          left_here plan m.now a (count m.now a) (tokens_in m_fetched.pool) good.sound.fit refl
+          (read_holds.tokens_are ∙ ap (takes_over (take_at plan.channels (count m.now a)) ins) good.chains)
 
-        pub tokens_read : tokens_in m_fetched.pool ≡ left a (count m.now a) plan.channels m.now.tokens
-        tokens_read =
-            left_here plan m.now a (count m.now a) (tokens_in m_fetched.pool) good.sound.fit refl
-            (read_holds.tokens_are ∙ ap (took ins needed) good.chains
-            ∙ sym (one_took ins (take_at plan.channels (count m.now a)) needed m.now.tokens plain.one_in (need_is a (count m.now a) plan.channels)))
+      cells_read : AreSharedOut plan m_fetched.pool
+      cells_read = record { size = read_holds.size ∙ good.sound.cells.size; partition = read_holds.partition good.sound.cells.partition }
 
-        cells_read : AreSharedOut plan m_fetched.pool
-        cells_read = record { size = read_holds.size ∙ good.sound.cells.size; partition = read_holds.partition good.sound.cells.partition }
+      pub good_fetched : refusal plan m.now (Read a) ≡ None → IsGood plan m_fetched
+      good_fetched none = record {
+        sound = sound_fetched plan m.now m.peaks m.sums m.started m.kept m.pool a m_fetched.kept m_fetched.pool good.sound none
+            (let le = kept_to_read plan m.now a m.kept (given - needed) good.sound.fit none good.sound.keeps refl in omega (arith, le)) read_holds.chained cells_read;
+        chains = tokens_read;
+      }
 
-        pub good_fetched : refusal plan m.now (Read a) ≡ None → IsGood plan m_fetched
-        good_fetched none = record {
-          sound = sound_fetched plan m.now m.peaks m.sums m.started m.kept m.pool a m_fetched.kept m_fetched.pool good.sound none
-              (let le = kept_to_read plan m.now a m.kept (given - needed) good.sound.fit none good.sound.keeps refl in omega (arith, le)) read_holds.chained cells_read;
-          chains = tokens_read;
+      pub follows_fetched : (none : refusal plan m.now (Read a) ≡ None)
+          → Follows (view plan m) (view plan m_fetched) (Read a) (Ok (answer plan m.now (Read a)))
+      follows_fetched none =
+          follows_accepted (view plan m) (view plan m_fetched) (Read a) (answer plan m.now (Read a)) refl none refl refl good.sound.fit tokens_read cells_read
+          (sym (peaks_stay plan m_fetched.now m.peaks m.sums m.started m_fetched.kept m_fetched.pool (good_fetched none).sound))
+
+      module _ (v : List ℤ) (none : first_of (write_table plan m.now a v) ≡ None) where
+        write_holds : Holds m.pool (m_written v).pool (puts_over (give_at plan.channels (count m.now a)) outs (tokens_in m.pool) v)
+        write_holds =
+            holds_puts (give_at plan.channels (count m.now a)) outs m.pool v (outs_within (length m.pool.chains) good.sound.chained)
+            (cells_to_write plan m.now a (length m.pool.free) v good.sound.fit none all_told)
+
+        pub tokens_written : tokens_in (m_written v).pool ≡ joined m.now.tokens (shares a (count m.now a) plan.channels v)
+        tokens_written =
+            put_here plan m.now a (count m.now a) v (tokens_in (m_written v).pool) good.sound.fit refl
+            (write_holds.tokens_are ∙ ap (λ (ts : List (List ℤ)). puts_over (give_at plan.channels (count m.now a)) outs ts v) good.chains)
+
+        cells_written : AreSharedOut plan (m_written v).pool
+        cells_written = record { size = write_holds.size ∙ good.sound.cells.size; partition = write_holds.partition good.sound.cells.partition }
+
+        pub good_written : IsGood plan (m_written v)
+        good_written = record {
+          sound = sound_written plan m.now m.peaks m.sums m.started m.kept m.pool a (m_written v).kept v (m_written v).peaks (m_written v).pool good.sound none
+              (let le = kept_to_write plan m.now a m.kept v good.sound.fit none good.sound.keeps in let e = (writes plan m.now a v none).1 in
+              omega (arith, le, e)) refl write_holds.chained cells_written;
+          chains = tokens_written;
         }
 
-        pub follows_fetched : (none : refusal plan m.now (Read a) ≡ None)
-            → Follows (view plan m) (view plan m_fetched) (Read a) (Ok (answer plan m.now (Read a)))
-        follows_fetched none =
-            follows_accepted (view plan m) (view plan m_fetched) (Read a) (answer plan m.now (Read a)) refl none refl refl good.sound.fit tokens_read cells_read
-            (sym (peaks_stay plan m_fetched.now m.peaks m.sums m.started m_fetched.kept m_fetched.pool (good_fetched none).sound))
+        pub follows_written : Follows (view plan m) (view plan (m_written v)) (Write a v) (Ok [])
+        follows_written =
+            follows_accepted (view plan m) (view plan (m_written v)) (Write a v) [] refl none refl refl good.sound.fit tokens_written cells_written refl
 
-        module _ (v : List ℤ) (none : first_of (write_table plan m.now a v) ≡ None) where
-          all_given : sum_by (give_at plan.channels (count m.now a)) outs ≡ length v
-          all_given = gift_is a (count m.now a) plan.channels ∙ sym (writes plan m.now a v none).1
+      -- of a plain actor the firing moves the one input's tokens and the one output's
+      pub read_is : IsPlain plan.channels a → after_read plan a (count m.now a) m.pool ≡ takes_in ins needed m.pool
+      read_is plain = one_takes ins (take_at plan.channels (count m.now a)) needed m.pool plain.one_in (need_is a (count m.now a) plan.channels)
 
-          pub write_is : after_write plan a (count m.now a) m.pool v ≡ puts_in outs m.pool v
-          write_is = one_puts outs (give_at plan.channels (count m.now a)) m.pool v plain.one_out all_given
-
-          write_holds : Holds m.pool (m_written v).pool (gave outs (tokens_in m.pool) v)
-          write_holds =
-              subst (λ (q : Shared). Holds m.pool q (gave outs (tokens_in m.pool) v)) (sym write_is)
-              (holds_gave outs m.pool v (outs_within (length m.pool.chains) good.sound.chained)
-              (cells_to_write plan m.now a (length m.pool.free) v good.sound.fit none all_told))
-
-          pub tokens_written : tokens_in (m_written v).pool ≡ joined m.now.tokens (shares a (count m.now a) plan.channels v)
-          tokens_written =
-              put_here plan m.now a (count m.now a) v (tokens_in (m_written v).pool) good.sound.fit refl
-              (write_holds.tokens_are ∙ ap (λ (ts : List (List ℤ)). gave outs ts v) good.chains
-              ∙ sym (one_gave outs (give_at plan.channels (count m.now a)) m.now.tokens v plain.one_out all_given))
-
-          cells_written : AreSharedOut plan (m_written v).pool
-          cells_written = record { size = write_holds.size ∙ good.sound.cells.size; partition = write_holds.partition good.sound.cells.partition }
-
-          pub good_written : IsGood plan (m_written v)
-          good_written = record {
-            sound = sound_written plan m.now m.peaks m.sums m.started m.kept m.pool a (m_written v).kept v (m_written v).peaks (m_written v).pool good.sound none
-                (let le = kept_to_write plan m.now a m.kept v good.sound.fit none good.sound.keeps in let e = (writes plan m.now a v none).1 in
-                omega (arith, le, e)) refl write_holds.chained cells_written;
-            chains = tokens_written;
-          }
-
-          pub follows_written : Follows (view plan m) (view plan (m_written v)) (Write a v) (Ok [])
-          follows_written =
-              follows_accepted (view plan m) (view plan (m_written v)) (Write a v) [] refl none refl refl good.sound.fit tokens_written cells_written refl
+      pub write_is : IsPlain plan.channels a → (v : List ℤ) → length v ≡ given → after_write plan a (count m.now a) m.pool v ≡ puts_in outs m.pool v
+      write_is plain v len =
+          one_puts outs (give_at plan.channels (count m.now a)) m.pool v plain.one_out (gift_is a (count m.now a) plan.channels ∙ sym len)
 
       pub good_finished : refusal plan m.now (Finish a) ≡ None → given ≤ 8192 → IsGood plan m_finished
       good_finished none few = record {

@@ -1,32 +1,33 @@
 -- A block of firings is its moves, one after another.
-use Rattle.std.proofs.Common.{◌≡◌, ℕ, zero, suc, ◌+◌, ◌<◌, ◌≤◌, ◌==◌, List, [], ◌∷◌, ◌++◌, length, get_or, set, take, drop, refl, ap, ap₂, subst, ◌∙◌}
+use Rattle.std.proofs.Common.{◌≡◌, ℕ, zero, suc, ◌+◌, ◌<◌, ◌≤◌, inl, inr, ◌⊎◌, List, [], ◌∷◌, ◌++◌, length, get_or, set, take, drop, refl, ap, ap₂, subst, ◌∙◌}
 use Rattle.std.proofs.Common.{sym, arith, Option, Some, None, set-set, length-set, get_or-set_same}
 use Rattle.std.specs.Prelude.{ℤ, IfSome}
 use Rattle.std.specs.List.{AllByRecursion}
 use Rattle.std.proofs.Math.Seq.{take-append_seam, drop-append_seam}
 use Rattle.std.proofs.lemmas.List.{set-get_or, take-append-drop, length-take-le, length-drop, length-append}
-use Rattle.csdf_model.specs.Rates.{rate}
 use Rattle.csdf_pool.specs.Pool.{Shared}
 use Rattle.csdf_core.specs.declared.stage.Stage.TheVariants.{Idle, Begun, Fetched, Written}
-use Rattle.csdf_core.specs.Blocks.{needs_of, gifts_of, firings_of, AreAccepted, answers_to, handed_by, FindsAll, capacity_at, takes_in, puts_in, from_front, pool_after, HoldAll, parts_of, reads_among}
+use Rattle.csdf_core.specs.Blocks.{needs_of, gifts_of, takes_at, gives_at, firings_of, AreAccepted, answers_to, handed_by, FindsAll, capacity_at, IsPlain}
+use Rattle.csdf_core.specs.Blocks.{takes_in, puts_in, fronts, reads_over, pool_after, peaks_after, Suffices, parts_of, reads_among}
 use Rattle.csdf_core.specs.Moves.{Begin, Read, Write, Finish}
-use Rattle.csdf_core.specs.Plan.{Plan}
-use Rattle.csdf_core.specs.Ports.{take_at, tokens_in, tokens_at, raise_over}
-use Rattle.csdf_core.specs.Rows.{need, gift, taken}
+use Rattle.csdf_core.specs.Plan.{Channel, Plan}
+use Rattle.csdf_core.specs.Ports.{inputs_at, outputs_at, take_at, give_at, tokens_in, tokens_at, raise_over, EnoughOver}
+use Rattle.csdf_core.specs.Rows.{need, gift}
 use Rattle.csdf_core.specs.Shows.{Plays}
-use Rattle.csdf_core.specs.State.{Present}
 use Rattle.csdf_core.specs.Step.{count, stage, given, refusal, first_of, write_table, begun_count}
 use Rattle.csdf_core.proofs.Accepting.{reads_free, writes_free, finishes_free}
-use Rattle.csdf_core.proofs.BlockBegins.{begins_next, needs_one}
+use Rattle.csdf_core.specs.Transfers.{after_read}
+use Rattle.csdf_core.proofs.BlockBegins.{begins_next}
 use Rattle.csdf_core.proofs.BlockMachines.{Machine, IsGood, view, plays_first, ins, outs, ins_within, outs_within, all_told, m_begun, m_fetched, m_written}
 use Rattle.csdf_core.proofs.BlockMachines.{m_finished, good_begun, good_fetched, good_written, good_finished, follows_begun, follows_fetched}
 use Rattle.csdf_core.proofs.BlockMachines.{follows_written, follows_finished, read_is, write_is}
 use Rattle.csdf_core.proofs.BlockPools.{Holds}
-use Rattle.csdf_core.proofs.BlockPorts.{both, each, took, gave, one_taken, none_moved, takes_in_more, puts_in_more, past, holds_took}
-use Rattle.csdf_core.proofs.BlockPorts.{holds_gave, free_took, free_gave, in_after, out_after, front_more, length-front, raise_none, raise_twice, peaks_at, AreWithin}
-use Rattle.csdf_core.proofs.Moving.{peaks_here}
+use Rattle.csdf_core.proofs.BlockPorts.{both, each, took, gave, none_moved, takes_in_more, puts_in_more, past, holds_took, holds_gave}
+use Rattle.csdf_core.proofs.BlockPorts.{free_took, free_takes, free_puts, out_after, raise_none, raise_twice, peaks_at, AreWithin, AreApart}
+use Rattle.csdf_core.proofs.BlockTokens.{are_apart, inputs_after, outputs_after, taken_fronts, reads_same, length-fronts}
+use Rattle.csdf_core.proofs.Moving.{peaks_here, enough_here}
 use Rattle.csdf_core.proofs.Presents.{present_same}
-use Rattle.csdf_core.proofs.PortLemmas.{taken_all, rates_by_number, need_is}
+use Rattle.csdf_core.proofs.PortLemmas.{need_is}
 use Rattle.csdf_core.proofs.Runs.{plays_none}
 
 fewer : (o : Option ℕ) (b c n : ℕ) → c ≡ b + 1 → IfSome o (λ most. b + suc n ≤ most) → IfSome o (λ most. c + n ≤ most)
@@ -41,14 +42,16 @@ pub record IsBlock (plan : Plan) (a k n : ℕ) (v : List ℤ) (m new : Machine) 
   pub sums : new.sums ≡ set m.sums a (get_or m.sums a 0 + gifts_of plan.channels a k n)
   pub started : new.started ≡ m.started + n
   pub kept : new.kept ≡ m.kept
-  pub pool : new.pool ≡ puts_in (outs plan a) (takes_in (ins plan a) (needs_of plan.channels a k n) m.pool) v
   pub cells : new.pool ≡ pool_after plan a k n m.pool v
-  pub peaks : new.peaks ≡ raise_over (outs plan a) new.now.tokens m.peaks
+  pub peaks : new.peaks ≡ peaks_after plan a k n m.pool v m.peaks
+  pub enough : Suffices plan a k n m.pool v
+  pub plain_pool : IsPlain plan.channels a → new.pool ≡ puts_in (outs plan a) (takes_in (ins plan a) (needs_of plan.channels a k n) m.pool) v
+  pub plain_peaks : IsPlain plan.channels a → new.peaks ≡ raise_over (outs plan a) new.now.tokens m.peaks
   pub good : IsGood plan new
   pub accepted : AreAccepted plan m.now (firings_of plan.channels a k n v)
-  pub handed : handed_by (answers_to plan m.now (firings_of plan.channels a k n v)) ≡ from_front (ins plan a) (needs_of plan.channels a k n) m.now.tokens
+  pub handed : handed_by (answers_to plan m.now (firings_of plan.channels a k n v)) ≡ reads_over plan.channels (ins plan a) k n (tokens_at m.now.tokens)
   pub reads : reads_among plan m.now (firings_of plan.channels a k n v)
-      ≡ parts_of plan.channels a k n (from_front (ins plan a) (needs_of plan.channels a k n) m.now.tokens)
+      ≡ parts_of plan.channels a k n (reads_over plan.channels (ins plan a) k n (tokens_at m.now.tokens))
   pub plays : Plays (view plan m) (view plan new) (firings_of plan.channels a k n v) (answers_to plan m.now (firings_of plan.channels a k n v))
 
 module _ (plan : Plan) (a : ℕ) where
@@ -104,7 +107,7 @@ module _ (plan : Plan) (a : ℕ) where
     none2 = reads_free plan m1.now a h.there at1
 
     good2 : IsGood plan m2
-    good2 = good_fetched plan a m1 good1 h.plain none2
+    good2 = good_fetched plan a m1 good1 none2
 
     at2 : stage m2.now a ≡ Fetched
     at2 = get_or-set_same m1.now.stages a Fetched Idle (let e = length-set m.now.stages a Begun in let l = lt in omega (arith, e, l))
@@ -113,7 +116,7 @@ module _ (plan : Plan) (a : ℕ) where
     none3 = writes_free plan m2.now a v h.there at2 len
 
     good3 : IsGood plan m3
-    good3 = good_written plan a m2 good2 h.plain v none3
+    good3 = good_written plan a m2 good2 v none3
 
     lt3 : a < length m3.now.stages
     lt3 = let staged = good3.sound.fit.staged in let there = h.there in omega arith
@@ -131,8 +134,8 @@ module _ (plan : Plan) (a : ℕ) where
     good4 = good_finished plan a m3 good3 none4 few
 
     -- what has changed
-    pub pool4 : m4.pool ≡ puts_in (outs plan a) (takes_in (ins plan a) (need a k plan.channels) m.pool) v
-    pool4 = write_is plan a m2 good2 h.plain v none3 ∙ ap (λ (q : Shared). puts_in (outs plan a) q v) (read_is plan a m1 good1 h.plain)
+    pub pool4 : IsPlain plan.channels a → m4.pool ≡ puts_in (outs plan a) (takes_in (ins plan a) (need a k plan.channels) m.pool) v
+    pool4 plain = write_is plan a m2 good2 plain v len ∙ ap (λ (q : Shared). puts_in (outs plan a) q v) (read_is plan a m1 good1 plain)
 
     pub stages4 : m4.now.stages ≡ m.now.stages
     stages4 =
@@ -153,20 +156,11 @@ module _ (plan : Plan) (a : ℕ) where
     room4 : length v ≤ length m.pool.free
     room4 = let r = room_for m (suc n) good h in omega (arith, r, len)
 
-    pub tokens4 : m4.now.tokens ≡ gave (outs plan a) (took (ins plan a) (need a k plan.channels) m.now.tokens) v
-    tokens4 = sym good4.chains ∙ tokens_moved m (need a k plan.channels) v m4.pool good room4 pool4
+    pub inputs4 : AllByRecursion (λ c. tokens_at m4.now.tokens c ≡ drop (take_at plan.channels k c) (tokens_at m.now.tokens c)) (ins plan a)
+    inputs4 = inputs_after plan.channels a k m.now.tokens v good.sound.fit.queued h.apart
 
-    pub inputs4 : AllByRecursion (λ c. tokens_at m4.now.tokens c ≡ drop (need a k plan.channels) (tokens_at m.now.tokens c)) (ins plan a)
-    inputs4 =
-        subst (λ (ts : List (List ℤ)). AllByRecursion (λ c. tokens_at ts c ≡ drop (need a k plan.channels) (tokens_at m.now.tokens c)) (ins plan a)) (sym tokens4)
-        (in_after (ins plan a) (outs plan a) m.now.tokens (need a k plan.channels) v h.plain.one_in
-        (ins_within plan a (length m.now.tokens) good.sound.fit.queued) h.plain.apart)
-
-    outputs4 : AllByRecursion (λ d. tokens_at m4.now.tokens d ≡ tokens_at m.now.tokens d ++ v) (outs plan a)
-    outputs4 =
-        subst (λ (ts : List (List ℤ)). AllByRecursion (λ d. tokens_at ts d ≡ tokens_at m.now.tokens d ++ v) (outs plan a)) (sym tokens4)
-        (out_after (ins plan a) (outs plan a) m.now.tokens (need a k plan.channels) v h.plain.one_out
-        (outs_within plan a (length m.now.tokens) good.sound.fit.queued) h.plain.apart)
+    outputs4 : AllByRecursion (λ d. length (tokens_at m4.now.tokens d) ≤ length (tokens_at m.now.tokens d) + give_at plan.channels k d) (outs plan a)
+    outputs4 = outputs_after plan.channels a k m.now.tokens v good.sound.fit.queued
 
     pub number4 : count m4.now a ≡ suc k
     number4 = get_or-set_same m.now.counts a (suc k) 0 (let counted = good.sound.fit.counted in let there = h.there in omega (arith, counted, there))
@@ -174,18 +168,23 @@ module _ (plan : Plan) (a : ℕ) where
     -- the free cells are fewer by what was written at most
     free4 : length m.pool.free ≤ length m4.pool.free + length v
     free4 =
-        let r : ℕ = need a k plan.channels in
-        let q : Shared = takes_in (ins plan a) r m.pool in
-        let within_in : AreWithin (ins plan a) (length m.pool.chains) = ins_within plan a (length m.pool.chains) good.sound.chained in
-        let chained = (holds_took (ins plan a) r m.pool within_in).chained ∙ good.sound.chained in
-        let free = free_took (ins plan a) r m.pool within_in in
-        let left = free_gave (outs plan a) q v (outs_within plan a (length q.chains) chained) (omega (arith, free, room4)) in
-        let same = ap (λ (x : Shared). length x.free) pool4 in
-        omega (arith, free, left, same)
+        let more = free_takes (take_at plan.channels k) (ins plan a) m.pool (ins_within plan a (length m.pool.chains) good.sound.chained) in
+        let left = free_puts (give_at plan.channels k) (outs plan a) m2.pool v (outs_within plan a (length m2.pool.chains) good2.sound.chained)
+        (omega (arith, more, room4)) in
+        omega (arith, more, left)
+
+    -- the firing finds its tokens, and cells
+    pub enough4 : EnoughOver (take_at plan.channels k) (ins plan a) (tokens_in m.pool)
+    enough4 = subst (EnoughOver (take_at plan.channels k) (ins plan a)) (sym good.chains) (enough_here plan m1.now a k good1.sound.fit none2 refl)
+
+    pub cells4 : gift a k plan.channels ≤ length (after_read plan a k m.pool).free
+    cells4 =
+        let more = free_takes (take_at plan.channels k) (ins plan a) m.pool (ins_within plan a (length m.pool.chains) good.sound.chained) in
+        omega (arith, more, room4, len)
 
     pub finds4 : FindsAll plan m4.now a (suc k) n
     finds4 = record {
-      plain = h.plain;
+      apart = h.apart;
       there = h.there;
       number = number4;
       idle = get_or-set_same m3.now.stages a Idle Idle lt3;
@@ -193,15 +192,14 @@ module _ (plan : Plan) (a : ℕ) where
       opens = h.opens;
       supply = λ source. (let s = h.supply source in let e : k + suc n ≡ suc k + n = omega arith in let t = ap (given plan a) e in omega (arith, s, t));
       tokens = both (ins plan a)
-          (λ c (x : needs_of plan.channels a k (suc n) ≤ length (tokens_at m.now.tokens c))
-          (y : tokens_at m4.now.tokens c ≡ drop (need a k plan.channels) (tokens_at m.now.tokens c)).
-          (let e = ap length y in let d = length-drop (need a k plan.channels) (tokens_at m.now.tokens c) in
-          let r : needs_of plan.channels a (suc k) n ≤ length (tokens_at m4.now.tokens c) = omega (arith, x, e, d) in r)) h.tokens inputs4;
+          (λ c (x : takes_at plan.channels k (suc n) c ≤ length (tokens_at m.now.tokens c))
+          (y : tokens_at m4.now.tokens c ≡ drop (take_at plan.channels k c) (tokens_at m.now.tokens c)).
+          (let e = ap length y in let d = length-drop (take_at plan.channels k c) (tokens_at m.now.tokens c) in
+          let r : takes_at plan.channels (suc k) n c ≤ length (tokens_at m4.now.tokens c) = omega (arith, x, e, d) in r)) h.tokens inputs4;
       room = both (outs plan a)
-          (λ c (x : length (tokens_at m.now.tokens c) + gifts_of plan.channels a k (suc n) ≤ capacity_at plan.channels c)
-          (y : tokens_at m4.now.tokens c ≡ tokens_at m.now.tokens c ++ v).
-          (let e = ap length y in let d = length-append (tokens_at m.now.tokens c) v in
-          let r : length (tokens_at m4.now.tokens c) + gifts_of plan.channels a (suc k) n ≤ capacity_at plan.channels c = omega (arith, x, e, d, len) in r))
+          (λ c (x : length (tokens_at m.now.tokens c) + gives_at plan.channels k (suc n) c ≤ capacity_at plan.channels c)
+          (y : length (tokens_at m4.now.tokens c) ≤ length (tokens_at m.now.tokens c) + give_at plan.channels k c).
+          (let r : length (tokens_at m4.now.tokens c) + gives_at plan.channels (suc k) n c ≤ capacity_at plan.channels c = omega (arith, x, y) in r))
           h.room outputs4;
       firings = fewer plan.firings (begun_count m.now) (begun_count m4.now) n
           (let x = good.sound.starts in let y = good4.sound.starts in omega (arith, x, y)) h.firings;
@@ -209,12 +207,77 @@ module _ (plan : Plan) (a : ℕ) where
           omega (arith, c, x, y, u, w, kept4, free4, len));
     }
 
-  taken_here : (p : Present) (q : ℕ) → length p.tokens ≡ length plan.channels → length (ins plan a) ≤ 1
-      → taken a q plan.channels p.tokens ≡ from_front (ins plan a) (need a q plan.channels) p.tokens
-  taken_here p q queued one =
-      sym (taken_all (λ c. c.to == a) (λ c. rate c.consume q) (take_at plan.channels q) 0 [] plan.channels p.tokens refl queued
-      (rates_by_number (λ c. c.to == a) (λ c. rate c.consume q) plan.channels))
-      ∙ one_taken (ins plan a) (take_at plan.channels q) (need a q plan.channels) p.tokens one (need_is a q plan.channels)
+  module _ (n : ℕ) (v : List ℤ) (m new : Machine) (good : IsGood plan m) (h : FindsAll plan m.now a (count m.now a) (suc n))
+      (len : length v ≡ gifts_of plan.channels a (count m.now a) (suc n))
+      (len1 : length (take (gift a (count m.now a) plan.channels) v) ≡ gift a (count m.now a) plan.channels)
+      (few1 : gift a (count m.now a) plan.channels ≤ 8192) (plain : IsPlain plan.channels a)
+      (b : IsBlock plan a (suc (count m.now a)) n (drop (gift a (count m.now a) plan.channels) v)
+      (m4 n m (take (gift a (count m.now a) plan.channels) v) good h len1 few1) new) where
+    abbrev j : ℕ
+    j = count m.now a
+
+    abbrev g : ℕ
+    g = gift a j plan.channels
+
+    abbrev r : ℕ
+    r = need a j plan.channels
+
+    abbrev more : ℕ
+    more = needs_of plan.channels a (suc j) n
+
+    abbrev v1 : List ℤ
+    v1 = take g v
+
+    abbrev w : List ℤ
+    w = drop g v
+
+    abbrev n4 : Machine
+    n4 = m4 n m v1 good h len1 few1
+
+    abbrev q : Shared
+    q = takes_in (ins plan a) r m.pool
+
+    apart : AreApart (ins plan a) (outs plan a)
+    apart = are_apart plan.channels a h.apart
+
+    chained : length q.chains ≡ length plan.channels
+    chained = (holds_took (ins plan a) r m.pool (ins_within plan a (length m.pool.chains) good.sound.chained)).chained ∙ good.sound.chained
+
+    -- the cells of a plain actor are moved in one piece
+    pool_step : new.pool ≡ puts_in (outs plan a) (takes_in (ins plan a) (r + more) m.pool) v
+    pool_step =
+        let free = free_took (ins plan a) r m.pool (ins_within plan a (length m.pool.chains) good.sound.chained) in
+        let all = room_for m (suc n) good h in
+        b.plain_pool plain
+        ∙ ap (λ (x : Shared). puts_in (outs plan a) (takes_in (ins plan a) more x) w) (pool4 n m v1 good h len1 few1 plain)
+        ∙ ap (λ (x : Shared). puts_in (outs plan a) x w)
+        (past (ins plan a) (outs plan a) more q v1 (ins_within plan a (length q.chains) chained) (outs_within plan a (length q.chains) chained)
+        apart (omega (arith, free, all, len1)))
+        ∙ puts_in_more (outs plan a) (takes_in (ins plan a) more q) v1 w
+        ∙ ap₂ (λ (x : Shared) (u : List ℤ). puts_in (outs plan a) x u) (takes_in_more (ins plan a) r more m.pool) (take-append-drop g v)
+
+    -- and its peaks raised once
+    peaks_step : new.peaks ≡ raise_over (outs plan a) new.now.tokens m.peaks
+    peaks_step =
+        let g4 : IsGood plan n4 = good4 n m v1 good h len1 few1 in
+        let f4 : FindsAll plan n4.now a (suc j) n = finds4 n m v1 good h len1 few1 in
+        let h4 : FindsAll plan n4.now a (count n4.now a) n = subst (λ (x : ℕ). FindsAll plan n4.now a x n) (sym f4.number) f4 in
+        let lenw : length w ≡ gifts_of plan.channels a (suc j) n = (let d = length-drop g v in omega (arith, d, len)) in
+        let room : length w ≤ length n4.pool.free = (let c = room_for n4 n g4 h4 in
+        let e = ap (λ (x : ℕ). gifts_of plan.channels a x n) f4.number in omega (arith, c, e, lenw)) in
+        let later : new.now.tokens ≡ gave (outs plan a) (took (ins plan a) more n4.now.tokens) w = sym b.good.chains
+        ∙ tokens_moved n4 more w new.pool g4 room (b.plain_pool plain) in
+        let grown : AllByRecursion (λ d. tokens_at new.now.tokens d ≡ tokens_at n4.now.tokens d ++ w) (outs plan a) =
+        subst (λ (ts : List (List ℤ)). AllByRecursion (λ d. tokens_at ts d ≡ tokens_at n4.now.tokens d ++ w) (outs plan a)) (sym later)
+        (out_after (ins plan a) (outs plan a) n4.now.tokens more w plain.one_out (outs_within plan a (length n4.now.tokens) g4.sound.fit.queued)
+        apart) in
+        let le : AllByRecursion (λ d. length (tokens_at n4.now.tokens d) ≤ length (tokens_at new.now.tokens d)) (outs plan a) = each (outs plan a)
+        (λ d (y : tokens_at new.now.tokens d ≡ tokens_at n4.now.tokens d ++ w).
+        (let e = ap length y in let s = length-append (tokens_at n4.now.tokens d) w in
+        let z : length (tokens_at n4.now.tokens d) ≤ length (tokens_at new.now.tokens d) = omega (arith, e, s) in z)) grown in
+        b.plain_peaks plain
+        ∙ ap (raise_over (outs plan a) new.now.tokens) (peaks4 n m v1 good h len1 few1)
+        ∙ raise_twice (outs plan a) n4.now.tokens new.now.tokens m.peaks plain.one_out (outs_within plan a (length m.peaks) good.sound.peaked) le
 
   pub block_of : (n : ℕ) (v : List ℤ) (m : Machine) → IsGood plan m → FindsAll plan m.now a (count m.now a) n
       → length v ≡ gifts_of plan.channels a (count m.now a) n → AreFew (count m.now a) n → (new : Machine) × IsBlock plan a (count m.now a) n v m new
@@ -228,21 +291,19 @@ module _ (plan : Plan) (a : ℕ) where
       sums = sym (ap (set m.sums a) (let e : get_or m.sums a 0 + 0 ≡ get_or m.sums a 0 = omega arith in e) ∙ set-get_or m.sums a 0);
       started = omega arith;
       kept = refl;
-      pool = sym (none_moved (ins plan a) (outs plan a) m.pool);
       cells = refl;
-      peaks = sym (raise_none (outs plan a) m.now.tokens m.peaks h.plain.one_out
+      peaks = refl;
+      enough = tt;
+      plain_pool = λ plain. sym (none_moved (ins plan a) (outs plan a) m.pool);
+      plain_peaks = λ plain. sym (raise_none (outs plan a) m.now.tokens m.peaks plain.one_out
           (peaks_at (outs plan a) m.peaks m.now.tokens good.sound.high (outs_within plan a (length m.peaks) good.sound.peaked)));
       good = good;
       accepted = tt;
-      handed = none_handed (ins plan a);
+      handed = refl;
       reads = refl;
       plays = plays_none (view plan m);
     },
   )
-    where
-      none_handed : (ns : List ℕ) → [] ≡ from_front ns 0 m.now.tokens
-      none_handed [] = refl
-      none_handed (c ∷ ns) = refl
   block_of (suc n) v m good h len few =
       let k : ℕ = count m.now a in
       let g : ℕ = gift a k plan.channels in
@@ -291,26 +352,12 @@ module _ (plan : Plan) (a : ℕ) where
           let g4 : IsGood plan n4 = good4 n m v1 good h len1 few1 in
           let f4 : FindsAll plan n4.now a (suc k) n = finds4 n m v1 good h len1 few1 in
           let h4 : FindsAll plan n4.now a (count n4.now a) n = subst (λ (x : ℕ). FindsAll plan n4.now a x n) (sym f4.number) f4 in
-          let counted : a < length m.now.counts = (let c = good.sound.fit.counted in let there = h.there in omega (arith, c, there)) in
           let summed : a < length m.sums = (let c = good.sound.tallied in let there = h.there in omega (arith, c, there)) in
-          let q : Shared = takes_in (ins plan a) r m.pool in
-          let within_in : AreWithin (ins plan a) (length m.pool.chains) = ins_within plan a (length m.pool.chains) good.sound.chained in
-          let chained : length q.chains ≡ length plan.channels = (holds_took (ins plan a) r m.pool within_in).chained ∙ good.sound.chained in
-          let free = free_took (ins plan a) r m.pool within_in in
-          let all = room_for m (suc n) good h in
-          let lenw : length w ≡ gifts_of plan.channels a (suc k) n = (let d = length-drop g v in omega (arith, d, len)) in
-          let room : length w ≤ length n4.pool.free = (let c = room_for n4 n g4 h4 in
-          let e = ap (λ (x : ℕ). gifts_of plan.channels a x n) f4.number in omega (arith, c, e, lenw)) in
-          let later : new.now.tokens ≡ gave (outs plan a) (took (ins plan a) more n4.now.tokens) w = sym b.good.chains
-          ∙ tokens_moved n4 more w new.pool g4 room b.pool in
-          let grown : AllByRecursion (λ d. tokens_at new.now.tokens d ≡ tokens_at n4.now.tokens d ++ w) (outs plan a) =
-          subst (λ (ts : List (List ℤ)). AllByRecursion (λ d. tokens_at ts d ≡ tokens_at n4.now.tokens d ++ w) (outs plan a)) (sym later)
-          (out_after (ins plan a) (outs plan a) n4.now.tokens more w h.plain.one_out (outs_within plan a (length n4.now.tokens) g4.sound.fit.queued)
-          h.plain.apart) in
-          let le : AllByRecursion (λ d. length (tokens_at n4.now.tokens d) ≤ length (tokens_at new.now.tokens d)) (outs plan a) = each (outs plan a)
-          (λ d (y : tokens_at new.now.tokens d ≡ tokens_at n4.now.tokens d ++ w).
-          (let e = ap length y in let s = length-append (tokens_at n4.now.tokens d) w in
-          let z : length (tokens_at n4.now.tokens d) ≤ length (tokens_at new.now.tokens d) = omega (arith, e, s) in z)) grown in
+          let first : List ℤ = fronts (take_at plan.channels k) (ins plan a) (tokens_at m.now.tokens) in
+          let others : List ℤ = reads_over plan.channels (ins plan a) (suc k) n (λ c. drop (take_at plan.channels k c) (tokens_at m.now.tokens c)) in
+          let later : reads_over plan.channels (ins plan a) (suc k) n (tokens_at n4.now.tokens) ≡ others =
+          reads_same plan.channels (ins plan a) (suc k) n (tokens_at n4.now.tokens) (λ c. drop (take_at plan.channels k c) (tokens_at m.now.tokens c))
+          (inputs4 n m v1 good h len1 few1) in
           record {
             counts = b.counts ∙ set-set m.now.counts a (suc k) (suc k + n) ∙ ap (set m.now.counts a) (let e : suc k + n ≡ k + suc n = omega arith in e);
             stages = b.stages ∙ stages4 n m v1 good h len1 few1;
@@ -320,57 +367,60 @@ module _ (plan : Plan) (a : ℕ) where
                 let z : get_or n4.sums a 0 + gifts_of plan.channels a (suc k) n ≡ get_or m.sums a 0 + (g + gifts_of plan.channels a (suc k) n) = omega (arith, e) in z);
             started = (let e = b.started in omega (arith, e));
             kept = b.kept ∙ kept4 n m v1 good h len1 few1;
-            pool = b.pool
-                ∙ ap (λ (x : Shared). puts_in (outs plan a) (takes_in (ins plan a) more x) w) (pool4 n m v1 good h len1 few1)
-                ∙ ap (λ (x : Shared). puts_in (outs plan a) x w)
-                (past (ins plan a) (outs plan a) more q v1 (ins_within plan a (length q.chains) chained) (outs_within plan a (length q.chains) chained)
-                h.plain.apart (omega (arith, free, all, len1)))
-                ∙ puts_in_more (outs plan a) (takes_in (ins plan a) more q) v1 w
-                ∙ ap₂ (λ (x : Shared) (u : List ℤ). puts_in (outs plan a) x u) (takes_in_more (ins plan a) r more m.pool) (take-append-drop g v);
             cells = b.cells;
-            peaks = b.peaks
-                ∙ ap (raise_over (outs plan a) new.now.tokens) (peaks4 n m v1 good h len1 few1)
-                ∙ raise_twice (outs plan a) n4.now.tokens new.now.tokens m.peaks h.plain.one_out (outs_within plan a (length m.peaks) good.sound.peaked) le;
+            peaks = b.peaks ∙ ap (peaks_after plan a (suc k) n n4.pool w)
+                (peaks4 n m v1 good h len1 few1 ∙ ap (λ (ts : List (List ℤ)). raise_over (outs plan a) ts m.peaks) (sym g4.chains));
+            enough = (enough4 n m v1 good h len1 few1, cells4 n m v1 good h len1 few1, b.enough);
+            plain_pool = λ plain. pool_step n v m new good h len len1 few1 plain b;
+            plain_peaks = λ plain. peaks_step n v m new good h len len1 few1 plain b;
             good = b.good;
             accepted = (
               none1 n m v1 good h len1 few1,
               (none2 n m v1 good h len1 few1, (none3 n m v1 good h len1 few1, (none4 n m v1 good h len1 few1, b.accepted))),
             );
-            handed = ap₂ (λ (x y : List ℤ). x ++ y) (taken_here m.now k good.sound.fit.queued h.plain.one_in) b.handed
-                ∙ front_more (ins plan a) r more m.now.tokens n4.now.tokens (inputs4 n m v1 good h len1 few1);
+            handed = ap₂ (λ (x y : List ℤ). x ++ y) (taken_fronts plan.channels a k m.now.tokens good.sound.fit.queued) (b.handed ∙ later);
             reads =
-                let first : List ℤ = from_front (ins plan a) r m.now.tokens in
-                let others : List ℤ = from_front (ins plan a) more n4.now.tokens in
-                let whole : first ++ others ≡ from_front (ins plan a) (r + more) m.now.tokens = front_more (ins plan a) r more m.now.tokens n4.now.tokens
-                (inputs4 n m v1 good h len1 few1) in
-                let one : HoldAll m.now.tokens r (ins plan a) = each (ins plan a)
-                (λ c (x : r + more ≤ length (tokens_at m.now.tokens c)). (let y : r ≤ length (tokens_at m.now.tokens c) = omega (arith, x) in y)) h.tokens in
-                let size : length first ≡ r = length-front (ins plan a) r m.now.tokens one (λ none. needs_one plan.channels a k none) in
+                let one : AllByRecursion (λ c. take_at plan.channels k c ≤ length (tokens_at m.now.tokens c)) (ins plan a) = each (ins plan a)
+                (λ c (x : takes_at plan.channels k (suc n) c ≤ length (tokens_at m.now.tokens c)).
+                (let y : take_at plan.channels k c ≤ length (tokens_at m.now.tokens c) = omega (arith, x) in y)) h.tokens in
+                let size : length first ≡ r = length-fronts (take_at plan.channels k) (ins plan a) (tokens_at m.now.tokens) one ∙ need_is a k plan.channels in
                 let front : take r (first ++ others) ≡ first =
                 ap (λ (x : ℕ). take x (first ++ others)) (sym size) ∙ take-append_seam first others in
                 let back : drop r (first ++ others) ≡ others =
                 ap (λ (x : ℕ). drop x (first ++ others)) (sym size) ∙ drop-append_seam first others in
-                ap₂ (λ (x : List ℤ) (xs : List (List ℤ)). x ∷ xs) (taken_here m.now k good.sound.fit.queued h.plain.one_in ∙ sym front)
-                (b.reads ∙ ap (parts_of plan.channels a (suc k) n) (sym back))
-                ∙ ap (λ (x : List ℤ). take r x ∷ parts_of plan.channels a (suc k) n (drop r x)) whole;
+                ap₂ (λ (x : List ℤ) (xs : List (List ℤ)). x ∷ xs) (taken_fronts plan.channels a k m.now.tokens good.sound.fit.queued ∙ sym front)
+                (b.reads ∙ ap (parts_of plan.channels a (suc k) n) (later ∙ sym back));
             plays = plays_first plan m n1 new (Begin a) _ _ _ (follows_begun plan a m good (none1 n m v1 good h len1 few1))
                 (plays_first plan n1 n2 new (Read a) _ _ _
-                (follows_fetched plan a n1 (good1 n m v1 good h len1 few1) h.plain (none2 n m v1 good h len1 few1))
+                (follows_fetched plan a n1 (good1 n m v1 good h len1 few1) (none2 n m v1 good h len1 few1))
                 (plays_first plan n2 n3 new (Write a v1) _ _ _
-                (follows_written plan a n2 (good2 n m v1 good h len1 few1) h.plain v1 (none3 n m v1 good h len1 few1))
+                (follows_written plan a n2 (good2 n m v1 good h len1 few1) v1 (none3 n m v1 good h len1 few1))
                 (plays_first plan n3 n4 new (Finish a) _ _ _
                 (follows_finished plan a n3 (good3 n m v1 good h len1 few1) (none4 n m v1 good h len1 few1)) b.plays)));
           }
 
 -- ---- where the code lands
+one_or_more : (n : ℕ) → (n ≤ 1) ⊎ (2 ≤ n)
+one_or_more zero = inl (omega arith)
+one_or_more (suc zero) = inl (omega arith)
+one_or_more (suc (suc n)) = inr (omega arith)
+
+plain_or_not : (channels : List Channel) (a : ℕ) → IsPlain channels a ⊎ (IsPlain channels a → ⊥)
+plain_or_not channels a = elim (one_or_more (length (inputs_at channels a))) [
+  | inr many ↦ inr (λ is. (let one = is.one_in in absurd (omega (arith, many, one))))
+  | inl one_in ↦ elim (one_or_more (length (outputs_at channels a))) [
+    | inr many ↦ inr (λ is. (let one = is.one_out in absurd (omega (arith, many, one))))
+    | inl one_out ↦ inl (record { one_in = one_in; one_out = one_out })
+  ]
+]
+
 machine_same : (m other : Machine) → m.now ≡ other.now → m.peaks ≡ other.peaks → m.sums ≡ other.sums → m.started ≡ other.started → m.kept ≡ other.kept
     → m.pool ≡ other.pool → m ≡ other
 machine_same m other e1 e2 e3 e4 e5 e6 = λ i. record { now = e1 i; peaks = e2 i; sums = e3 i; started = e4 i; kept = e5 i; pool = e6 i }
 
 pub landed : (plan : Plan) (a k n : ℕ) (v : List ℤ) (m new : Machine) → IsBlock plan a k n v m new → (counts sums peaks : List ℕ) (started : ℕ) (pool : Shared)
     → counts ≡ set m.now.counts a (k + n) → sums ≡ set m.sums a (get_or m.sums a 0 + gifts_of plan.channels a k n)
-    → peaks ≡ raise_over (outs plan a) (tokens_in pool) m.peaks → started ≡ m.started + n
-    → pool ≡ puts_in (outs plan a) (takes_in (ins plan a) (needs_of plan.channels a k n) m.pool) v
+    → new.peaks ≡ peaks → started ≡ m.started + n → new.pool ≡ pool
     → new ≡ record {
       now = record { counts = counts; stages = m.now.stages; opens = m.now.opens; tokens = tokens_in pool };
       peaks = peaks;
@@ -379,9 +429,7 @@ pub landed : (plan : Plan) (a k n : ℕ) (v : List ℤ) (m new : Machine) → Is
       kept = m.kept;
       pool = pool;
     }
-landed plan a k n v m new b counts sums peaks started pool counts_is sums_is peaks_is started_is pool_is =
-    let same : new.pool ≡ pool = b.pool ∙ sym pool_is in
-    let tokens : new.now.tokens ≡ tokens_in pool = sym b.good.chains ∙ ap tokens_in same in
+landed plan a k n v m new b counts sums peaks started pool counts_is sums_is peaks_are started_is same =
     machine_same new (record {
       now = record { counts = counts; stages = m.now.stages; opens = m.now.opens; tokens = tokens_in pool };
       peaks = peaks;
@@ -391,6 +439,22 @@ landed plan a k n v m new b counts sums peaks started pool counts_is sums_is pea
       pool = pool;
     })
     (present_same new.now (record { counts = counts; stages = m.now.stages; opens = m.now.opens; tokens = tokens_in pool })
-    (b.counts ∙ sym counts_is) b.stages b.opens tokens)
-    (b.peaks ∙ ap (λ (ts : List (List ℤ)). raise_over (outs plan a) ts m.peaks) tokens ∙ sym peaks_is)
-    (b.sums ∙ sym sums_is) (b.started ∙ sym started_is) b.kept same
+    (b.counts ∙ sym counts_is) b.stages b.opens (sym b.good.chains ∙ ap tokens_in same))
+    peaks_are (b.sums ∙ sym sums_is) (b.started ∙ sym started_is) b.kept same
+
+-- what the code leaves, in one piece of a plain actor and firing by firing of any other, is what the moves leave
+pub pool_lands : (plan : Plan) (a k n : ℕ) (v : List ℤ) (m new : Machine) → IsBlock plan a k n v m new → (pool : Shared)
+    → (IsPlain plan.channels a → pool ≡ puts_in (outs plan a) (takes_in (ins plan a) (needs_of plan.channels a k n) m.pool) v)
+    → ((IsPlain plan.channels a → ⊥) → pool ≡ pool_after plan a k n m.pool v) → new.pool ≡ pool
+pool_lands plan a k n v m new b pool plain other = elim (plain_or_not plan.channels a) [
+  | inl is ↦ b.plain_pool is ∙ sym (plain is)
+  | inr not ↦ b.cells ∙ sym (other not)
+]
+
+pub peaks_land : (plan : Plan) (a k n : ℕ) (v : List ℤ) (m new : Machine) → IsBlock plan a k n v m new → (peaks : List ℕ) (pool : Shared) → new.pool ≡ pool
+    → (IsPlain plan.channels a → peaks ≡ raise_over (outs plan a) (tokens_in pool) m.peaks)
+    → ((IsPlain plan.channels a → ⊥) → peaks ≡ peaks_after plan a k n m.pool v m.peaks) → new.peaks ≡ peaks
+peaks_land plan a k n v m new b peaks pool same plain other = elim (plain_or_not plan.channels a) [
+  | inl is ↦ b.plain_peaks is ∙ ap (λ (ts : List (List ℤ)). raise_over (outs plan a) ts m.peaks) (sym b.good.chains ∙ ap tokens_in same) ∙ sym (plain is)
+  | inr not ↦ b.peaks ∙ sym (other not)
+]

@@ -1,10 +1,10 @@
--- What a block of firings does to the one input and the one output of its actor.
+-- What a block of firings does to the inputs and outputs of its actor.
 use Rattle.std.proofs.Common.{◌≡◌, ◌≢◌, ℕ, zero, suc, ◌+◌, ◌<◌, ◌≤◌, max, List, [], ◌∷◌, ◌++◌, length, get_or, set, take, drop, refl, ap}
-use Rattle.std.proofs.Common.{◌∙◌, sym, arith, append-nil, set-set, length-set, get_or-set_same, get_or-set_other}
+use Rattle.std.proofs.Common.{◌∙◌, sym, subst, arith, append-nil, set-set, length-set, get_or-set_same, get_or-set_other}
 use Rattle.std.specs.Prelude.{ℤ, sum_by}
 use Rattle.std.specs.List.{AllByRecursion}
 use Rattle.std.proofs.Math.Seq.{take-add}
-use Rattle.std.proofs.lemmas.List.{set-get_or, take_all, length-append, length-drop, length-take-le}
+use Rattle.std.proofs.lemmas.List.{set-get_or, take_all, length-append, length-drop, length-take}
 use Rattle.std.proofs.lemmas.List.Sums.{sum_by-cons}
 use Rattle.csdf_pool.specs.Pool.{Shared, held_cells, after_puts, after_takes}
 use Rattle.csdf_pool.proofs.OneByOne.{takes_are, puts_are}
@@ -93,6 +93,66 @@ free_took (c ∷ ns) n pool l =
 pub length-took : (ns : List ℕ) (n : ℕ) (ts : List (List ℤ)) → length (took ns n ts) ≡ length ts
 length-took [] n ts = refl
 length-took (c ∷ ns) n ts = length-set ts c (drop n (tokens_at ts c))
+
+-- ---- the same of many channels, each with its amount
+pub holds_takes : (f : ℕ → ℕ) (ns : List ℕ) (pool : Shared) → AreWithin ns (length pool.chains)
+    → Holds pool (after_takes_over f ns pool) (takes_over f ns (tokens_in pool))
+holds_takes f [] pool l = record { size = refl; chained = refl; tokens_are = refl; partition = λ part. part }
+holds_takes f (c ∷ ns) pool l =
+    let h = holds_taken pool c (f c) l.0 in
+    let rest = holds_takes f ns (after_takes pool c (f c)) (subst (AreWithin ns) (sym h.chained) l.1) in
+    record {
+      size = rest.size ∙ h.size;
+      chained = rest.chained ∙ h.chained;
+      tokens_are = rest.tokens_are ∙ ap (takes_over f ns) h.tokens_are;
+      partition = λ part. rest.partition (h.partition part);
+    }
+
+pub free_takes : (f : ℕ → ℕ) (ns : List ℕ) (pool : Shared) → AreWithin ns (length pool.chains) → length pool.free ≤ length (after_takes_over f ns pool).free
+free_takes f [] pool l = omega arith
+free_takes f (c ∷ ns) pool l =
+    let h = holds_taken pool c (f c) l.0 in
+    let first : length pool.free ≤ length (after_takes pool c (f c)).free = free_took (c ∷ []) (f c) pool (l.0, tt) in
+    let rest = free_takes f ns (after_takes pool c (f c)) (subst (AreWithin ns) (sym h.chained) l.1) in
+    omega (arith, first, rest)
+
+-- the cells that are left by a put, and that the rest of what is put finds them
+left_free : (pool : Shared) (c n : ℕ) (v : List ℤ) → c < length pool.chains → length v ≤ length pool.free
+    → length (after_puts pool c (take n v)).free + length (take n v) ≡ length pool.free
+left_free pool c n v lt room =
+    let size = length-take n v in
+    let is : length (after_puts pool c (take n v)).free ≡ length (drop (length (take n v)) pool.free) =
+    ap (λ (q : Shared). length q.free) (puts_are pool.size c pool.chains pool.free (take n v) lt (omega (arith, size, room))) in
+    omega (arith, is, length-drop (length (take n v)) pool.free, size, room)
+
+pub holds_puts : (f : ℕ → ℕ) (ns : List ℕ) (pool : Shared) (v : List ℤ) → AreWithin ns (length pool.chains) → length v ≤ length pool.free
+    → Holds pool (after_puts_over f ns pool v) (puts_over f ns (tokens_in pool) v)
+holds_puts f [] pool v l room = record { size = refl; chained = refl; tokens_are = refl; partition = λ part. part }
+holds_puts f (c ∷ ns) pool v l room =
+    let size = length-take (f c) v in
+    let others = length-drop (f c) v in
+    let free = left_free pool c (f c) v l.0 room in
+    let h = holds_put pool c (take (f c) v) l.0 (omega (arith, size, room)) in
+    let rest = holds_puts f ns (after_puts pool c (take (f c) v)) (drop (f c) v) (subst (AreWithin ns) (sym h.chained) l.1)
+    (omega (arith, size, others, free, room)) in
+    record {
+      size = rest.size ∙ h.size;
+      chained = rest.chained ∙ h.chained;
+      tokens_are = rest.tokens_are ∙ ap (λ (ts : List (List ℤ)). puts_over f ns ts (drop (f c) v)) h.tokens_are;
+      partition = λ part. rest.partition (h.partition part);
+    }
+
+pub free_puts : (f : ℕ → ℕ) (ns : List ℕ) (pool : Shared) (v : List ℤ) → AreWithin ns (length pool.chains) → length v ≤ length pool.free
+    → length pool.free ≤ length (after_puts_over f ns pool v).free + length v
+free_puts f [] pool v l room = omega arith
+free_puts f (c ∷ ns) pool v l room =
+    let size = length-take (f c) v in
+    let others = length-drop (f c) v in
+    let free = left_free pool c (f c) v l.0 room in
+    let h = holds_put pool c (take (f c) v) l.0 (omega (arith, size, room)) in
+    let rest = free_puts f ns (after_puts pool c (take (f c) v)) (drop (f c) v) (subst (AreWithin ns) (sym h.chained) l.1)
+    (omega (arith, size, others, free, room)) in
+    omega (arith, size, others, free, rest, room)
 
 -- ---- the ports' tokens after it
 pub in_after : (ins outs : List ℕ) (ts : List (List ℤ)) (n : ℕ) (v : List ℤ) → length ins ≤ 1 → AreWithin ins (length ts) → AreApart ins outs
@@ -203,11 +263,6 @@ pub front_at : (ns : List ℕ) (n : ℕ) (ts : List (List ℤ)) → 0 < length n
 front_at [] n ts lt = absurd (omega arith)
 front_at (c ∷ ns) n ts lt = refl
 
-pub held_at : (ns : List ℕ) (n : ℕ) (ts : List (List ℤ)) → 0 < length ns → HoldAll ts n ns → n ≤ length (tokens_at ts (get_or ns 0 0))
+pub held_at : (ns : List ℕ) (n : ℕ) (ts : List (List ℤ)) → 0 < length ns → HoldAll ts (λ _. n) ns → n ≤ length (tokens_at ts (get_or ns 0 0))
 held_at [] n ts lt h = absurd (omega arith)
 held_at (c ∷ ns) n ts lt h = h.0
-
--- as many are handed out as are asked for, where they are there
-pub length-front : (ns : List ℕ) (n : ℕ) (ts : List (List ℤ)) → HoldAll ts n ns → (length ns ≡ 0 → n ≡ 0) → length (from_front ns n ts) ≡ n
-length-front [] n ts h none = sym (none refl)
-length-front (c ∷ ns) n ts h none = length-take-le n (tokens_at ts c) h.0

@@ -1,23 +1,24 @@
 -- How many firings an actor can make: fewer where it can make more, and one where its begin is accepted.
 use Rattle.std.proofs.Common.{◌≡◌, ◌≢◌, ℕ, zero, suc, ◌+◌, ◌-◌, ◌<◌, ◌≤◌, ◌==◌, ◌&&◌, nat_lt, cond, inl, inr, ◌⊎◌, List, [], ◌∷◌, length, get_or, map, refl, ap}
 use Rattle.std.proofs.Common.{subst, ◌∙◌, arith, Bool, true, false, Option, Some, None, eq-eqb}
-use Rattle.std.specs.Prelude.{ℤ, find, IfSome, sum_by, slice_index}
+use Rattle.std.specs.Prelude.{ℤ, find, IfSome, slice_index}
 use Rattle.std.specs.List.{zip, position_from, AllByRecursion}
 use Rattle.std.proofs.lemmas.Bool.Decides.{nat_tests}
 use Rattle.std.proofs.lemmas.List.Elements.{recursion_from_All}
-use Rattle.std.proofs.lemmas.List.Sums.{sum_by-cons}
 use Rattle.csdf_model.specs.Graph.{numbers_from}
-use Rattle.csdf_core.specs.Blocks.{needs_of, gifts_of, CanFire, IsBetween, IsPlain, HoldAll, HaveRoomFor, capacity_at}
+use Rattle.csdf_core.specs.Blocks.{takes_at, gives_at, CanFire, IsBetween, HasNoLoop, HoldAll, HaveRoomFor, capacity_at}
 use Rattle.csdf_core.specs.Moves.{Begin}
-use Rattle.csdf_core.specs.Plan.{Channel, Plan, to_at}
+use Rattle.csdf_core.specs.Plan.{Channel, Plan, from_at, to_at}
 use Rattle.csdf_core.specs.Ports.{inputs_at, outputs_at, take_at, give_at, tokens_at, short_at, full_at, own_take_at}
 use Rattle.csdf_core.specs.Ready.{IsFit}
 use Rattle.csdf_core.specs.Rows.{gift, is_closed}
 use Rattle.csdf_core.specs.State.{Present}
 use Rattle.csdf_core.specs.Step.{count, given, is_source, is_reached, refusal, begun_count, held, reserved}
 use Rattle.csdf_core.proofs.BlockBegins.{finds_fewer}
+use Rattle.csdf_core.proofs.BlockPorts.{both, each}
+use Rattle.csdf_core.proofs.BlockTokens.{outs_own}
 use Rattle.csdf_core.proofs.Kept.{Begins, begins}
-use Rattle.csdf_core.proofs.PortLemmas.{first_short, first_full, need_is, gift_is, own_take_none, numbers_within}
+use Rattle.csdf_core.proofs.PortLemmas.{first_short, first_full, own_take_none, numbers_within}
 
 -- ---- a look at n firings halves what is left
 pub between_above : (plan : Plan) (p : Present) (a most low high n : ℕ) → IsBetween plan p a most low high → n ≤ high → CanFire plan p a n
@@ -95,27 +96,21 @@ of_each P field a i (suc c) (x ∷ cs) lt e all =
     rest true all = all.1
     rest false all = all
 
-one_held : (ns : List ℕ) (f : ℕ → ℕ) (ts : List (List ℤ)) (n : ℕ) → length ns ≤ 1 → sum_by f ns ≡ n
-    → AllByRecursion (λ c. nat_lt (length (tokens_at ts c)) (f c) ≡ false) ns → HoldAll ts n ns
-one_held [] f ts n one e all = tt
-one_held (c ∷ []) f ts n one e all =
-    ((let s = sum_by-cons f c [] in let l = not_less (length (tokens_at ts c)) (f c) all.0 in let r : n ≤ length (tokens_at ts c) = omega (arith, s, e, l) in r), tt)
-one_held (c ∷ d ∷ ns) f ts n one e all = absurd (omega arith)
+one_held : (cs : List Channel) (k : ℕ) (ns : List ℕ) (ts : List (List ℤ)) → AllByRecursion (λ c. short_at cs k ts c ≡ false) ns → HoldAll ts (takes_at cs k 1) ns
+one_held cs k ns ts all =
+    each ns
+    (λ c (e : short_at cs k ts c ≡ false).
+    (let l = not_less (length (tokens_at ts c)) (take_at cs k c) e in let r : takes_at cs k 1 c ≤ length (tokens_at ts c) = omega (arith, l) in r)) all
 
-one_has_room : (ns : List ℕ) (cs : List Channel) (f own : ℕ → ℕ) (ts : List (List ℤ)) (n : ℕ) → length ns ≤ 1 → sum_by f ns ≡ n
-    → AllByRecursion (λ c. nat_lt (capacity_at cs c) (length (tokens_at ts c) - own c + f c) ≡ false) ns → AllByRecursion (λ c. 0 ≡ own c) ns
-    → HaveRoomFor cs ts n ns
-one_has_room [] cs f own ts n one e all none = tt
-one_has_room (c ∷ []) cs f own ts n one e all none = (
-  (let s = sum_by-cons f c [] in
-      let l = not_less (capacity_at cs c) (length (tokens_at ts c) - own c + f c) all.0 in
-      let z = none.0 in
-      let r : length (tokens_at ts c) + n ≤ capacity_at cs c = omega (arith, s, e, l, z) in r),
-  tt,
-)
-one_has_room (c ∷ d ∷ ns) cs f own ts n one e all none = absurd (omega arith)
+one_has_room : (cs : List Channel) (a k : ℕ) (ns : List ℕ) (ts : List (List ℤ)) → AllByRecursion (λ c. full_at cs a k ts c ≡ false) ns
+    → AllByRecursion (λ c. 0 ≡ own_take_at cs a k c) ns → HaveRoomFor cs ts (gives_at cs k 1) ns
+one_has_room cs a k ns ts all none =
+    both ns
+    (λ c (e : full_at cs a k ts c ≡ false) (z : 0 ≡ own_take_at cs a k c).
+    (let l = not_less (capacity_at cs c) (length (tokens_at ts c) - own_take_at cs a k c + give_at cs k c) e in
+    let r : length (tokens_at ts c) + gives_at cs k 1 c ≤ capacity_at cs c = omega (arith, l, z) in r)) all none
 
-module _ (plan : Plan) (p : Present) (a : ℕ) (fit : IsFit plan p) (plain : IsPlain plan.channels a) (b : Begins plan p a) where
+module _ (plan : Plan) (p : Present) (a : ℕ) (fit : IsFit plan p) (apart : HasNoLoop plan.channels a) (b : Begins plan p a) where
   abbrev k : ℕ
   k = count p a
 
@@ -126,27 +121,23 @@ module _ (plan : Plan) (p : Present) (a : ℕ) (fit : IsFit plan p) (plain : IsP
   outs = outputs_at plan.channels a
 
   -- an output is no input, so the firing takes nothing of it
-  takes_none_of : (ds : List ℕ) → AllByRecursion (λ d. d < length plan.channels) ds → AllByRecursion (λ c. AllByRecursion (λ d. d ≢ c) ds) ins
-      → length ds ≤ 1 → AllByRecursion (λ d. 0 ≡ own_take_at plan.channels a k d) ds
-  takes_none_of [] within apart one = tt
-  takes_none_of (d ∷ []) within apart one = (
-    own_take_none a k plan.channels d
-        (λ (e : to_at plan.channels d ≡ a).
-        (of_each (λ c. AllByRecursion (λ x. x ≢ c) (d ∷ [])) (λ (x : Channel). x.to) a 0 d plan.channels within.0 e apart).0
-        (let z : d ≡ 0 + d = omega arith in z)),
-    tt,
-  )
-  takes_none_of (d ∷ e ∷ ds) within apart one = absurd (omega arith)
+  takes_none : AllByRecursion (λ d. 0 ≡ own_take_at plan.channels a k d) outs
+  takes_none =
+      both outs
+      (λ d (lt : d < length plan.channels) (own : from_at plan.channels d ≡ a).
+      own_take_none a k plan.channels d
+      (λ (e : to_at plan.channels d ≡ a).
+      of_each (λ c. from_at plan.channels c ≢ a) (λ (x : Channel). x.to) a 0 d plan.channels lt e apart
+      (ap (from_at plan.channels) (let z : 0 + d ≡ d = omega arith in z) ∙ own)))
+      (recursion_from_All (λ c. c < length plan.channels) outs (numbers_within (λ (c : Channel). c.from == a) plan.channels))
+      (outs_own plan.channels a)
 
   pub one_of_begun : held p + reserved plan p + gift a k plan.channels ≤ plan.cells → CanFire plan p a 1
   one_of_begun cells =
-      let one_need : sum_by (take_at plan.channels k) ins ≡ needs_of plan.channels a k 1 = omega (arith, need_is a k plan.channels) in
-      let one_gift : sum_by (give_at plan.channels k) outs ≡ gifts_of plan.channels a k 1 = omega (arith, gift_is a k plan.channels) in
       let tokens_there = find_free (short_at plan.channels k p.tokens) ins (first_short a k plan.channels p.tokens fit.queued ∙ b.not_short) in
       let room_there = find_free (full_at plan.channels a k p.tokens) outs (first_full a k plan.channels p.tokens fit.queued ∙ b.not_full) in
-      let within = recursion_from_All (λ c. c < length plan.channels) outs (numbers_within (λ (c : Channel). c.from == a) plan.channels) in
       record {
-        plain = plain;
+        apart = apart;
         there = b.there;
         number = refl;
         idle = b.idle;
@@ -154,14 +145,13 @@ module _ (plan : Plan) (p : Present) (a : ℕ) (fit : IsFit plan p) (plain : IsP
         opens = position_free (is_closed a) 0 (zip plan.channels p.opens) b.opens;
         supply = λ source. (let s = wet (is_source plan a) (slice_index plan.supplies a) (given plan a (suc k)) b.not_dry source in
             let e : k + 1 ≡ suc k = omega arith in let t = ap (given plan a) e in omega (arith, s, t));
-        tokens = one_held ins (take_at plan.channels k) p.tokens (needs_of plan.channels a k 1) plain.one_in one_need tokens_there;
-        room = one_has_room outs plan.channels (give_at plan.channels k) (own_take_at plan.channels a k) p.tokens (gifts_of plan.channels a k 1) plain.one_out
-            one_gift room_there (takes_none_of outs within plain.apart plain.one_out);
+        tokens = one_held plan.channels k ins p.tokens tokens_there;
+        room = one_has_room plan.channels a k outs p.tokens room_there takes_none;
         firings = one_more plan.firings (begun_count p) b.not_stopped;
         cells = omega (arith, cells);
       }
 
 -- one firing can be made where its begin is accepted and all that it gives finds cells
-pub one_begins : (plan : Plan) (p : Present) (a : ℕ) → IsFit plan p → IsPlain plan.channels a → refusal plan p (Begin a) ≡ None
+pub one_begins : (plan : Plan) (p : Present) (a : ℕ) → IsFit plan p → HasNoLoop plan.channels a → refusal plan p (Begin a) ≡ None
     → held p + reserved plan p + gift a (count p a) plan.channels ≤ plan.cells → CanFire plan p a 1
-one_begins plan p a fit plain free cells = one_of_begun plan p a fit plain (begins plan p a free) cells
+one_begins plan p a fit apart free cells = one_of_begun plan p a fit apart (begins plan p a free) cells

@@ -40,6 +40,8 @@ pub mod EverCores
 pub mod EverExamples
 pub mod BlockPools
 pub mod BlockPorts
+pub mod BlockTokens
+pub mod BlockReads
 pub mod BlockBegins
 pub mod BlockMachines
 pub mod BlockMoves

@@ -6,7 +6,7 @@ use Rattle.std.proofs.Math.Nat.{mod-one, suc-mul}
 use Rattle.std.proofs.lemmas.List.Elements.{recursion_from_All}
 use Rattle.std.proofs.lemmas.List.Sums.{sum_by-cons}
 use Rattle.csdf_model.specs.Rates.{rate}
-use Rattle.csdf_core.specs.Blocks.{needs_of, gifts_of}
+use Rattle.csdf_core.specs.Blocks.{needs_of, gifts_of, takes_at, gives_at}
 use Rattle.csdf_core.specs.Phases.{IsPhase, IsInPhase, HasPhases}
 use Rattle.csdf_core.specs.Plan.{Channel, from_at, to_at, produce_at, consume_at}
 use Rattle.csdf_core.specs.Ports.{inputs_at, outputs_at, take_at, give_at}
@@ -69,6 +69,24 @@ module _ (cs : List Channel) (a : ℕ) (has : HasPhases cs a 1) where
   gifts_times k (suc n) =
       let rest : gifts_of cs a (suc k) n ≡ n * gift a k cs = gifts_times (suc k) n ∙ ap (λ x. n * x) (same_gift (suc k) k) in
       let t = suc-mul n (gift a k cs) in
+      omega (arith, rest, t)
+
+  pub takes_times : (c : ℕ) → c < length cs → to_at cs c ≡ a → (k n : ℕ) → takes_at cs k n c ≡ n * take_at cs k c
+  takes_times c lt own k zero = omega arith
+  takes_times c lt own k (suc n) =
+      let same : take_at cs (suc k) c ≡ take_at cs k c =
+      take_is cs (suc k) c lt ∙ rate_one (consume_at cs c) (suc k) k (has.takes c lt own) ∙ sym (take_is cs k c lt) in
+      let rest : takes_at cs (suc k) n c ≡ n * take_at cs k c = takes_times c lt own (suc k) n ∙ ap (λ x. n * x) same in
+      let t = suc-mul n (take_at cs k c) in
+      omega (arith, rest, t)
+
+  pub gives_times : (c : ℕ) → c < length cs → from_at cs c ≡ a → (k n : ℕ) → gives_at cs k n c ≡ n * give_at cs k c
+  gives_times c lt own k zero = omega arith
+  gives_times c lt own k (suc n) =
+      let same : give_at cs (suc k) c ≡ give_at cs k c =
+      give_is cs (suc k) c lt ∙ rate_one (produce_at cs c) (suc k) k (has.gives c lt own) ∙ sym (give_is cs k c lt) in
+      let rest : gives_at cs (suc k) n c ≡ n * give_at cs k c = gives_times c lt own (suc k) n ∙ ap (λ x. n * x) same in
+      let t = suc-mul n (give_at cs k c) in
       omega (arith, rest, t)
 
   pub in_only_phase : (k : ℕ) → IsInPhase cs a k 0

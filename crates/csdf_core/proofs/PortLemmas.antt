@@ -1,7 +1,7 @@
 -- What a firing does to its actor's own channels, and what the model says of all channels.
 use Rattle.std.proofs.Common.{◌≡◌, ℕ, zero, suc, ◌+◌, ◌<◌, ◌≤◌, ◌==◌, max, List, [], ◌∷◌, ◌++◌, length, get_or, set, take, drop, map, inl, inr, refl, ap, subst}
 use Rattle.std.proofs.Common.{◌∙◌, sym, arith, append_assoc, append-nil, Bool, true, false, cond, Option, Some, None}
-use Rattle.std.proofs.Common.{◌-◌}
+use Rattle.std.proofs.Common.{◌-◌, ap₂}
 use Rattle.std.specs.Prelude.{ℤ, ◌&&◌, not, nat_lt, sum_by, find, All}
 use Rattle.std.proofs.lemmas.List.{get_or_default, drop_all}
 use Rattle.std.specs.List.{zip, flat_map, position_from, AllByRecursion}
@@ -11,6 +11,7 @@ use Rattle.csdf_pool.specs.Pool.{Held, held_tokens}
 use Rattle.csdf_model.specs.Graph.{numbers_from}
 use Rattle.csdf_model.specs.Rates.{rate}
 use Rattle.csdf_model.proofs.PortLemmas as graph
+use Rattle.csdf_core.specs.Blocks.{fronts}
 use Rattle.csdf_core.specs.Plan.{Channel, takes_of}
 use Rattle.csdf_core.specs.Rows.{Row, is_closed, is_short, is_full, first, cut, joined, need, gift}
 use Rattle.csdf_core.specs.Shows.{raised}
@@ -157,6 +158,31 @@ module _ (own : Channel → Bool) (rate_of : Channel → ℕ) (amount : ℕ → 
         ∙ taken_all (suc i) (done ++ t ∷ []) cs ts (one_done done i t e) (omega arith) (more_rates i c cs h)
         ∙ ap (λ k. take k t ++ flat_map (λ (row : Row). take (moved row.0) row.1) (zip cs ts)) (sym m)
   ]
+
+  pub fronts_all : (i : ℕ) (done : List (List ℤ)) (cs : List Channel) (ts : List (List ℤ)) → length done ≡ i → length ts ≡ length cs → AreRates i cs
+      → flat_map (λ (row : Row). take (moved row.0) row.1) (zip cs ts) ≡ fronts amount (numbers_from i own cs) (tokens_at (done ++ ts))
+  fronts_all i done [] [] e len h = refl
+  fronts_all i done [] (t ∷ ts) e len h = absurd (omega arith)
+  fronts_all i done (c ∷ cs) [] e len h = absurd (omega arith)
+  fronts_all i done (c ∷ cs) (t ∷ ts) e len h =
+      let others : List ℤ = flat_map (λ (row : Row). take (moved row.0) row.1) (zip cs ts) in
+      let later : others ≡ fronts amount (numbers_from (suc i) own cs) (tokens_at (done ++ t ∷ ts)) =
+      fronts_all (suc i) (done ++ t ∷ []) cs ts (one_done done i t e) (omega arith) (more_rates i c cs h)
+      ∙ ap (λ us. fronts amount (numbers_from (suc i) own cs) (tokens_at us)) (step_seam done t ts) in
+      elim (cases_Bool (own c)) [
+        | inl o ↦
+            let m : moved c ≡ amount i = ap (λ b. cond b (rate_of c) 0) o ∙ sym (first_rate i c cs h) in
+            let n : numbers_from i own (c ∷ cs) ≡ i ∷ numbers_from (suc i) own cs =
+            ap (λ b. cond b (i ∷ numbers_from (suc i) own cs) (numbers_from (suc i) own cs)) o in
+            let at : tokens_at (done ++ t ∷ ts) i ≡ t = at_place done i t [] ts e in
+            ap₂ (λ (x y : List ℤ). x ++ y) (ap (λ k. take k t) m ∙ ap (take (amount i)) (sym at)) later
+            ∙ ap (λ ns. fronts amount ns (tokens_at (done ++ t ∷ ts))) (sym n)
+        | inr o ↦
+            let m : moved c ≡ 0 = ap (λ b. cond b (rate_of c) 0) o in
+            let n : numbers_from i own (c ∷ cs) ≡ numbers_from (suc i) own cs =
+            ap (λ b. cond b (i ∷ numbers_from (suc i) own cs) (numbers_from (suc i) own cs)) o in
+            ap (λ k. take k t ++ others) m ∙ later ∙ ap (λ ns. fronts amount ns (tokens_at (done ++ t ∷ ts))) (sym n)
+      ]
 
   pub enough_all : (i : ℕ) (done : List (List ℤ)) (cs : List Channel) (ts : List (List ℤ)) → length done ≡ i → length ts ≡ length cs → AreRates i cs
       → AllByRecursion (λ (row : Row). moved row.0 ≤ length row.1) (zip cs ts) → EnoughOver amount (numbers_from i own cs) (done ++ ts)

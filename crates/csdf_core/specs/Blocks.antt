@@ -1,13 +1,13 @@
 -- Several firings of one actor, one after another with no other's move between.
-use Rattle.std.specs.Prelude.{ℕ, zero, suc, ◌≡◌, ◌≢◌, ◌+◌, ◌<◌, ◌≤◌, true, List, [], ◌∷◌, ◌++◌, ℤ, None, Ok, Err, IfSome, length, map, take, drop, slice_index}
+use Rattle.std.specs.Prelude.{ℕ, zero, suc, ◌≡◌, ◌≢◌, ◌+◌, ◌<◌, ◌≤◌, true, List, [], ◌∷◌, ◌++◌, ℤ, None, Ok, Err, IfSome, length, map, take, drop, slice_index, sum_by}
 use Rattle.std.specs.List.{AllByRecursion}
 use Rattle.csdf_pool.specs.Pool.{Shared, after_takes, after_puts}
 use Rattle.csdf_core.specs.declared.stage.Stage.TheVariants.{Idle}
 use Rattle.csdf_core.specs.Moves.{Move}
 use Rattle.csdf_core.specs.Moves.{Begin, Read, Write, Finish, Close}
 use Rattle.csdf_core.specs.Next.{next}
-use Rattle.csdf_core.specs.Plan.{Channel, Plan}
-use Rattle.csdf_core.specs.Ports.{inputs_at, outputs_at, tokens_at}
+use Rattle.csdf_core.specs.Plan.{Channel, Plan, from_at}
+use Rattle.csdf_core.specs.Ports.{inputs_at, outputs_at, take_at, give_at, tokens_at, tokens_in, EnoughOver, raise_over}
 use Rattle.csdf_core.specs.Rows.{is_closed, first, need, gift}
 use Rattle.csdf_core.specs.State.{Present}
 use Rattle.csdf_core.specs.Transfers.{after_read, after_write}
@@ -44,11 +44,23 @@ handed_by [] = []
 handed_by (Ok tokens ∷ replies) = tokens ++ handed_by replies
 handed_by (Err refusal ∷ replies) = handed_by replies
 
--- the actor has at most one input and at most one output, and they are different channels
+-- how many tokens n firings take of a channel, from firing number k on, and how many they give to it, by the channel's number
+abbrev pub takes_at : List Channel → ℕ → ℕ → ℕ → ℕ
+takes_at channels k zero c = 0
+takes_at channels k (suc n) c = take_at channels k c + takes_at channels (suc k) n c
+
+abbrev pub gives_at : List Channel → ℕ → ℕ → ℕ → ℕ
+gives_at channels k zero c = 0
+gives_at channels k (suc n) c = give_at channels k c + gives_at channels (suc k) n c
+
+-- no channel goes from the actor to itself
+abbrev pub HasNoLoop : List Channel → ℕ → Type 0
+HasNoLoop channels a = AllByRecursion (λ c. from_at channels c ≢ a) (inputs_at channels a)
+
+-- the actor has at most one input and at most one output
 pub record IsPlain (channels : List Channel) (a : ℕ) : Type 0 where
   pub one_in : length (inputs_at channels a) ≤ 1
   pub one_out : length (outputs_at channels a) ≤ 1
-  pub apart : AllByRecursion (λ c. AllByRecursion (λ d. d ≢ c) (outputs_at channels a)) (inputs_at channels a)
 
 -- the capacity of a channel, by its number
 abbrev pub capacity_at : List Channel → ℕ → ℕ
@@ -63,23 +75,62 @@ abbrev pub puts_in : List ℕ → Shared → List ℤ → Shared
 puts_in [] pool v = pool
 puts_in (c ∷ numbers) pool v = after_puts pool c v
 
+-- the pool after firing number k has read and written
+abbrev pub pool_fired : Plan → ℕ → ℕ → Shared → List ℤ → Shared
+pool_fired plan a k pool v = after_write plan a k (after_read plan a k pool) (take (gift a k plan.channels) v)
+
 -- the pool after the n firings have read and written, one after another
 abbrev pub pool_after : Plan → ℕ → ℕ → ℕ → Shared → List ℤ → Shared
 pool_after plan a k zero pool v = pool
-pool_after plan a k (suc n) pool v =
-    pool_after plan a (suc k) n (after_write plan a k (after_read plan a k pool) (take (gift a k plan.channels) v)) (drop (gift a k plan.channels) v)
+pool_after plan a k (suc n) pool v = pool_after plan a (suc k) n (pool_fired plan a k pool v) (drop (gift a k plan.channels) v)
+
+-- the peaks after them, which each of them raises
+abbrev pub peaks_after : Plan → ℕ → ℕ → ℕ → Shared → List ℤ → List ℕ → List ℕ
+peaks_after plan a k zero pool v peaks = peaks
+peaks_after plan a k (suc n) pool v peaks =
+    peaks_after plan a (suc k) n (pool_fired plan a k pool v) (drop (gift a k plan.channels) v)
+    (raise_over (outputs_at plan.channels a) (tokens_in (pool_fired plan a k pool v)) peaks)
+
+-- each of the n firings in turn finds its tokens, and cells for what it gives
+abbrev pub Suffices : Plan → ℕ → ℕ → ℕ → Shared → List ℤ → Type 0
+Suffices plan a k zero pool v = Unit {0}
+Suffices plan a k (suc n) pool v = EnoughOver (take_at plan.channels k) (inputs_at plan.channels a) (tokens_in pool)
+    × (gift a k plan.channels ≤ length (after_read plan a k pool).free)
+    × Suffices plan a (suc k) n (pool_fired plan a k pool v) (drop (gift a k plan.channels) v)
 
 -- the first n tokens of the first of the channels
 abbrev pub from_front : List ℕ → ℕ → List (List ℤ) → List ℤ
 from_front [] n tokens = []
 from_front (c ∷ numbers) n tokens = take n (tokens_at tokens c)
 
--- each of the channels holds n tokens, and each has room for so many more
-abbrev pub HoldAll : List (List ℤ) → ℕ → List ℕ → Type 0
-HoldAll tokens n numbers = AllByRecursion (λ c. n ≤ length (tokens_at tokens c)) numbers
+-- so many tokens from the front of each of the channels, one channel's after another's
+abbrev pub fronts : (ℕ → ℕ) → List ℕ → (ℕ → List ℤ) → List ℤ
+fronts amount [] tokens = []
+fronts amount (c ∷ numbers) tokens = take (amount c) (tokens c) ++ fronts amount numbers tokens
 
-abbrev pub HaveRoomFor : List Channel → List (List ℤ) → ℕ → List ℕ → Type 0
-HaveRoomFor channels tokens n numbers = AllByRecursion (λ c. length (tokens_at tokens c) + n ≤ capacity_at channels c) numbers
+-- what n firings read of channels that hold these tokens, one firing's after another's
+abbrev pub reads_over : List Channel → List ℕ → ℕ → ℕ → (ℕ → List ℤ) → List ℤ
+reads_over channels numbers k zero tokens = []
+reads_over channels numbers k (suc n) tokens =
+    fronts (take_at channels k) numbers tokens ++ reads_over channels numbers (suc k) n (λ c. drop (take_at channels k c) (tokens c))
+
+-- n tokens put into a list from a place on
+abbrev pub put_from : ℕ → ℕ → List ℤ → List ℤ → List ℤ
+put_from place n tokens into = take place into ++ take n tokens ++ drop (place + n) into
+
+-- the tokens of channel c put where n firings read them, among the reads of all these channels, of which some come before it
+abbrev pub laid : List Channel → List ℕ → List ℕ → ℕ → ℕ → ℕ → List ℤ → List ℤ → List ℤ
+laid channels numbers before c k zero tokens into = into
+laid channels numbers before c k (suc n) tokens into =
+    put_from (sum_by (take_at channels k) before) (take_at channels k c) tokens (take (sum_by (take_at channels k) numbers) into)
+    ++ laid channels numbers before c (suc k) n (drop (take_at channels k c) tokens) (drop (sum_by (take_at channels k) numbers) into)
+
+-- each of the channels holds its amount of tokens, and each has room for its amount more
+abbrev pub HoldAll : List (List ℤ) → (ℕ → ℕ) → List ℕ → Type 0
+HoldAll tokens amount numbers = AllByRecursion (λ c. amount c ≤ length (tokens_at tokens c)) numbers
+
+abbrev pub HaveRoomFor : List Channel → List (List ℤ) → (ℕ → ℕ) → List ℕ → Type 0
+HaveRoomFor channels tokens amount numbers = AllByRecursion (λ c. length (tokens_at tokens c) + amount c ≤ capacity_at channels c) numbers
 
 -- the tokens are those that n firings hand out, from number k on, whatever they write
 abbrev pub AreRead : Plan → Present → ℕ → ℕ → ℕ → List ℤ → Type 0
@@ -106,17 +157,18 @@ AreReadEach plan p a k n tokens =
     (v : List ℤ) → length v ≡ gifts_of plan.channels a k n
     → reads_among plan p (firings_of plan.channels a k n v) ≡ parts_of plan.channels a k n tokens
 
--- a plain actor, whose next firing is number k, finds what n firings need: tokens, room and cells, and that it and all actors may make so many
+-- an actor with no channel to itself, whose next firing is number k, finds what n firings need: of each input and output its tokens and its
+-- room, and cells, and that it and all actors may make so many
 pub record FindsAll (plan : Plan) (p : Present) (a k n : ℕ) : Type 0 where
-  pub plain : IsPlain plan.channels a
+  pub apart : HasNoLoop plan.channels a
   pub there : a < length plan.sources
   pub number : count p a ≡ k
   pub idle : stage p a ≡ Idle
   pub limit : k + n ≤ slice_index plan.limits a
   pub opens : first (is_closed a) plan.channels p.opens ≡ None
   pub supply : is_source plan a ≡ true → given plan a (k + n) ≤ slice_index plan.supplies a
-  pub tokens : HoldAll p.tokens (needs_of plan.channels a k n) (inputs_at plan.channels a)
-  pub room : HaveRoomFor plan.channels p.tokens (gifts_of plan.channels a k n) (outputs_at plan.channels a)
+  pub tokens : HoldAll p.tokens (takes_at plan.channels k n) (inputs_at plan.channels a)
+  pub room : HaveRoomFor plan.channels p.tokens (gives_at plan.channels k n) (outputs_at plan.channels a)
   pub firings : IfSome plan.firings (λ most. begun_count p + n ≤ most)
   pub cells : held p + reserved plan p + gifts_of plan.channels a k n ≤ plan.cells
 

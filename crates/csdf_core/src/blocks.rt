@@ -2,14 +2,17 @@
 
 ghost use Rattle.std.specs.Prelude.{ℕ, ◌≡◌, ◌≢◌, ◌+◌, ◌-◌, ◌*◌, ◌<◌, ◌≤◌, ◌↔◌, true, None, IsTrue, IfSome, length, slice_index};
 ghost use Rattle.csdf_pool.specs.Pool.{IsPartition};
-ghost use Rattle.csdf_core.specs.Blocks.{needs_of, gifts_of, takes_in, puts_in, from_front, HoldAll, HaveRoomFor, IsPlain};
+ghost use Rattle.csdf_core.specs.Blocks.{needs_of, gifts_of, takes_at, gives_at, takes_in, puts_in, from_front, reads_over, HoldAll, HaveRoomFor, IsPlain};
+ghost use Rattle.csdf_core.specs.Blocks.{HasNoLoop, pool_after, peaks_after, Suffices};
 ghost use Rattle.csdf_core.specs.Phases.{HasPhases, IsInPhase};
-ghost use Rattle.csdf_core.specs.Ports.{inputs_at, outputs_at, tokens_in};
+ghost use Rattle.csdf_core.specs.Ports.{inputs_at, outputs_at, tokens_in, tokens_at, raise_over};
 
 use crate::firing_core::Core;
 use crate::first_refusal::is_at;
+use crate::gathering::gather;
 use crate::layout::Layout;
 use crate::readiness::first_closed;
+use crate::several::{fire_each, has_no_loop, have_room_each, hold_each};
 use crate::stage::Stage;
 use crate::transfer::{gift_of, need_of, raise_peaks};
 use crate::turn::{Turn, turn_after};
@@ -127,20 +130,48 @@ fn times(tokens: u64, each: u64, most: u32) -> u32
     if n < u64::from(most) { n as u32 } else { most }
 }
 
-/// Whether the actor has at most one input and at most one output, not the same channel.
+/// How many firings at most find their tokens, where each takes as many as this one.
+fn held_times(layout: &Layout, pool: &Pool, actor: u32, turn: Turn, most: u32) -> u32
+    requires actor { actor < length layout.now.sources }
+    requires same { length pool.now.chains ≡ length layout.now.channels }
+    requires in_phase { IsInPhase layout.now.channels actor turn.firing turn.phase }
+    ensures { result ≤ most }
+{
+    let inputs = layout.inputs(actor);
+    let mut n = most;
+    for channel in inputs {
+        let each = u64::from(layout.takes(*channel, turn));
+        n = times(u64::from(pool.len(*channel)), each, n);
+    }
+    n
+}
+
+/// How many firings at most find room, where each gives as many tokens as this one.
+fn room_times(layout: &Layout, pool: &Pool, actor: u32, turn: Turn, most: u32) -> u32
+    requires actor { actor < length layout.now.sources }
+    requires same { length pool.now.chains ≡ length layout.now.channels }
+    requires in_phase { IsInPhase layout.now.channels actor turn.firing turn.phase }
+    ensures { result ≤ most }
+{
+    let outputs = layout.outputs(actor);
+    let mut n = most;
+    for channel in outputs {
+        let room = layout.capacity(*channel).saturating_sub(pool.len(*channel));
+        let each = u64::from(layout.gives(*channel, turn));
+        n = times(u64::from(room), each, n);
+    }
+    n
+}
+
+/// Whether the actor has at most one input and at most one output.
 fn is_plain(layout: &Layout, actor: u32) -> bool
     requires { actor < length layout.now.sources }
     ensures { IsTrue result ↔ IsPlain layout.now.channels actor }
 {
-    let inputs = layout.inputs(actor);
-    let outputs = layout.outputs(actor);
-    if inputs.len() > 1 || outputs.len() > 1 {
+    if layout.inputs(actor).len() > 1 {
         return false;
     }
-    if inputs.is_empty() || outputs.is_empty() {
-        return true;
-    }
-    if inputs[0] == outputs[0] {
+    if layout.outputs(actor).len() > 1 {
         return false;
     }
     true
@@ -150,7 +181,7 @@ fn is_plain(layout: &Layout, actor: u32) -> bool
 fn hold_all(layout: &Layout, pool: &Pool, actor: u32, needed: u64) -> bool
     requires actor { actor < length layout.now.sources }
     requires same { length pool.now.chains ≡ length layout.now.channels }
-    ensures { IsTrue result ↔ HoldAll (tokens_in pool.now) needed (inputs_at layout.now.channels actor) }
+    ensures { IsTrue result ↔ HoldAll (tokens_in pool.now) (λ _. needed) (inputs_at layout.now.channels actor) }
 {
     let inputs = layout.inputs(actor);
     for channel in inputs {
@@ -166,7 +197,7 @@ fn have_room(layout: &Layout, pool: &Pool, actor: u32, given: u64) -> bool
     requires actor { actor < length layout.now.sources }
     requires same { length pool.now.chains ≡ length layout.now.channels }
     requires small { given ≤ 8192 * 16_384_000 }
-    ensures { IsTrue result ↔ HaveRoomFor layout.now.channels (tokens_in pool.now) given (outputs_at layout.now.channels actor) }
+    ensures { IsTrue result ↔ HaveRoomFor layout.now.channels (tokens_in pool.now) (λ _. given) (outputs_at layout.now.channels actor) }
 {
     let outputs = layout.outputs(actor);
     for channel in outputs {
@@ -177,11 +208,49 @@ fn have_room(layout: &Layout, pool: &Pool, actor: u32, given: u64) -> bool
     true
 }
 
+/// Whether each input of the actor holds what its next n firings take of it, which is so many
+/// tokens in all.
+#[inline(always)]
+fn hold_theirs(layout: &Layout, pool: &Pool, actor: u32, turn: Turn, n: u32, needed: u64) -> bool
+    requires actor { actor < length layout.now.sources }
+    requires same { length pool.now.chains ≡ length layout.now.channels }
+    requires in_phase { IsInPhase layout.now.channels actor turn.firing turn.phase }
+    requires low { turn.phase < 16 }
+    requires few { turn.firing + n ≤ 16_384_000 }
+    requires needed { needed ≡ needs_of layout.now.channels actor turn.firing n }
+    ensures { IsTrue result ↔ HoldAll (tokens_in pool.now) (takes_at layout.now.channels turn.firing n) (inputs_at layout.now.channels actor) }
+{
+    if layout.inputs(actor).len() > 1 {
+        return hold_each(layout, pool, actor, turn, n);
+    }
+    hold_all(layout, pool, actor, needed)
+}
+
+/// Whether each output of the actor has room for what its next n firings give to it, which is so
+/// many tokens in all.
+#[inline(always)]
+fn have_theirs(layout: &Layout, pool: &Pool, actor: u32, turn: Turn, n: u32, given: u64) -> bool
+    requires actor { actor < length layout.now.sources }
+    requires same { length pool.now.chains ≡ length layout.now.channels }
+    requires in_phase { IsInPhase layout.now.channels actor turn.firing turn.phase }
+    requires low { turn.phase < 16 }
+    requires few { turn.firing + n ≤ 16_384_000 }
+    requires given { given ≡ gifts_of layout.now.channels actor turn.firing n }
+    requires small { given ≤ 8192 * 16_384_000 }
+    ensures { IsTrue result ↔ HaveRoomFor layout.now.channels (tokens_in pool.now) (gives_at layout.now.channels turn.firing n)
+        (outputs_at layout.now.channels actor) }
+{
+    if layout.outputs(actor).len() > 1 {
+        return have_room_each(layout, pool, actor, turn, n);
+    }
+    have_room(layout, pool, actor, given)
+}
+
 /// Takes so many tokens out of the actor's input, where it has one.
 fn take_block(layout: &Layout, pool: &mut Pool, actor: u32, n: u64)
     requires actor { actor < length layout.now.sources }
     requires same { length pool.old.chains ≡ length layout.now.channels }
-    requires enough { HoldAll (tokens_in pool.old) n (inputs_at layout.now.channels actor) }
+    requires enough { HoldAll (tokens_in pool.old) (λ _. n) (inputs_at layout.now.channels actor) }
     ensures cells { pool.new ≡ takes_in (inputs_at layout.now.channels actor) n pool.old }
     ensures same { length pool.new.chains ≡ length pool.old.chains }
     ensures free { length pool.old.free ≤ length pool.new.free }
@@ -199,7 +268,7 @@ fn take_block(layout: &Layout, pool: &mut Pool, actor: u32, n: u64)
 fn copy_block(layout: &Layout, pool: &Pool, actor: u32, into: &mut [i32])
     requires actor { actor < length layout.now.sources }
     requires same { length pool.now.chains ≡ length layout.now.channels }
-    requires enough { HoldAll (tokens_in pool.now) (length into.old) (inputs_at layout.now.channels actor) }
+    requires enough { HoldAll (tokens_in pool.now) (λ _. length into.old) (inputs_at layout.now.channels actor) }
     requires none { length (inputs_at layout.now.channels actor) ≡ 0 → length into.old ≡ 0 }
     ensures { into.new ≡ from_front (inputs_at layout.now.channels actor) (length into.old) (tokens_in pool.now) }
 {
@@ -209,6 +278,24 @@ fn copy_block(layout: &Layout, pool: &Pool, actor: u32, into: &mut [i32])
     }
     let input = inputs[0];
     pool.copy_front(input, into);
+}
+
+/// Copies what n firings of the actor read, one firing's after another's.
+fn copy_reads(layout: &Layout, pool: &Pool, actor: u32, turn: Turn, n: u32, into: &mut [i32])
+    requires actor { actor < length layout.now.sources }
+    requires same { length pool.now.chains ≡ length layout.now.channels }
+    requires in_phase { IsInPhase layout.now.channels actor turn.firing turn.phase }
+    requires low { turn.phase < 16 }
+    requires few { turn.firing + n ≤ 16_384_000 }
+    requires enough { HoldAll (tokens_in pool.now) (takes_at layout.now.channels turn.firing n) (inputs_at layout.now.channels actor) }
+    requires all { length into.old ≡ needs_of layout.now.channels actor turn.firing n }
+    ensures { into.new ≡ reads_over layout.now.channels (inputs_at layout.now.channels actor) turn.firing n (tokens_at (tokens_in pool.now)) }
+{
+    if layout.inputs(actor).len() > 1 {
+        gather(layout, pool, actor, turn, n, into);
+        return;
+    }
+    copy_block(layout, pool, actor, into);
 }
 
 /// Puts the tokens into the actor's output, where it has one.
@@ -226,8 +313,71 @@ fn put_block(layout: &Layout, pool: &mut Pool, actor: u32, tokens: &[i32])
     pool.put_all(outputs[0], tokens);
 }
 
+/// Moves the tokens of n firings of a plain actor: they go out of its input, so many, and these into
+/// its output, each in one piece.
+fn move_in_one(
+    layout: &Layout,
+    pool: &mut Pool,
+    peaks: &mut [u32],
+    actor: u32,
+    needed: u64,
+    tokens: &[i32],
+)
+    requires actor { actor < length layout.now.sources }
+    requires same { length pool.old.chains ≡ length layout.now.channels }
+    requires peaked { length peaks.old ≡ length layout.now.channels }
+    requires enough { HoldAll (tokens_in pool.old) (λ _. needed) (inputs_at layout.now.channels actor) }
+    requires room { length tokens.now ≤ length pool.old.free }
+    ensures cells { pool.new ≡ puts_in (outputs_at layout.now.channels actor) (takes_in (inputs_at layout.now.channels actor) needed pool.old) tokens.now }
+    ensures peaks { peaks.new ≡ raise_over (outputs_at layout.now.channels actor) (tokens_in pool.new) peaks.old }
+    ensures same { length pool.new.chains ≡ length pool.old.chains }
+    ensures peaked { length peaks.new ≡ length peaks.old }
+{
+    take_block(layout, pool, actor, needed);
+    put_block(layout, pool, actor, tokens);
+    raise_peaks(layout, pool, peaks, actor);
+}
+
+/// Moves the tokens of n firings, which take so many in all and give these: of a plain actor in one
+/// piece, of any other firing by firing.
+fn move_tokens(
+    layout: &Layout,
+    pool: &mut Pool,
+    peaks: &mut [u32],
+    actor: u32,
+    turn: Turn,
+    n: u32,
+    needed: u64,
+    tokens: &[i32],
+)
+    requires actor { actor < length layout.now.sources }
+    requires in_phase { IsInPhase layout.now.channels actor turn.firing turn.phase }
+    requires low { turn.phase < 16 }
+    requires few { turn.firing + n ≤ 16_384_000 }
+    requires same { length pool.old.chains ≡ length layout.now.channels }
+    requires peaked { length peaks.old ≡ length layout.now.channels }
+    requires tokens { IsPlain layout.now.channels actor → HoldAll (tokens_in pool.old) (λ _. needed) (inputs_at layout.now.channels actor) }
+    requires room { length tokens.now ≤ length pool.old.free }
+    requires enough { Suffices layout.now actor turn.firing n pool.old tokens.now }
+    requires all { length tokens.now ≡ gifts_of layout.now.channels actor turn.firing n }
+    requires partition { IsPartition pool.old }
+    ensures plain_cells { IsPlain layout.now.channels actor
+        → pool.new ≡ puts_in (outputs_at layout.now.channels actor) (takes_in (inputs_at layout.now.channels actor) needed pool.old) tokens.now }
+    ensures plain_peaks { IsPlain layout.now.channels actor → peaks.new ≡ raise_over (outputs_at layout.now.channels actor) (tokens_in pool.new) peaks.old }
+    ensures cells { (IsPlain layout.now.channels actor → ⊥) → pool.new ≡ pool_after layout.now actor turn.firing n pool.old tokens.now }
+    ensures peaks { (IsPlain layout.now.channels actor → ⊥) → peaks.new ≡ peaks_after layout.now actor turn.firing n pool.old tokens.now peaks.old }
+    ensures same { length pool.new.chains ≡ length pool.old.chains }
+    ensures peaked { length peaks.new ≡ length peaks.old }
+{
+    if is_plain(layout, actor) {
+        move_in_one(layout, pool, peaks, actor, needed, tokens);
+        return;
+    }
+    fire_each(layout, pool, peaks, actor, turn, n, tokens);
+}
+
 impl Core {
-    ghost use Rattle.csdf_core.specs.Blocks.{CanFire, IsBetween, AreAccepted, AreRead, AreReadEach, answers_to, firings_of, pool_after};
+    ghost use Rattle.csdf_core.specs.Blocks.{CanFire, IsBetween, AreAccepted, AreRead, AreReadEach, answers_to, firings_of};
     ghost use Rattle.csdf_core.specs.Shows.{Plays};
     ghost use Rattle.csdf_core.specs.Step.{count, stage, given, is_source, begun_count, held, reserved, refusal};
     ghost use Rattle.csdf_core.specs.Moves.{Begin};
@@ -270,15 +420,15 @@ impl Core {
     }
 
     /// Whether the actor can make its next n firings one after the other, with no other's move
-    /// between them: each of their moves is then accepted. It can't where it has several inputs or
-    /// outputs or a channel to itself, nor where there is no such actor.
+    /// between them: each of their moves is then accepted. It can't where it has a channel to itself,
+    /// nor where there is no such actor.
     pub fn can_fire(&self, actor: u32, n: u32) -> bool
         ensures { IsTrue result ↔ CanFire self.now.plan self.now.now actor n }
     {
         if actor as usize >= self.counts.len() {
             return false;
         }
-        if !is_plain(&self.layout, actor) || !is_at(self.stage(actor), Stage::Idle) {
+        if !has_no_loop(&self.layout, actor) || !is_at(self.stage(actor), Stage::Idle) {
             return false;
         }
         self.finds_all(actor, n)
@@ -290,25 +440,14 @@ impl Core {
         ensures { result ≤ most }
     {
         let layout = &self.layout;
-        let need = self.need(actor) as u64;
         let gift = self.gives(actor) as u64;
         let left = layout.limit(actor).saturating_sub(self.fired(actor));
         let mut n = most.min(left);
         if let Some(firings) = layout.firings() {
             n = times(u64::from(firings).saturating_sub(self.started), 1, n);
         }
-        let inputs = layout.inputs(actor);
-        if !inputs.is_empty() {
-            n = times(u64::from(self.pool.len(inputs[0])), need, n);
-        }
-        let outputs = layout.outputs(actor);
-        if !outputs.is_empty() {
-            let output = outputs[0];
-            let room = layout
-                .capacity(output)
-                .saturating_sub(self.pool.len(output));
-            n = times(u64::from(room), gift, n);
-        }
+        n = held_times(layout, &self.pool, actor, self.turn(actor), n);
+        n = room_times(layout, &self.pool, actor, self.turn(actor), n);
         if layout.is_source(actor) {
             let left = u64::from(layout.supply(actor)).saturating_sub(self.written(actor));
             n = times(left, gift, n);
@@ -340,7 +479,7 @@ impl Core {
     /// Where the first firing's begin is accepted, and there are cells for all that it gives, one
     /// firing can be made. The call does nothing.
     fn begins_one(&self, actor: u32)
-        ensures { IsPlain self.now.plan.channels actor
+        ensures { HasNoLoop self.now.plan.channels actor
             → refusal self.now.plan self.now.now (Begin actor) ≡ None
             → held self.now.now + reserved self.now.plan self.now.now + gift actor (count self.now.now actor) self.now.plan.channels ≤ self.now.plan.cells
             → CanFire self.now.plan self.now.now actor 1 }
@@ -416,7 +555,7 @@ impl Core {
         ensures most { result.firings ≤ most }
         ensures can { 0 < result.firings → CanFire self.now.plan self.now.now actor result.firings }
         ensures greatest { (n : ℕ) → n ≤ most → CanFire self.now.plan self.now.now actor n → n ≤ result.firings }
-        ensures first { 1 ≤ most → IsPlain self.now.plan.channels actor
+        ensures first { 1 ≤ most → HasNoLoop self.now.plan.channels actor
             → refusal self.now.plan self.now.now (Begin actor) ≡ None
             → held self.now.now + reserved self.now.plan self.now.now + gift actor (count self.now.now actor) self.now.plan.channels ≤ self.now.plan.cells
             → 1 ≤ result.firings }
@@ -449,7 +588,7 @@ impl Core {
     /// The tests that move on with n.
     fn finds_all(&self, actor: u32, n: u32) -> bool
         requires actor { actor < length self.now.plan.sources }
-        requires plain { IsPlain self.now.plan.channels actor }
+        requires apart { HasNoLoop self.now.plan.channels actor }
         requires idle { stage self.now.now actor ≡ Stage.Idle }
         ensures { IsTrue result ↔ CanFire self.now.plan self.now.now actor n }
     {
@@ -461,10 +600,10 @@ impl Core {
             return false;
         }
         let ahead = look_ahead(&self.layout, actor, turn, n);
-        if !hold_all(&self.layout, &self.pool, actor, ahead.needed) {
+        if !hold_theirs(&self.layout, &self.pool, actor, turn, n, ahead.needed) {
             return false;
         }
-        if !have_room(&self.layout, &self.pool, actor, ahead.given) {
+        if !have_theirs(&self.layout, &self.pool, actor, turn, n, ahead.given) {
             return false;
         }
         if !self.has_supply(actor, ahead.given) {
@@ -488,7 +627,9 @@ impl Core {
         ensures each { AreReadEach self.now.plan self.now.now actor (count self.now.now actor) n into.new }
     {
         self.layout.gives_few();
-        copy_block(&self.layout, &self.pool, actor, into);
+        let turn = self.turn(actor);
+        let _limit = self.layout.limit(actor);
+        copy_reads(&self.layout, &self.pool, actor, turn, n, into);
     }
 
     /// Makes the actor's next n firings, which write these tokens, one firing's after another's:
@@ -508,9 +649,16 @@ impl Core {
         let needed = need_of(&self.layout, actor, ahead.next);
         let given = gift_of(&self.layout, actor, ahead.next);
         let layout = &self.layout;
-        take_block(layout, &mut self.pool, actor, ahead.needed);
-        put_block(layout, &mut self.pool, actor, tokens);
-        raise_peaks(layout, &self.pool, &mut self.peaks, actor);
+        move_tokens(
+            layout,
+            &mut self.pool,
+            &mut self.peaks,
+            actor,
+            turn,
+            n,
+            ahead.needed,
+            tokens,
+        );
         let a = actor as usize;
         self.started += u64::from(n);
         self.sums[a] += ahead.given;

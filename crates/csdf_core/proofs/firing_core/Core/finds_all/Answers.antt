@@ -4,7 +4,7 @@ use Rattle.csdf_core.specs.Plan.{Plan}
 use Rattle.csdf_core.specs.State.{Present}
 use Rattle.csdf_core.specs.Inside.{now_in}
 use Rattle.csdf_core.specs.Ports.{inputs_at, outputs_at, tokens_in}
-use Rattle.csdf_core.specs.Blocks.{needs_of, gifts_of, HoldAll, HaveRoomFor}
+use Rattle.csdf_core.specs.Blocks.{takes_at, gives_at, gifts_of, HoldAll, HaveRoomFor}
 use Rattle.csdf_core.specs.Rows.{first, is_closed}
 use Rattle.csdf_core.specs.Step.{count}
 use Rattle.csdf_core.proofs.BlockBegins.{given_more}
@@ -22,15 +22,13 @@ returns c =
     let n : ℕ = c.args.n in
     let k : ℕ = count p a in
     let firing : c.turn-turn.result.firing ≡ k = rw (← c.self.view_is) at c.turn-turn.ensures.firing in
-    let needed : c.look_ahead-ahead.result.needed ≡ needs_of plan.channels a k n = c.look_ahead-ahead.ensures.needed
-    ∙ ap (λ (x : ℕ). needs_of plan.channels a x n) firing in
     let given : c.look_ahead-ahead.result.given ≡ gifts_of plan.channels a k n = c.look_ahead-ahead.ensures.given
     ∙ ap (λ (x : ℕ). gifts_of plan.channels a x n) firing in
     let supply = rw (← c.self.view_is) at (c.if-not-has_supply.ensures.0 refl) in
     let cells = rw (← c.self.view_is) at (c.if-not-has_cells.ensures.0 refl) in
     rw (← c.self.view_is) (
       λ _. record {
-        plain = rw (← c.self.view_is) at c.requires.plain;
+        apart = rw (← c.self.view_is) at c.requires.apart;
         there = rw (← c.self.view_is) at c.requires.actor;
         number = refl;
         idle = rw (← c.self.view_is) at c.requires.idle;
@@ -38,8 +36,10 @@ returns c =
         opens = sym (ap (first (is_closed a) plan.channels) c.deref.ensures.value) ∙ sym c.first_closed.ensures
             ∙ none_of c.first_closed.result (sym c.is_some.ensures ∙ c.if-is_some.false);
         supply = λ source. (let s = supply source in omega (arith, s, given, given_more plan a k n));
-        tokens = subst (λ x. HoldAll (tokens_in c.self.inside.pool) x (inputs_at plan.channels a)) needed (c.if-not-hold_all.ensures.0 refl);
-        room = subst (λ x. HaveRoomFor plan.channels (tokens_in c.self.inside.pool) x (outputs_at plan.channels a)) given (c.if-not-have_room.ensures.0 refl);
+        tokens = subst (λ x. HoldAll (tokens_in c.self.inside.pool) (takes_at plan.channels x n) (inputs_at plan.channels a)) firing
+            (c.if-not-hold_theirs.ensures.0 refl);
+        room = subst (λ x. HaveRoomFor plan.channels (tokens_in c.self.inside.pool) (gives_at plan.channels x n) (outputs_at plan.channels a)) firing
+            (c.if-not-have_theirs.ensures.0 refl);
         firings = rw (← c.self.view_is) at (c.if-not-may_begin.ensures.0 refl);
         cells = omega (arith, cells, given);
       },

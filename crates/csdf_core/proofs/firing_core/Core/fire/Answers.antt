@@ -3,34 +3,65 @@ use Rattle.std.specs.Vec.{with_items}
 use Rattle.std.proofs.lemmas.List.{with_items_is, get_or_default}
 use Rattle.csdf_core.specs.Plan.{Plan}
 use Rattle.csdf_core.specs.State.{Present}
+use Rattle.csdf_core.specs.declared.firing_core.Core.TheInside.{Inside}
 use Rattle.csdf_core.specs.Inside.{now_in}
-use Rattle.csdf_core.specs.Ports.{tokens_in, raise_over}
-use Rattle.csdf_core.specs.Blocks.{needs_of, gifts_of, takes_in, puts_in, firings_of, answers_to, FindsAll}
+use Rattle.csdf_core.specs.Ports.{inputs_at, tokens_in, raise_over}
+use Rattle.csdf_core.specs.Blocks.{needs_of, gifts_of, takes_at, takes_in, puts_in, pool_after, peaks_after, Suffices, HoldAll, firings_of, answers_to, FindsAll}
 use Rattle.csdf_core.specs.Shows.{Plays}
 use Rattle.csdf_core.specs.Step.{count}
 use Rattle.csdf_core.proofs.AmountLemmas.{amounts_finished}
 use Rattle.csdf_core.proofs.BlockMachines.{Machine, IsGood, view, ins, outs}
-use Rattle.csdf_core.proofs.BlockMoves.{IsBlock, AreFew, room_for, block_of, landed}
+use Rattle.csdf_core.proofs.BlockMoves.{IsBlock, AreFew, room_for, block_of, landed, pool_lands, peaks_land}
+use Rattle.csdf_core.proofs.BlockTokens.{one_needs, hold_same}
 use Rattle.csdf_core.proofs.PhaseLemmas.{phases_finished}
 use Rattle.csdf_core.proofs.SoundLemmas.{few_started}
 use Rattle.csdf_core.proofs.firing_core.Core.fire.Goals as goal
 use Rattle.csdf_core.proofs.firing_core.Core.fire.Goals.{After-index_mut}
 
-pub put_block-requires-clause-room : goal.put_block-requires-clause-room
-put_block-requires-clause-room c =
+-- what the code begins with
+abbrev pub machine : Inside → Machine
+machine core = record {
+  now = now_in core;
+  peaks = core.peaks.items;
+  sums = core.sums.items;
+  started = core.started;
+  kept = core.reserved;
+  pool = core.pool;
+}
+
+pub move_tokens-requires-clause-room : goal.move_tokens-requires-clause-room
+move_tokens-requires-clause-room c =
     let finds : FindsAll c.self.inside.layout (now_in c.self.inside) c.args.actor (count (now_in c.self.inside) c.args.actor) c.args.n =
     rw (← c.self.view_is) at c.requires.can in
     let all : length c.args.tokens.now ≡
     gifts_of c.self.inside.layout.channels c.args.actor (count (now_in c.self.inside) c.args.actor) c.args.n = rw (← c.self.view_is) at c.requires.all in
-    let r = room_for c.self.inside.layout c.args.actor (record {
-      now = now_in c.self.inside;
-      peaks = c.self.inside.peaks.items;
-      sums = c.self.inside.sums.items;
-      started = c.self.inside.started;
-      kept = c.self.inside.reserved;
-      pool = c.self.inside.pool;
-    }) c.args.n (record { sound = c.self.invariant.sound; chains = refl }) finds in
-    omega (arith, r, all, c.take_block.ensures.free)
+    let r = room_for c.self.inside.layout c.args.actor (machine c.self.inside) c.args.n (record { sound = c.self.invariant.sound; chains = refl }) finds in
+    omega (arith, r, all)
+
+pub move_tokens-requires-clause-tokens : goal.move_tokens-requires-clause-tokens
+move_tokens-requires-clause-tokens c =
+    let plan : Plan = c.self.inside.layout in
+    let a : ℕ = c.args.actor in
+    let k : ℕ = count (now_in c.self.inside) a in
+    let finds : FindsAll plan (now_in c.self.inside) a k c.args.n = rw (← c.self.view_is) at c.requires.can in
+    let firing : c.turn-turn.result.firing ≡ k = rw (← c.self.view_is) at c.turn-turn.ensures.firing in
+    let needed : c.look_ahead-ahead.result.needed ≡ needs_of plan.channels a k c.args.n = c.look_ahead-ahead.ensures.needed
+    ∙ ap (λ (x : ℕ). needs_of plan.channels a x c.args.n) firing in
+    λ plain. subst (λ (x : ℕ). HoldAll (tokens_in c.self.inside.pool) (λ _. x) (inputs_at plan.channels a)) (sym needed)
+    (hold_same (tokens_in c.self.inside.pool) (takes_at plan.channels k c.args.n) (λ _. needs_of plan.channels a k c.args.n) (inputs_at plan.channels a)
+    (one_needs plan.channels a k c.args.n plain.one_in) finds.tokens)
+
+pub move_tokens-requires-clause-enough : goal.move_tokens-requires-clause-enough
+move_tokens-requires-clause-enough c =
+    let plan : Plan = c.self.inside.layout in
+    let a : ℕ = c.args.actor in
+    let k : ℕ = count (now_in c.self.inside) a in
+    let finds : FindsAll plan (now_in c.self.inside) a k c.args.n = rw (← c.self.view_is) at c.requires.can in
+    let all : length c.args.tokens.now ≡ gifts_of plan.channels a k c.args.n = rw (← c.self.view_is) at c.requires.all in
+    let firing : c.turn-turn.result.firing ≡ k = rw (← c.self.view_is) at c.turn-turn.ensures.firing in
+    subst (λ (x : ℕ). Suffices plan a x c.args.n c.self.inside.pool c.args.tokens.now) (sym firing)
+    (block_of plan a c.args.n c.args.tokens.now (machine c.self.inside) (record { sound = c.self.invariant.sound; chains = refl }) finds all
+    (λ i lt. c.gives_few.ensures a (k + i))).1.enough
 
 pub overflow_add-self : goal.overflow_add-self
 overflow_add-self c = omega (arith, few_started _ _ _ _ _ _ _ c.self.invariant.sound, c.from.ensures, c.ranges.n.fits)
@@ -64,14 +95,7 @@ module _ (c : After-index_mut) where
   k = count p a
 
   abbrev m : Machine
-  m = record {
-    now = now_in c.self.inside;
-    peaks = c.self.inside.peaks.items;
-    sums = c.self.inside.sums.items;
-    started = c.self.inside.started;
-    kept = c.self.inside.reserved;
-    pool = c.self.inside.pool;
-  }
+  m = machine c.self.inside
 
   good : IsGood plan m
   good = record { sound = c.self.invariant.sound; chains = refl }
@@ -103,8 +127,8 @@ module _ (c : After-index_mut) where
   summed : a < length c.self.inside.sums.items
   summed = let t = c.self.invariant.sound.tallied in let there = finds.there in omega (arith, t, there)
 
-  items : (with_items c.self.inside.peaks c.raise_peaks.new.peaks).items ≡ c.raise_peaks.new.peaks
-  items = with_items_is c.self.inside.peaks c.raise_peaks.new.peaks (c.raise_peaks.auto.peaks ∙ c.deref_mut.ensures.len)
+  items : (with_items c.self.inside.peaks c.move_tokens.new.peaks).items ≡ c.move_tokens.new.peaks
+  items = with_items_is c.self.inside.peaks c.move_tokens.new.peaks (c.move_tokens.auto.peaks ∙ c.deref_mut.ensures.len)
 
   abbrev there : Machine
   there = record {
@@ -112,14 +136,29 @@ module _ (c : After-index_mut) where
       counts = set c.self.inside.counts.items c.args.actor c.look_ahead-ahead.result.next.firing;
       stages = c.self.inside.stages.items;
       opens = c.self.inside.opens.items;
-      tokens = tokens_in c.put_block.new.pool;
+      tokens = tokens_in c.move_tokens.new.pool;
     };
-    peaks = (with_items c.self.inside.peaks c.raise_peaks.new.peaks).items;
+    peaks = (with_items c.self.inside.peaks c.move_tokens.new.peaks).items;
     sums = set c.self.inside.sums.items c.args.actor (c.index_mut.result.now + c.look_ahead-ahead.result.given);
     started = c.self.inside.started + c.from.result;
     kept = c.self.inside.reserved;
-    pool = c.put_block.new.pool;
+    pool = c.move_tokens.new.pool;
   }
+
+  pool_is : made.0.pool ≡ c.move_tokens.new.pool
+  pool_is =
+      pool_lands plan a k n c.args.tokens.now m made.0 made.1 c.move_tokens.new.pool
+      (λ plain. c.move_tokens.ensures.plain_cells plain
+      ∙ ap (λ (x : ℕ). puts_in (outs plan a) (takes_in (ins plan a) x c.self.inside.pool) c.args.tokens.now) needed)
+      (λ other. c.move_tokens.ensures.cells other ∙ ap (λ (x : ℕ). pool_after plan a x n c.self.inside.pool c.args.tokens.now) firing)
+
+  peaks_are : made.0.peaks ≡ c.move_tokens.new.peaks
+  peaks_are =
+      peaks_land plan a k n c.args.tokens.now m made.0 made.1 c.move_tokens.new.peaks c.move_tokens.new.pool pool_is
+      (λ plain. c.move_tokens.ensures.plain_peaks plain ∙ ap (raise_over (outs plan a) (tokens_in c.move_tokens.new.pool)) c.deref_mut.ensures.value)
+      (λ other. c.move_tokens.ensures.peaks other
+      ∙ ap (λ (x : ℕ). peaks_after plan a x n c.self.inside.pool c.args.tokens.now c.deref_mut.result.now) firing
+      ∙ ap (peaks_after plan a k n c.self.inside.pool c.args.tokens.now) c.deref_mut.ensures.value)
 
   lands : made.0 ≡ there
   lands =
@@ -131,11 +170,9 @@ module _ (c : After-index_mut) where
       landed plan a k n c.args.tokens.now m made.0 made.1 there.now.counts there.sums there.peaks there.started there.pool
       (ap (set c.self.inside.counts.items c.args.actor) next)
       (ap (set c.self.inside.sums.items c.args.actor) sum)
-      (items ∙ c.raise_peaks.ensures ∙ ap (raise_over (outs plan a) (tokens_in c.put_block.new.pool)) c.deref_mut.ensures.value)
+      (peaks_are ∙ sym items)
       (ap (λ (x : ℕ). c.self.inside.started + x) c.from.ensures)
-      (c.put_block.ensures.cells
-      ∙ ap (λ q. puts_in (outs plan a) q c.args.tokens.now)
-      (c.take_block.ensures.cells ∙ ap (λ (x : ℕ). takes_in (ins plan a) x c.self.inside.pool) needed))
+      pool_is
 
 pub invariant_of-self : goal.invariant_of-self
 invariant_of-self c =

@@ -3,32 +3,32 @@ use Rattle.std.specs.Prelude.{ℤ}
 use Rattle.csdf_core.specs.Plan.{Plan}
 use Rattle.csdf_core.specs.State.{Present}
 use Rattle.csdf_core.specs.Inside.{now_in}
-use Rattle.csdf_core.specs.Ports.{inputs_at, tokens_in}
-use Rattle.csdf_core.specs.Blocks.{needs_of, gifts_of, from_front, parts_of, HoldAll, FindsAll}
+use Rattle.csdf_core.specs.Ports.{inputs_at, tokens_at, tokens_in}
+use Rattle.csdf_core.specs.Blocks.{needs_of, gifts_of, takes_at, reads_over, parts_of, HoldAll, FindsAll}
 use Rattle.csdf_core.specs.Step.{count}
-use Rattle.csdf_core.proofs.BlockBegins.{needs_none}
 use Rattle.csdf_core.proofs.BlockMachines.{Machine}
 use Rattle.csdf_core.proofs.BlockMoves.{IsBlock, block_of}
 use Rattle.csdf_core.proofs.firing_core.Core.peek.Goals as goal
-use Rattle.csdf_core.proofs.firing_core.Core.peek.Goals.{After-copy_block}
+use Rattle.csdf_core.proofs.firing_core.Core.peek.Goals.{After-copy_reads}
 
-pub copy_block-requires-clause-enough : goal.copy_block-requires-clause-enough
-copy_block-requires-clause-enough c =
+pub copy_reads-requires-clause-enough : goal.copy_reads-requires-clause-enough
+copy_reads-requires-clause-enough c =
     let p : Present = now_in c.self.inside in
     let plan : Plan = c.self.inside.layout in
     let finds : FindsAll plan p c.args.actor (count p c.args.actor) c.args.n = rw (← c.self.view_is) at c.requires.can in
-    let all : length c.args.into.now ≡ needs_of plan.channels c.args.actor (count p c.args.actor) c.args.n = rw (← c.self.view_is) at c.requires.all in
-    subst (λ (x : ℕ). HoldAll (tokens_in c.self.inside.pool) x (inputs_at plan.channels c.args.actor)) (sym all) finds.tokens
+    let firing : c.turn-turn.result.firing ≡ count p c.args.actor = rw (← c.self.view_is) at c.turn-turn.ensures.firing in
+    subst (λ (x : ℕ). HoldAll (tokens_in c.self.inside.pool) (takes_at plan.channels x c.args.n) (inputs_at plan.channels c.args.actor)) (sym firing) finds.tokens
 
-pub copy_block-requires-clause-none : goal.copy_block-requires-clause-none
-copy_block-requires-clause-none c =
+pub copy_reads-requires-clause-all : goal.copy_reads-requires-clause-all
+copy_reads-requires-clause-all c =
     let p : Present = now_in c.self.inside in
     let plan : Plan = c.self.inside.layout in
     let all : length c.args.into.now ≡ needs_of plan.channels c.args.actor (count p c.args.actor) c.args.n = rw (← c.self.view_is) at c.requires.all in
-    λ e. all ∙ needs_none plan.channels c.args.actor (count p c.args.actor) c.args.n e
+    let firing : c.turn-turn.result.firing ≡ count p c.args.actor = rw (← c.self.view_is) at c.turn-turn.ensures.firing in
+    all ∙ ap (λ (x : ℕ). needs_of plan.channels c.args.actor x c.args.n) (sym firing)
 
 -- what is known at the end
-module _ (c : After-copy_block) where
+module _ (c : After-copy_reads) where
   abbrev plan : Plan
   plan = c.self.inside.layout
 
@@ -53,17 +53,18 @@ module _ (c : After-copy_block) where
       block_of plan c.args.actor c.args.n v m (record { sound = c.self.invariant.sound; chains = refl }) (rw (← c.self.view_is) at c.requires.can) len
       (λ i lt. c.gives_few.ensures c.args.actor (k + i))
 
-  copied : c.copy_block.new.into ≡ from_front (inputs_at plan.channels c.args.actor) (needs_of plan.channels c.args.actor k c.args.n) p.tokens
+  copied : c.copy_reads.new.into ≡ reads_over plan.channels (inputs_at plan.channels c.args.actor) k c.args.n (tokens_at p.tokens)
   copied =
-      let all : length c.args.into.now ≡ needs_of plan.channels c.args.actor k c.args.n = rw (← c.self.view_is) at c.requires.all in
-      c.copy_block.ensures ∙ ap (λ (x : ℕ). from_front (inputs_at plan.channels c.args.actor) x (tokens_in c.self.inside.pool)) all
+      let firing : c.turn-turn.result.firing ≡ k = rw (← c.self.view_is) at c.turn-turn.ensures.firing in
+      c.copy_reads.ensures
+      ∙ ap (λ (x : ℕ). reads_over plan.channels (inputs_at plan.channels c.args.actor) x c.args.n (tokens_at (tokens_in c.self.inside.pool))) firing
 
 pub returns-clause-all : goal.returns-clause-all
 returns-clause-all c =
-    let at : After-copy_block = (goal.at.returns-clause-all c).After-copy_block in
+    let at : After-copy_reads = (goal.at.returns-clause-all c).After-copy_reads in
     rw (← c.self.view_is) (λ v len. copied at ∙ sym (made at v len).1.handed)
 
 pub returns-clause-each : goal.returns-clause-each
 returns-clause-each c =
-    let at : After-copy_block = (goal.at.returns-clause-each c).After-copy_block in
+    let at : After-copy_reads = (goal.at.returns-clause-each c).After-copy_reads in
     rw (← c.self.view_is) (λ v len. (made at v len).1.reads ∙ ap (parts_of (plan at).channels c.args.actor (k at) c.args.n) (sym (copied at)))

@@ -1,0 +1,13 @@
+use Rattle.std.proofs.Common.{◌≡◌, length, take}
+use Rattle.csdf_core.specs.Blocks.{needs_of}
+use Rattle.csdf_core.specs.Ports.{inputs_at, tokens_at, tokens_in}
+use Rattle.csdf_core.proofs.BlockReads.{IsLaid}
+use Rattle.csdf_core.proofs.gathering.gather.Given as goal
+
+-- the inputs so far are laid
+abbrev pub invariant-loop-place : goal.invariant-loop-place
+invariant-loop-place l = record {
+  all : length l.into ≡ needs_of l.layout.channels l.actor l.turn.firing l.n;
+  laid : IsLaid l.layout.channels (inputs_at l.layout.channels l.actor) (take l.place (inputs_at l.layout.channels l.actor)) l.turn.firing l.n
+      (tokens_at (tokens_in l.pool)) l.into;
+}

@@ -1,0 +1,234 @@
+//! Blocks of firings of an actor with several inputs or outputs: what they move of each channel.
+
+ghost use Rattle.std.specs.Prelude.{ℕ, ◌≡◌, ◌≢◌, ◌+◌, ◌*◌, ◌<◌, ◌≤◌, ◌↔◌, IsTrue, length, take, drop};
+ghost use Rattle.std.specs.List.{AllByRecursion};
+ghost use Rattle.csdf_pool.specs.Pool.{IsPartition, after_takes};
+ghost use Rattle.csdf_core.specs.Blocks.{gifts_of, takes_at, gives_at, HoldAll, HaveRoomFor, HasNoLoop, pool_after, peaks_after, Suffices};
+ghost use Rattle.csdf_core.specs.Phases.{IsInPhase};
+ghost use Rattle.csdf_core.specs.Plan.{from_at, to_at};
+ghost use Rattle.csdf_core.specs.Ports.{inputs_at, outputs_at, take_at, tokens_in, tokens_at, EnoughOver, raise_over};
+ghost use Rattle.csdf_core.specs.Rows.{gift};
+ghost use Rattle.csdf_core.specs.Transfers.{after_read, after_write};
+ghost use Rattle.std.specs.Prelude.{slice_set};
+
+use crate::layout::Layout;
+use crate::transfer::{gift_of, put_outputs, raise_peaks};
+use crate::turn::{Turn, turn_after};
+use csdf_pool::Pool;
+
+/// Whether no channel goes from the actor to itself.
+pub(crate) fn has_no_loop(layout: &Layout, actor: u32) -> bool
+    requires { actor < length layout.now.sources }
+    ensures { IsTrue result ↔ HasNoLoop layout.now.channels actor }
+{
+    let inputs = layout.inputs(actor);
+    for channel in inputs {
+        if layout.producer(*channel) == actor {
+            return false;
+        }
+    }
+    true
+}
+
+/// How many tokens n firings take of an input, from this one on, added up one by one.
+fn taken_one_by_one(layout: &Layout, actor: u32, channel: u32, turn: Turn, n: u32) -> u64
+    requires actor { actor < length layout.now.sources }
+    requires channel { channel < length layout.now.channels }
+    requires own { to_at layout.now.channels channel ≡ actor }
+    requires in_phase { IsInPhase layout.now.channels actor turn.firing turn.phase }
+    requires low { turn.phase < 16 }
+    requires few { turn.firing + n ≤ 16_384_000 }
+    ensures value { result ≡ takes_at layout.now.channels turn.firing n channel }
+{
+    let mut next = turn;
+    let mut sum = 0;
+    for _firing in 0..n {
+        sum += u64::from(layout.takes(channel, next));
+        next = turn_after(layout, actor, next);
+    }
+    sum
+}
+
+/// How many tokens n firings give to an output, from this one on, added up one by one.
+fn given_one_by_one(layout: &Layout, actor: u32, channel: u32, turn: Turn, n: u32) -> u64
+    requires actor { actor < length layout.now.sources }
+    requires channel { channel < length layout.now.channels }
+    requires own { from_at layout.now.channels channel ≡ actor }
+    requires in_phase { IsInPhase layout.now.channels actor turn.firing turn.phase }
+    requires low { turn.phase < 16 }
+    requires few { turn.firing + n ≤ 16_384_000 }
+    ensures value { result ≡ gives_at layout.now.channels turn.firing n channel }
+    ensures small { result ≤ 64 * n }
+{
+    let mut next = turn;
+    let mut sum = 0;
+    for _firing in 0..n {
+        sum += u64::from(layout.gives(channel, next));
+        next = turn_after(layout, actor, next);
+    }
+    sum
+}
+
+/// How many tokens n firings take of an input, from this one on.
+fn taken_of(layout: &Layout, actor: u32, channel: u32, turn: Turn, n: u32) -> u64
+    requires actor { actor < length layout.now.sources }
+    requires channel { channel < length layout.now.channels }
+    requires own { to_at layout.now.channels channel ≡ actor }
+    requires in_phase { IsInPhase layout.now.channels actor turn.firing turn.phase }
+    requires low { turn.phase < 16 }
+    requires few { turn.firing + n ≤ 16_384_000 }
+    ensures value { result ≡ takes_at layout.now.channels turn.firing n channel }
+{
+    if layout.phases(actor) == 1 {
+        return u64::from(n) * u64::from(layout.takes(channel, turn));
+    }
+    taken_one_by_one(layout, actor, channel, turn, n)
+}
+
+/// How many tokens n firings give to an output, from this one on.
+fn given_of(layout: &Layout, actor: u32, channel: u32, turn: Turn, n: u32) -> u64
+    requires actor { actor < length layout.now.sources }
+    requires channel { channel < length layout.now.channels }
+    requires own { from_at layout.now.channels channel ≡ actor }
+    requires in_phase { IsInPhase layout.now.channels actor turn.firing turn.phase }
+    requires low { turn.phase < 16 }
+    requires few { turn.firing + n ≤ 16_384_000 }
+    ensures value { result ≡ gives_at layout.now.channels turn.firing n channel }
+    ensures small { result ≤ 64 * n }
+{
+    if layout.phases(actor) == 1 {
+        return u64::from(n) * u64::from(layout.gives(channel, turn));
+    }
+    given_one_by_one(layout, actor, channel, turn, n)
+}
+
+/// Whether each input of the actor holds what its next n firings take of it.
+pub(crate) fn hold_each(layout: &Layout, pool: &Pool, actor: u32, turn: Turn, n: u32) -> bool
+    requires actor { actor < length layout.now.sources }
+    requires same { length pool.now.chains ≡ length layout.now.channels }
+    requires in_phase { IsInPhase layout.now.channels actor turn.firing turn.phase }
+    requires low { turn.phase < 16 }
+    requires few { turn.firing + n ≤ 16_384_000 }
+    ensures { IsTrue result ↔ HoldAll (tokens_in pool.now) (takes_at layout.now.channels turn.firing n) (inputs_at layout.now.channels actor) }
+{
+    let inputs = layout.inputs(actor);
+    for channel in inputs {
+        let needed = taken_of(layout, actor, *channel, turn, n);
+        if u64::from(pool.len(*channel)) < needed {
+            return false;
+        }
+    }
+    true
+}
+
+/// Whether each output of the actor has room for what its next n firings give to it.
+pub(crate) fn have_room_each(layout: &Layout, pool: &Pool, actor: u32, turn: Turn, n: u32) -> bool
+    requires actor { actor < length layout.now.sources }
+    requires same { length pool.now.chains ≡ length layout.now.channels }
+    requires in_phase { IsInPhase layout.now.channels actor turn.firing turn.phase }
+    requires low { turn.phase < 16 }
+    requires few { turn.firing + n ≤ 16_384_000 }
+    ensures { IsTrue result ↔ HaveRoomFor layout.now.channels (tokens_in pool.now) (gives_at layout.now.channels turn.firing n)
+        (outputs_at layout.now.channels actor) }
+{
+    let outputs = layout.outputs(actor);
+    for channel in outputs {
+        let given = given_of(layout, actor, *channel, turn, n);
+        if u64::from(pool.len(*channel)) + given > u64::from(layout.capacity(*channel)) {
+            return false;
+        }
+    }
+    true
+}
+
+/// Takes the oldest tokens of a channel out and drops them.
+fn drop_tokens(pool: &mut Pool, channel: u32, n: u32)
+    requires channel { channel < length pool.old.chains }
+    requires enough { n ≤ length (tokens_at (tokens_in pool.old) channel) }
+    ensures left { tokens_in pool.new ≡ slice_set (tokens_in pool.old) channel (drop n (tokens_at (tokens_in pool.old) channel)) }
+    ensures cells { pool.new ≡ after_takes pool.old channel n }
+    ensures partition { IsPartition pool.new }
+    ensures same { length pool.new.chains ≡ length pool.old.chains }
+{
+    pool.drop_front(channel, n);
+}
+
+/// Takes the tokens of the firing out, the inputs in file order, and drops them.
+fn drop_inputs(layout: &Layout, pool: &mut Pool, actor: u32, turn: Turn)
+    requires actor { actor < length layout.now.sources }
+    requires in_phase { IsInPhase layout.now.channels actor turn.firing turn.phase }
+    requires same { length pool.old.chains ≡ length layout.now.channels }
+    requires enough { EnoughOver (take_at layout.now.channels turn.firing) (inputs_at layout.now.channels actor) (tokens_in pool.old) }
+    requires partition { IsPartition pool.old }
+    ensures cells { pool.new ≡ after_read layout.now actor turn.firing pool.old }
+    ensures partition { IsPartition pool.new }
+    ensures same { length pool.new.chains ≡ length pool.old.chains }
+{
+    let inputs = layout.inputs(actor);
+    for channel in inputs {
+        let n = layout.takes(*channel, turn);
+        drop_tokens(pool, *channel, n);
+    }
+}
+
+/// Moves the tokens of one firing: out of its inputs, and these into its outputs.
+fn fire_once(
+    layout: &Layout,
+    pool: &mut Pool,
+    peaks: &mut [u32],
+    actor: u32,
+    turn: Turn,
+    tokens: &[i32],
+)
+    requires actor { actor < length layout.now.sources }
+    requires in_phase { IsInPhase layout.now.channels actor turn.firing turn.phase }
+    requires same { length pool.old.chains ≡ length layout.now.channels }
+    requires peaked { length peaks.old ≡ length layout.now.channels }
+    requires enough { EnoughOver (take_at layout.now.channels turn.firing) (inputs_at layout.now.channels actor) (tokens_in pool.old) }
+    requires room { gift actor turn.firing layout.now.channels ≤ length (after_read layout.now actor turn.firing pool.old).free }
+    requires all { length tokens.now ≡ gift actor turn.firing layout.now.channels }
+    requires partition { IsPartition pool.old }
+    ensures cells { pool.new ≡ after_write layout.now actor turn.firing (after_read layout.now actor turn.firing pool.old) tokens.now }
+    ensures peaks { peaks.new ≡ raise_over (outputs_at layout.now.channels actor) (tokens_in pool.new) peaks.old }
+    ensures partition { IsPartition pool.new }
+    ensures same { length pool.new.chains ≡ length pool.old.chains }
+    ensures peaked { length peaks.new ≡ length peaks.old }
+{
+    drop_inputs(layout, pool, actor, turn);
+    put_outputs(layout, pool, actor, turn, tokens);
+    raise_peaks(layout, pool, peaks, actor);
+}
+
+/// Moves the tokens of n firings, one firing's after another's.
+pub(crate) fn fire_each(
+    layout: &Layout,
+    pool: &mut Pool,
+    peaks: &mut [u32],
+    actor: u32,
+    turn: Turn,
+    n: u32,
+    tokens: &[i32],
+)
+    requires actor { actor < length layout.now.sources }
+    requires in_phase { IsInPhase layout.now.channels actor turn.firing turn.phase }
+    requires low { turn.phase < 16 }
+    requires few { turn.firing + n ≤ 16_384_000 }
+    requires same { length pool.old.chains ≡ length layout.now.channels }
+    requires peaked { length peaks.old ≡ length layout.now.channels }
+    requires enough { Suffices layout.now actor turn.firing n pool.old tokens.now }
+    requires all { length tokens.now ≡ gifts_of layout.now.channels actor turn.firing n }
+    requires partition { IsPartition pool.old }
+    ensures cells { pool.new ≡ pool_after layout.now actor turn.firing n pool.old tokens.now }
+    ensures peaks { peaks.new ≡ peaks_after layout.now actor turn.firing n pool.old tokens.now peaks.old }
+    ensures same { length pool.new.chains ≡ length pool.old.chains }
+    ensures peaked { length peaks.new ≡ length peaks.old }
+{
+    let mut next = turn;
+    let mut at = 0;
+    for _firing in 0..n {
+        let end = at + gift_of(layout, actor, next);
+        fire_once(layout, pool, peaks, actor, next, &tokens[at..end]);
+        next = turn_after(layout, actor, next);
+        at = end;
+    }
+}
