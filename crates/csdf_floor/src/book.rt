@@ -468,7 +468,7 @@ impl Book {
     }
 
     /// How many of its next firings the actor can make at once, at most so many: 0 where the journal
-    /// is kept, and for an actor of several phases, inputs or outputs.
+    /// is kept, and for an actor of several phases or with a channel to itself.
     pub(crate) fn block(&self, actor: u32, most: u32) -> Block
         requires { actor < length self.now.shown.core.plan.sources }
         ensures most { result.firings ≤ most }
