@@ -6,10 +6,12 @@ use Rattle.std.specs.List.{AllByRecursion}
 use Rattle.std.proofs.Math.Seq.{take-append_seam, drop-append_seam}
 use Rattle.std.proofs.lemmas.List.{take_all, take-append-drop, length-append, length-drop, length-take-le}
 use Rattle.std.proofs.lemmas.List.Sums.{sum_by-cons, sum_by-append}
-use Rattle.csdf_core.specs.Blocks.{needs_of, takes_at, fronts, reads_over, put_from, laid}
+use Rattle.csdf_core.specs.Blocks.{needs_of, takes_at, fronts, reads_over, put_from, laid, IsSlot}
 use Rattle.csdf_core.specs.Plan.{Channel}
 use Rattle.csdf_core.specs.Ports.{inputs_at, take_at}
+use Rattle.csdf_core.specs.Phases.{HasPhases}
 use Rattle.csdf_core.specs.Rows.{need}
+use Rattle.csdf_core.proofs.OnePhase.{same_need, same_takes}
 use Rattle.csdf_core.proofs.BlockTokens.{drop_sum}
 use Rattle.csdf_core.proofs.PortLemmas.{need_is}
 
@@ -154,3 +156,22 @@ needs_left cs a k j n i at g size lt all next whole =
     let x : needs_of cs a k (n - i) ≡ need a k cs + needs_of cs a (suc k) (n - (i + 1)) = ap (needs_of cs a k) one in
     let y : needs_of cs a j (n - (i + 1)) ≡ needs_of cs a (suc k) (n - (i + 1)) = ap (λ (q : ℕ). needs_of cs a q (n - (i + 1))) same in
     omega (arith, whole, x, y, all)
+
+-- with one phase all firings have their slots at the same place
+pub same_slot : (cs : List Channel) (a : ℕ) → HasPhases cs a 1 → (place j k all from taken : ℕ) → place < length (inputs_at cs a)
+    → IsSlot cs a place j all from taken → IsSlot cs a place k all from taken
+same_slot cs a has place j k all from taken lt h =
+    let ins : List ℕ = inputs_at cs a in
+    let same : AllByRecursion (λ c. take_at cs j c ≡ take_at cs k c) ins = same_takes cs a has j k in
+    record {
+      all_is = h.all_is ∙ same_need cs a has j k;
+      from_is = h.from_is ∙ front_same (take_at cs j) (take_at cs k) place ins same;
+      taken_is = h.taken_is ∙ enough_at (λ c. take_at cs j c ≡ take_at cs k c) ins place lt same;
+      fits = h.fits;
+    }
+  where
+    front_same : (f g : ℕ → ℕ) (n : ℕ) (ns : List ℕ) → AllByRecursion (λ c. f c ≡ g c) ns → sum_by f (take n ns) ≡ sum_by g (take n ns)
+    front_same f g zero ns same = refl
+    front_same f g (suc n) [] same = refl
+    front_same f g (suc n) (c ∷ ns) same =
+        omega (arith, sum_by-cons f c (take n ns), sum_by-cons g c (take n ns), same.0, front_same f g n ns same.1)

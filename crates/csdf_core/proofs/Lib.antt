@@ -41,10 +41,10 @@ pub mod EverExamples
 pub mod BlockPools
 pub mod BlockPorts
 pub mod BlockTokens
-pub mod BlockReads
 pub mod BlockBegins
 pub mod BlockMachines
 pub mod BlockMoves
 pub mod FewGifts
 pub mod OnePhase
+pub mod BlockReads
 pub mod GreatestBlocks

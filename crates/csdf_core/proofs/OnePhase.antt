@@ -35,16 +35,19 @@ sum_same f g [] all = refl
 sum_same f g (c ∷ ns) all = omega (arith, sum_by-cons f c ns, sum_by-cons g c ns, all.0, sum_same f g ns all.1)
 
 module _ (cs : List Channel) (a : ℕ) (has : HasPhases cs a 1) where
-  pub same_need : (j k : ℕ) → need a j cs ≡ need a k cs
-  same_need j k =
+  pub same_takes : (j k : ℕ) → AllByRecursion (λ c. take_at cs j c ≡ take_at cs k c) (inputs_at cs a)
+  same_takes j k =
       let ns : List ℕ = inputs_at cs a in
       let within : AllByRecursion (λ c. c < length cs) ns =
       recursion_from_All (λ c. c < length cs) ns (numbers_within (λ (c : Channel). c.to == a) cs) in
       let own : AllByRecursion (λ c. to_at cs c ≡ a) ns = recursion_from_All (λ c. to_at cs c ≡ a) ns (numbers_own (λ (c : Channel). c.to) a cs) in
-      let same : AllByRecursion (λ c. take_at cs j c ≡ take_at cs k c) ns = both ns
+      both ns
       (λ c (lt : c < length cs) (e : to_at cs c ≡ a).
-      take_is cs j c lt ∙ rate_one (consume_at cs c) j k (has.takes c lt e) ∙ sym (take_is cs k c lt)) within own in
-      sym (need_is a j cs) ∙ sum_same (take_at cs j) (take_at cs k) ns same ∙ need_is a k cs
+      take_is cs j c lt ∙ rate_one (consume_at cs c) j k (has.takes c lt e) ∙ sym (take_is cs k c lt)) within own
+
+  pub same_need : (j k : ℕ) → need a j cs ≡ need a k cs
+  same_need j k =
+      sym (need_is a j cs) ∙ sum_same (take_at cs j) (take_at cs k) (inputs_at cs a) (same_takes j k) ∙ need_is a k cs
 
   pub same_gift : (j k : ℕ) → gift a j cs ≡ gift a k cs
   same_gift j k =

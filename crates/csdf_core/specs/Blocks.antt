@@ -118,6 +118,13 @@ reads_over channels numbers k (suc n) tokens =
 abbrev pub put_from : ℕ → ℕ → List ℤ → List ℤ → List ℤ
 put_from place n tokens into = take place into ++ take n tokens ++ drop (place + n) into
 
+-- of the tokens that firing number k reads so many stand before those of the input at this place, which are so many
+pub record IsSlot (channels : List Channel) (a place k all from taken : ℕ) : Type 0 where
+  pub all_is : all ≡ need a k channels
+  pub from_is : from ≡ sum_by (take_at channels k) (take place (inputs_at channels a))
+  pub taken_is : taken ≡ take_at channels k (slice_index (inputs_at channels a) place)
+  pub fits : from + taken ≤ all
+
 -- the tokens of channel c put where n firings read them, among the reads of all these channels, of which some come before it
 abbrev pub laid : List Channel → List ℕ → List ℕ → ℕ → ℕ → ℕ → List ℤ → List ℤ → List ℤ
 laid channels numbers before c k zero tokens into = into

@@ -1,11 +1,10 @@
 //! What the firings of an actor with several inputs read, put together from its channels.
 
 ghost use Rattle.std.specs.Prelude.{ℕ, ◌≡◌, ◌+◌, ◌*◌, ◌<◌, ◌≤◌, All, length, take, drop, pos, slice_index, slice_index_or, sum_by};
-ghost use Rattle.csdf_core.specs.Blocks.{needs_of, takes_at, reads_over, put_from, laid, HoldAll};
+ghost use Rattle.csdf_core.specs.Blocks.{needs_of, takes_at, reads_over, put_from, laid, HoldAll, IsSlot};
 ghost use Rattle.csdf_core.specs.Phases.{IsInPhase};
 ghost use Rattle.csdf_core.specs.Plan.{to_at};
 ghost use Rattle.csdf_core.specs.Ports.{inputs_at, take_at, tokens_at, tokens_in};
-ghost use Rattle.csdf_core.specs.Rows.{need};
 
 use crate::layout::Layout;
 use crate::transfer::need_of;
@@ -29,6 +28,7 @@ fn taken_before(layout: &Layout, actor: u32, numbers: &[u32], turn: Turn) -> usi
 }
 
 /// The next token.
+#[inline(always)]
 fn next_of(tokens: &mut Tokens<'_>) -> i32
     requires some { 0 < length tokens.old }
     ensures token { result ≡ slice_index_or tokens.old 0 (pos 0) }
@@ -41,6 +41,7 @@ fn next_of(tokens: &mut Tokens<'_>) -> i32
 }
 
 /// Fills the slice with the next tokens.
+#[inline(always)]
 fn fill_next(tokens: &mut Tokens<'_>, into: &mut [i32])
     requires enough { length into.old ≤ length tokens.old }
     ensures filled { into.new ≡ take (length into.old) tokens.old }
@@ -52,6 +53,7 @@ fn fill_next(tokens: &mut Tokens<'_>, into: &mut [i32])
 }
 
 /// Puts the next n tokens into the slice, from a place on.
+#[inline(always)]
 fn put_next(tokens: &mut Tokens<'_>, into: &mut [i32], place: usize, n: usize)
     requires fits { place + n ≤ length into.old }
     requires enough { n ≤ length tokens.old }
@@ -61,28 +63,53 @@ fn put_next(tokens: &mut Tokens<'_>, into: &mut [i32], place: usize, n: usize)
     fill_next(tokens, &mut into[place..place + n]);
 }
 
-/// Puts what a firing reads of one input, the one at this place, where its reads have it.
-fn lay_firing(
-    layout: &Layout,
-    actor: u32,
-    place: usize,
-    turn: Turn,
-    tokens: &mut Tokens<'_>,
-    into: &mut [i32],
-)
+/// Where a firing's reads have the tokens of one input: how many it reads in all, how many of them
+/// stand before these, and how many these are.
+#[derive(Clone, Copy)]
+struct Slot {
+    need: usize,
+    from: usize,
+    taken: usize,
+}
+
+/// Where the firing's reads have the tokens of the input at this place.
+fn slot_of(layout: &Layout, actor: u32, place: usize, turn: Turn) -> Slot
     requires actor { actor < length layout.now.sources }
     requires place { place < length (inputs_at layout.now.channels actor) }
     requires in_phase { IsInPhase layout.now.channels actor turn.firing turn.phase }
-    requires enough { take_at layout.now.channels turn.firing (slice_index (inputs_at layout.now.channels actor) place) ≤ length tokens.old }
-    requires all { length into.old ≡ need actor turn.firing layout.now.channels }
-    ensures put { into.new ≡ put_from (sum_by (take_at layout.now.channels turn.firing) (take place (inputs_at layout.now.channels actor)))
-        (take_at layout.now.channels turn.firing (slice_index (inputs_at layout.now.channels actor) place)) tokens.old into.old }
-    ensures left { tokens.new ≡ drop (take_at layout.now.channels turn.firing (slice_index (inputs_at layout.now.channels actor) place)) tokens.old }
+    ensures slot { IsSlot layout.now.channels actor place turn.firing result.need result.from result.taken }
+    ensures small { result.need ≤ 8192 }
 {
     let inputs = layout.inputs(actor);
-    let from = taken_before(layout, actor, &inputs[..place], turn);
-    let taken = layout.takes(inputs[place], turn) as usize;
-    put_next(tokens, into, from, taken);
+    Slot {
+        need: need_of(layout, actor, turn),
+        from: taken_before(layout, actor, &inputs[..place], turn),
+        taken: layout.takes(inputs[place], turn) as usize,
+    }
+}
+
+/// The same for this firing, where the slot is that of another one: with one phase it is the same.
+#[inline(always)]
+fn slot_after(
+    layout: &Layout,
+    actor: u32,
+    place: usize,
+    other: Turn,
+    slot: Slot,
+    turn: Turn,
+) -> Slot
+    requires actor { actor < length layout.now.sources }
+    requires place { place < length (inputs_at layout.now.channels actor) }
+    requires slot { IsSlot layout.now.channels actor place other.firing slot.need slot.from slot.taken }
+    requires small { slot.need ≤ 8192 }
+    requires in_phase { IsInPhase layout.now.channels actor turn.firing turn.phase }
+    ensures slot { IsSlot layout.now.channels actor place turn.firing result.need result.from result.taken }
+    ensures small { result.need ≤ 8192 }
+{
+    if layout.phases(actor) == 1 {
+        return slot;
+    }
+    slot_of(layout, actor, place, turn)
 }
 
 /// Puts what n firings read of one input, the one at this place, where their reads have it.
@@ -110,11 +137,14 @@ fn lay_input(
 {
     let mut tokens = pool.tokens(layout.inputs(actor)[place]);
     let mut next = turn;
+    let mut slot = slot_of(layout, actor, place, turn);
     let mut at = 0;
     for _firing in 0..n {
-        let end = at + need_of(layout, actor, next);
-        lay_firing(layout, actor, place, next, &mut tokens, &mut into[at..end]);
-        next = turn_after(layout, actor, next);
+        let end = at + slot.need;
+        put_next(&mut tokens, &mut into[at..end], slot.from, slot.taken);
+        let after = turn_after(layout, actor, next);
+        slot = slot_after(layout, actor, place, next, slot, after);
+        next = after;
         at = end;
     }
 }

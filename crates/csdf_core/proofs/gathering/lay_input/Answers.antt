@@ -1,7 +1,8 @@
-use Rattle.std.proofs.Common.{◌≡◌, ◌+◌, ◌-◌, ◌++◌, ℕ, List, length, take, drop, get_or, subst, sym, ◌∙◌, rules, arith}
+use Rattle.std.proofs.Common.{◌≡◌, ◌+◌, ◌-◌, ◌++◌, ℕ, List, length, take, drop, get_or, ap, ap₂, subst, sym, ◌∙◌, rules, arith}
 use Rattle.std.specs.Prelude.{ℤ}
 use Rattle.std.proofs.lemmas.Slice.{overwrites}
 use borrow.Rule.Slice.PartMut.{put_mid}
+use Rattle.csdf_core.specs.Blocks.{put_from}
 use Rattle.csdf_core.specs.Phases.{IsInPhase}
 use Rattle.csdf_core.specs.Ports.{inputs_at}
 use Rattle.csdf_core.proofs.BlockReads.{laid_step, takes_left, needs_left}
@@ -15,26 +16,34 @@ loop-firing-preserved c =
     let j : ℕ = c.args.place in
     let k : ℕ = c.loop-firing.next.firing in
     let at : ℕ = c.loop-firing.at in
-    let end : ℕ = c.loop-firing.at + c.need_of.result in
-    let new : List ℤ = put_mid c.loop-firing.at (c.loop-firing.at + c.need_of.result - c.loop-firing.at) c.loop-firing.into c.lay_firing.new.into in
-    let front : take (c.loop-firing.at + c.need_of.result)
-    (put_mid c.loop-firing.at (c.loop-firing.at + c.need_of.result - c.loop-firing.at) c.loop-firing.into c.lay_firing.new.into) ≡ take
-    c.loop-firing.at c.loop-firing.into ++ c.lay_firing.new.into = search (rules, overwrites) in
-    let back : drop (c.loop-firing.at + c.need_of.result)
-    (put_mid c.loop-firing.at (c.loop-firing.at + c.need_of.result - c.loop-firing.at) c.loop-firing.into c.lay_firing.new.into) ≡ drop
-    (c.loop-firing.at + c.need_of.result) c.loop-firing.into = search (rules, overwrites) in
-    let size : length (put_mid c.loop-firing.at (c.loop-firing.at + c.need_of.result - c.loop-firing.at) c.loop-firing.into c.lay_firing.new.into) ≡
+    let end : ℕ = c.loop-firing.at + c.loop-firing.slot.need in
+    let new : List ℤ = put_mid c.loop-firing.at (c.loop-firing.at + c.loop-firing.slot.need - c.loop-firing.at) c.loop-firing.into c.put_next.new.into in
+    let front : take (c.loop-firing.at + c.loop-firing.slot.need)
+    (put_mid c.loop-firing.at (c.loop-firing.at + c.loop-firing.slot.need - c.loop-firing.at) c.loop-firing.into c.put_next.new.into) ≡ take
+    c.loop-firing.at c.loop-firing.into ++ c.put_next.new.into = search (rules, overwrites) in
+    let back : drop (c.loop-firing.at + c.loop-firing.slot.need)
+    (put_mid c.loop-firing.at (c.loop-firing.at + c.loop-firing.slot.need - c.loop-firing.at) c.loop-firing.into c.put_next.new.into) ≡ drop
+    (c.loop-firing.at + c.loop-firing.slot.need) c.loop-firing.into = search (rules, overwrites) in
+    let size : length (put_mid c.loop-firing.at (c.loop-firing.at + c.loop-firing.slot.need - c.loop-firing.at) c.loop-firing.into c.put_next.new.into) ≡
     length c.loop-firing.into = search (rules, overwrites) in
+    let left = c.put_next.ensures.left ∙ ap (λ (x : ℕ). drop x c.loop-firing.tokens) c.loop-firing.invariant.slot.taken_is in
+    let put = c.put_next.ensures.put
+    ∙ ap₂ (λ (x y : ℕ). put_from x y c.loop-firing.tokens
+    (take (c.loop-firing.at + c.loop-firing.slot.need - c.loop-firing.at) (drop c.loop-firing.at c.loop-firing.into)))
+    c.loop-firing.invariant.slot.from_is c.loop-firing.invariant.slot.taken_is in
     record {
-      firing = omega (arith, c.turn_after-next.ensures.firing, c.loop-firing.invariant.firing);
-      in_phase = subst (λ (x : ℕ). IsInPhase c.args.layout.now.channels c.args.actor x c.turn_after-next.result.phase) (sym c.turn_after-next.ensures.firing)
-          c.turn_after-next.ensures.in_phase;
-      low = c.turn_after-next.ensures.low;
+      firing = omega (arith, c.turn_after-after.ensures.firing, c.loop-firing.invariant.firing);
+      in_phase = subst (λ (x : ℕ). IsInPhase c.args.layout.now.channels c.args.actor x c.turn_after-after.result.phase) (sym c.turn_after-after.ensures.firing)
+          c.turn_after-after.ensures.in_phase;
+      low = c.turn_after-after.ensures.low;
+      slot = c.slot_after-slot.ensures.slot;
+      small = c.slot_after-slot.ensures.small;
+      few = omega (arith, c.loop-firing.invariant.few, c.loop-firing.invariant.small);
       enough = takes_left cs (get_or ins j 0) k _ c.args.n c.loop-firing._firing c.loop-firing.tokens _ c.loop-firing-test.true
-          c.turn_after-next.ensures.firing c.lay_firing.ensures.left c.loop-firing.invariant.enough;
-      all = needs_left cs c.args.actor k _ c.args.n c.loop-firing._firing at c.need_of.result _ c.loop-firing-test.true c.need_of.ensures.value
-          c.turn_after-next.ensures.firing c.loop-firing.invariant.all ∙ sym size;
-      laid = laid_step cs ins (take j ins) (get_or ins j 0) k _ c.args.n c.loop-firing._firing at c.need_of.result c.loop-firing.tokens _ c.lay_firing.new.into
-          c.loop-firing.into _ _ c.loop-firing-test.true (c.need_of.ensures.value ∙ sym (need_is c.args.actor k cs)) c.turn_after-next.ensures.firing
-          c.lay_firing.ensures.left front c.lay_firing.ensures.put back c.loop-firing.invariant.laid;
+          c.turn_after-after.ensures.firing left c.loop-firing.invariant.enough;
+      all = needs_left cs c.args.actor k _ c.args.n c.loop-firing._firing at c.loop-firing.slot.need _ c.loop-firing-test.true c.loop-firing.invariant.slot.all_is
+          c.turn_after-after.ensures.firing c.loop-firing.invariant.all ∙ sym size;
+      laid = laid_step cs ins (take j ins) (get_or ins j 0) k _ c.args.n c.loop-firing._firing at c.loop-firing.slot.need c.loop-firing.tokens _ c.put_next.new.into
+          c.loop-firing.into _ _ c.loop-firing-test.true (c.loop-firing.invariant.slot.all_is ∙ sym (need_is c.args.actor k cs)) c.turn_after-after.ensures.firing
+          left front put back c.loop-firing.invariant.laid;
     }

@@ -1,5 +1,5 @@
-use Rattle.std.proofs.Common.{◌≡◌, ◌+◌, ◌-◌, ◌<◌, ◌≤◌, ◌++◌, length, take, drop, get_or}
-use Rattle.csdf_core.specs.Blocks.{needs_of, takes_at, laid}
+use Rattle.std.proofs.Common.{◌≡◌, ◌+◌, ◌-◌, ◌*◌, ◌<◌, ◌≤◌, ◌++◌, length, take, drop, get_or}
+use Rattle.csdf_core.specs.Blocks.{needs_of, takes_at, laid, IsSlot}
 use Rattle.csdf_core.specs.Phases.{IsInPhase}
 use Rattle.csdf_core.specs.Ports.{inputs_at, tokens_at, tokens_in}
 use Rattle.csdf_core.proofs.gathering.lay_input.Given as goal
@@ -10,6 +10,9 @@ invariant-loop-firing l = record {
   firing : l.next.firing ≡ l.fn.turn.firing + l._firing;
   in_phase : IsInPhase l.layout.channels l.actor l.next.firing l.next.phase;
   low : l.next.phase < 16;
+  slot : IsSlot l.layout.channels l.actor l.place l.next.firing l.slot.need l.slot.from l.slot.taken;
+  small : l.slot.need ≤ 8192;
+  few : l.at ≤ 8192 * l._firing;
   enough : takes_at l.layout.channels l.next.firing (l.n - l._firing) (get_or (inputs_at l.layout.channels l.actor) l.place 0) ≤ length l.tokens;
   all : l.at + needs_of l.layout.channels l.actor l.next.firing (l.n - l._firing) ≡ length l.into;
   laid : take l.at l.into ++ laid l.layout.channels (inputs_at l.layout.channels l.actor) (take l.place (inputs_at l.layout.channels l.actor))
