@@ -50,6 +50,45 @@ quiet false
 actor 64: needs 0
 "#;
 
+/// Two sources, a sum with an input from each and two outputs, and two sinks.
+const JOIN: &str = r#"actor = [
+  { name = "a", kernel = "source" },
+  { name = "b", kernel = "source" },
+  { name = "c", kernel = "sum" },
+  { name = "d", kernel = "sink" },
+  { name = "e", kernel = "sink" },
+]
+channel = [
+  { name = "x", from = "a", to = "c", produce = [1], consume = [2], capacity = 4 },
+  { name = "y", from = "b", to = "c", produce = [1], consume = [1], capacity = 2 },
+  { name = "z", from = "c", to = "d", produce = [1], consume = [1], capacity = 2 },
+  { name = "w", from = "c", to = "e", produce = [1], consume = [1], capacity = 2 },
+]
+"#;
+
+/// Four firings of the first source, two of the second and two of the sum, move by move.
+const JOIN_MOVES: &str =
+    "begin 0 / read 0 / write 0 1 / finish 0 / begin 0 / read 0 / write 0 2 / finish 0 / \
+    begin 0 / read 0 / write 0 3 / finish 0 / begin 0 / read 0 / write 0 4 / finish 0 / \
+    begin 1 / read 1 / write 1 10 / finish 1 / begin 1 / read 1 / write 1 20 / finish 1 / \
+    begin 2 / read 2 / write 2 13 13 / finish 2 / begin 2 / read 2 / write 2 27 27 / finish 2";
+
+/// What the join then shows: the sum's first firing frees cells 0, 1 and 4 and takes 6 and 7, its
+/// second one frees 2, 3 and 5 and takes 8 and 9.
+const JOIN_STATE: &str = r#"actor 0: 4 fired, Idle, needs 0, gives 1
+actor 1: 2 fired, Idle, needs 0, gives 1
+actor 2: 2 fired, Idle, needs 3, gives 2
+actor 3: 0 fired, Idle, needs 1, gives 0
+actor 4: 0 fired, Idle, needs 1, gives 0
+channel 0: holds 0, peak 4, open true, cells
+channel 1: holds 0, peak 2, open true, cells
+channel 2: holds 2, peak 2, open true, cells 6 8
+channel 3: holds 2, peak 2, open true, cells 7 9
+free cells 0 1 4 2 3 5
+quiet false
+actor 64: needs 0
+"#;
+
 /// The tokens that the actor's greatest block of at most `most` firings reads, once it has written
 /// these; none where it would write another number.
 fn made(
@@ -113,6 +152,37 @@ fn two_phases_in_a_block(rt: HostRuntime) -> Result<(), Fail> {
 fn two_phases_move_by_move(rt: HostRuntime) -> Result<(), Fail> {
     let state = state_after(rt.alloc(), PAIR, &AMPLE, PAIR_MOVES)?;
     expect_eq(&rt, state.as_str(), PAIR_STATE);
+    Ok(())
+}
+
+#[test]
+fn several_inputs_and_outputs_in_a_block(rt: HostRuntime) -> Result<(), Fail> {
+    let alloc = rt.alloc();
+    let accepted = accepted_in(alloc, JOIN)?;
+    let mut core = opening_core(alloc, &accepted)?;
+    let none = made(alloc, &mut core, 0, 8, &[1, 2, 3, 4])?;
+    expect_eq(&rt, none.len(), 0);
+    let still_none = made(alloc, &mut core, 1, 1, &[10])?;
+    expect_eq(&rt, still_none.len(), 0);
+    let one = Block {
+        firings: 1,
+        needed: 3,
+        given: 2,
+    };
+    expect_eq(&rt, core.block(2, 8), one);
+    let last = made(alloc, &mut core, 1, 8, &[20])?;
+    expect_eq(&rt, last.len(), 0);
+    let read = made(alloc, &mut core, 2, 8, &[13, 13, 27, 27])?;
+    expect_eq(&rt, read.as_slice(), [1, 2, 10, 3, 4, 20].as_slice());
+    let state = shown(alloc, &core)?;
+    expect_eq(&rt, state.as_str(), JOIN_STATE);
+    Ok(())
+}
+
+#[test]
+fn several_inputs_and_outputs_move_by_move(rt: HostRuntime) -> Result<(), Fail> {
+    let state = state_after(rt.alloc(), JOIN, &AMPLE, JOIN_MOVES)?;
+    expect_eq(&rt, state.as_str(), JOIN_STATE);
     Ok(())
 }
 
