@@ -1,4 +1,4 @@
-use Rattle.std.proofs.Common.{arith}
+use Rattle.std.proofs.Common.{arith, rules}
 use Rattle.csdf_pool.specs.Pens.{links_of}
 use Rattle.csdf_pool.proofs.Joins.{length-joined, end_in_table, cells_of-joined, IsChain-joined, links-joined}
 use Rattle.csdf_pool.proofs.ends.joined.Goals as goal
@@ -29,3 +29,6 @@ prove-unreachable-requires-2 c = omega (
   arith,
   length-joined (links_of c.args.pen.now) c.args.chain c.args.segment c.requires.chain c.requires.segment c.requires.apart,
 )
+
+pub returns-then-chain-eq0-clause-chain : goal.returns-then-chain-eq0-clause-chain
+returns-then-chain-eq0-clause-chain c = search rules
