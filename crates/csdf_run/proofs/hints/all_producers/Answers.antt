@@ -1,0 +1,12 @@
+use Rattle.std.proofs.Common.{arith}
+use Rattle.std.proofs.lemmas.Grind.{common_steps}
+use Rattle.csdf_run.proofs.hints.all_producers.Goals as goal
+
+pub loop-actor-preserved : goal.loop-actor-preserved
+loop-actor-preserved c = record { count = grind (arith, common_steps); masks = grind (arith, common_steps) }
+
+pub returns-clause-masks : goal.returns-clause-masks
+returns-clause-masks c = grind (arith, common_steps)
+
+pub returns-clause-count : goal.returns-clause-count
+returns-clause-count c = grind (arith, common_steps)
