@@ -1,3 +1,4 @@
+use Rattle.std.proofs.lemmas.Grind.{common_steps}
 use Rattle.std.proofs.Common.{ap, ◌∙◌, refl, arith, ◌≡◌, length}
 use Rattle.std.specs.Prelude.{sum_by}
 use Rattle.csdf_core.specs.Ports.{give_at}
@@ -18,3 +19,6 @@ loop-channel-init c =
       partition = c.requires.partition;
       size = refl;
     }
+
+pub loop-channel-preserved : goal.loop-channel-preserved
+loop-channel-preserved c = record { same = grind (arith, common_steps); all = grind (arith, common_steps); room = grind (arith, common_steps); put = grind (arith, common_steps); cells = grind (arith, common_steps); partition = c.put_tokens.ensures.partition; size = grind (arith, common_steps) }
