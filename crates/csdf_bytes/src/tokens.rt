@@ -143,6 +143,7 @@ pub fn written_tokens_read_back(tokens: &[i32])
     ensures { tokens_in (token_text tokens.now) ≡ Ok tokens.now }
 {
     for token in tokens {
+        // Read for the prover: that a token is within its range.
         let _in_range = *token;
     }
 }

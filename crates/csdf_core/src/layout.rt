@@ -140,6 +140,7 @@ impl Layout {
     pub(crate) fn gives_few(&self)
         ensures { (a k : ℕ) → gift a k self.now.channels ≤ 8192 }
     {
+        // Read for the prover: what every graph keeps.
         let _channels = self.graph.channels();
     }
 

@@ -251,6 +251,7 @@ impl Book {
         ensures room { self.old.room ≤ self.new.room + 2 }
         ensures width { self.new.width ≡ self.old.width }
     {
+        // Read for the prover: what the work keeps.
         let _ = &self.work;
         self.begin(actor);
         self.read(actor);

@@ -97,6 +97,7 @@ impl<'a> Filter<'a> {
         requires near { (base ≤ place) × (place ≤ base + 16) }
         ensures { result ≡ filter_token self.now.weights.now self.now.taps self.now.shift inputs.now place }
     {
+        // `inputs` is there for the contract alone.
         let _ = inputs;
         let sum = sixteen_narrow_products_at(self.weights, window, place - base);
         narrow_shifted(sum, self.shift)

@@ -105,7 +105,14 @@ fn object_for(
     let mut written = Vec::new(rt.alloc());
     let mut writer = ToWriter::new(&mut written);
     let (form, room) = (Form::Json, Room::Least);
-    match describe_as(rt.alloc(), question, form, graph.as_bytes(), room, &mut writer) {
+    match describe_as(
+        rt.alloc(),
+        question,
+        form,
+        graph.as_bytes(),
+        room,
+        &mut writer,
+    ) {
         Ok(()) => Ok(String::from_utf8(written)?),
         Err(fault) => {
             expect_eq(rt, written.len(), 0);
@@ -117,13 +124,15 @@ fn object_for(
 const CHECK_OBJECT: &str = r#"{"consistent":true,"actors":3,"channels":2}
 "#;
 
-const REPETITION_OBJECT: &str = r#"{"repetition":[{"actor":"a","cycles":3,"firings":3},{"actor":"b","cycles":2,"firings":2},{"actor":"c","cycles":1,"firings":1}]}
+const REPETITION_OBJECT: &str =
+    r#"{"repetition":[{"actor":"a","cycles":3,"firings":3},{"actor":"b","cycles":2,"firings":2},{"actor":"c","cycles":1,"firings":1}]}
 "#;
 
 const SCHEDULE_OBJECT: &str = r#"{"schedule":["a","a","b","a","b","c"]}
 "#;
 
-const CAPACITY_OBJECT: &str = r#"{"capacities":[{"channel":"x","capacity":4},{"channel":"y","capacity":2}],"cells":6}
+const CAPACITY_OBJECT: &str =
+    r#"{"capacities":[{"channel":"x","capacity":4},{"channel":"y","capacity":2}],"cells":6}
 "#;
 
 const DEADLOCK_OBJECT: &str = r#"{"fault":"graph: deadlock","status":1}

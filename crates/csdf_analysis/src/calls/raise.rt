@@ -107,6 +107,7 @@ pub(crate) fn net_of<'a>(
     ensures channels { IfOk result (λ net. net.channels ≡ graph.now.channels) }
     ensures firings { IfOk result (λ net. net.firings ≡ vector.now.q.items) }
 {
+    // Read for the prover: what every graph keeps.
     let _well_formed = graph.channels();
     Net::new(alloc, graph, &vector.q)
 }
