@@ -1,5 +1,12 @@
-use Rattle.std.proofs.Common.{rules}
+use Rattle.std.proofs.Common.{arith, rules}
+use Rattle.std.proofs.lemmas.Grind.{common_steps}
 use Rattle.csdf_run.proofs.watched.Watched.is_over.Goals as goal
 
 pub returns-clause-over : goal.returns-clause-over
 returns-clause-over g c = search rules
+
+pub returns-clause-looked : goal.returns-clause-looked
+returns-clause-looked g c = grind (arith, common_steps)
+
+pub returns-then-is_quiet-clause-over : goal.returns-then-is_quiet-clause-over
+returns-then-is_quiet-clause-over g c = grind (arith, common_steps)
