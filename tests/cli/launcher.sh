@@ -9,7 +9,7 @@ cp "$top/csdf" "$launched/csdf"
 echo "csdf:" > "$launched/crates.txt"
 echo "fn main() {}" > "$launched/crates/csdf/src/main.rt"
 : > "$launched/crates/csdf/stdin"
-for tool in bash cat chmod dirname env find install mkdir mktemp mv readlink rm sed sha256sum sleep sort tail touch xargs; do
+for tool in bash cat chmod dirname env find install mkdir mktemp mv nproc readlink rm sed sha256sum sleep sort tail touch xargs; do
   ln -s "$(command -v "$tool")" "$launched/without_rt/$tool"
 done
 # stand_in TOOLS SYSTEM MEMORY DISK: for what tells the system, and the kilobytes that are free.

@@ -13,10 +13,11 @@ use Rattle.std.proofs.lemmas.Option.{slice_get_within, slice_get_read}
 use Rattle.csdf_model.specs.Graph.{Channel, Graph, channel_view}
 use Rattle.csdf_model.specs.declared.parts.Channel.{Channel as ChannelCode}
 use Rattle.csdf_model.specs.WellFormed.{IsWellFormed, IsChannel, IsCapacity}
-use Rattle.csdf_analysis.specs.Repetition.{full_capacity, IsRepetition}
+use Rattle.csdf_analysis.specs.Repetition.{full_capacity, HaveRoom, IsRepetition, IsWithin}
 use Rattle.csdf_analysis.specs.Period.{HoldInitial, CompletesPeriod}
 use Rattle.csdf_analysis.specs.Capacities.{Agrees, AreLeastCapacities, IsLeastCapacity, IsTooTight, full_capacities}
 use Rattle.csdf_analysis.specs.Lowering.{first_bound, first_bounds, AreSameBelow, IsBeforeBelow, IsLowered}
+use Rattle.csdf_analysis.proofs.BoundLemmas.{within_of}
 use Rattle.csdf_analysis.proofs.CountLemmas.{same_or_not, less_or_not}
 use Rattle.csdf_analysis.proofs.FitLemmas.{at}
 use Rattle.csdf_analysis.proofs.LeastLemmas.{channel_at}
@@ -223,3 +224,19 @@ sum_small g q bounds whole completes small =
     let few = whole.fitting.few_channels in
     let each = completes.each_channel in
     omega arith
+
+-- the channels and the vector of a graph where a call hands them on
+pub within_for : (g : Graph) (q q2 : List ℕ) (channels : List Channel) → IsWellFormed g → length q ≡ length g.actors → q2 ≡ q → channels ≡ g.channels
+    → All (IsWithin (length q2)) channels
+within_for g q q2 channels whole count same_q same_c =
+    subst (λ (ks : List ℕ). All (IsWithin (length ks)) channels) (sym same_q) (subst (λ (cs : List Channel). All (IsWithin (length q)) cs) (sym same_c)
+    (within_of g.actors g.channels (length q) (sym count) whole.fitting.channels))
+
+pub within_at : (g : Graph) (r q q2 : List ℕ) (channels : List Channel) → IsWellFormed g → IsRepetition g.actors g.channels r q → q2 ≡ q
+    → channels ≡ g.channels → All (IsWithin (length q2)) channels
+within_at g r q q2 channels whole is same_q same_c = within_for g q q2 channels whole is.firings.each_actor same_q same_c
+
+pub room_at : (g : Graph) (r q q2 : List ℕ) (channels : List Channel) → IsRepetition g.actors g.channels r q → q2 ≡ q → channels ≡ g.channels
+    → HaveRoom q2 channels
+room_at g r q q2 channels is same_q same_c =
+    subst (λ (ks : List ℕ). HaveRoom ks channels) (sym same_q) (subst (λ (cs : List Channel). HaveRoom q cs) (sym same_c) is.room)

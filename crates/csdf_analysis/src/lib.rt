@@ -9,6 +9,7 @@ mod demand;
 mod fault;
 mod gcd;
 mod laws;
+mod length;
 pub mod mask;
 mod members;
 mod neighbours;
@@ -32,6 +33,7 @@ pub use laws::{
     every_schedule_goes_on, full_capacity_suffices, greater_capacities_complete,
     room_holds_periods, room_is_accepted, room_is_refused,
 };
+pub use length::Length;
 pub use neighbours::{consumers_of, producers_of};
 pub use room::{Room, accept_in_room, accept_with_room, auto_room, give_room};
 pub use stall::{Bounds, Stall, Wait};

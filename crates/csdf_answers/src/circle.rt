@@ -6,7 +6,7 @@ ghost use Rattle.csdf_model.specs.Graph.{channel_view};
 ghost use Rattle.csdf_answers.specs.Circle.{awaited, awaited_by, circle, circle_at, consumers, is_other, producers, waiting_but, walked};
 
 use csdf_analysis::Wait;
-use csdf_graph::Channel;
+use csdf_model::Channel;
 use std::alloc::{AllocError, Global};
 
 /// The number of the channel's producer.

@@ -16,7 +16,9 @@ use crate::question::{Form, Question, capacity_text, check_text, repetition_text
 use crate::sending::send;
 use crate::session::{accept_fault, accepted_in};
 use csdf_analysis::{Room, Vector, repetition};
-use csdf_graph::{Graph, Outlet, read_graph};
+use csdf_bytes::Outlet;
+use csdf_graph::read_graph;
+use csdf_model::Graph;
 use std::alloc::Global;
 
 /// The least repetition vector, or why there is none, as the program tells it.

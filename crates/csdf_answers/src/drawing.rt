@@ -7,7 +7,7 @@ ghost use Rattle.csdf_answers.specs.Drawing.{kernel_text, dots, actor_line, rate
 ghost use Rattle.csdf_answers.specs.Printed.{spaced};
 
 use csdf_analysis::Accepted;
-use csdf_graph::{Actor, Channel, Kernel};
+use csdf_model::{Actor, Channel, Kernel};
 use std::alloc::{AllocError, Global};
 
 /// The kernel's name in a graph file.

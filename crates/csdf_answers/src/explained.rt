@@ -17,8 +17,10 @@ use crate::sending::send;
 use csdf_analysis::{
     AcceptFault, Accepted, Bounds, Demand, accept, demand_of, repetition, stall_of,
 };
-use csdf_graph::{Graph, GraphFault, Outlet, read_graph};
+use csdf_bytes::Outlet;
+use csdf_graph::{GraphFault, read_graph};
 use csdf_misfits::explain_fault;
+use csdf_model::Graph;
 use std::alloc::{AllocError, Global};
 
 /// The line of a channel that asks this of its two actors.

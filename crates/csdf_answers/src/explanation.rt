@@ -10,7 +10,7 @@ ghost use Rattle.csdf_answers.specs.Printed.{name_at, names_of};
 use crate::circle::{circle_of, wait_at, waiting_but};
 use crate::printed::name_at;
 use csdf_analysis::{Bounds, Demand, Ratio, Stall, Wait};
-use csdf_graph::{Actor, Channel};
+use csdf_model::{Actor, Channel};
 use std::alloc::{AllocError, Global};
 
 /// That a graph is accepted.

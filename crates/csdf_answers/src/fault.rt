@@ -4,7 +4,8 @@ ghost use Rattle.std.specs.Prelude.{◌≡◌, ◌++◌, IfOk};
 ghost use Rattle.csdf_answers.specs.Faults.{status_of, unread};
 ghost use Rattle.csdf_answers.specs.declared.fault.ToolFault.TheVariants.{Memory};
 
-use csdf_graph::{GraphFault, InputFault};
+use csdf_bytes::InputFault;
+use csdf_graph::GraphFault;
 use std::alloc::{AllocError, AllocFailed, Global};
 use std::fmt;
 use std::marker::Model;

@@ -6,7 +6,8 @@ ghost use Rattle.csdf_answers.specs.Lines.{alone, move_in, asked_by, line_in, li
 
 use crate::words::{actor_in, channel_in, tokens_of, words_of};
 use csdf_core::Move;
-use csdf_graph::{Graph, is_name};
+use csdf_graph::is_name;
+use csdf_model::Graph;
 use std::alloc::{AllocError, Global};
 
 /// A line of a script.

@@ -13,8 +13,8 @@ ghost use Rattle.csdf_answers.specs.Printed.{names_of, newline};
 use crate::fault::{Reason, ToolFault};
 use crate::question::{Form, actor_name};
 use csdf_analysis::{Accepted, Vector, schedule};
-use csdf_graph::{Actor, Channel};
 use csdf_json::{json_writer, line_of, open_list, put_flag, put_number, put_text};
+use csdf_model::{Actor, Channel};
 use json::Writer;
 use std::alloc::{AllocError, Global};
 

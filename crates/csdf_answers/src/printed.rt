@@ -8,7 +8,7 @@ ghost use Rattle.csdf_core.specs.Shows.{as_reply};
 ghost use Rattle.csdf_answers.specs.Printed.{names_of, name_at, spaced, spaced_tokens, refusal_text, reply_text, reply_line, chain_line, chain_lines, cells_text};
 
 use csdf_core::{Core, Refusal, Reply};
-use csdf_graph::Channel;
+use csdf_model::Channel;
 use csdf_pool::Cells;
 use std::alloc::AllocError;
 

@@ -7,7 +7,7 @@ ghost use Rattle.csdf_answers.specs.Described.{actor_names, check_text, repetiti
 ghost use Rattle.csdf_answers.specs.Printed.{names_of, name_at};
 
 use csdf_analysis::{Accepted, Vector, schedule};
-use csdf_graph::{Actor, Channel};
+use csdf_model::{Actor, Channel};
 use std::alloc::{AllocError, Global};
 
 /// What is asked about a graph.

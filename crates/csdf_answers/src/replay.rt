@@ -14,7 +14,9 @@ use crate::sending::send;
 use crate::session::{accepted_of, lines_of, opening_core};
 use crate::turns::turn_all;
 use csdf_analysis::Accepted;
-use csdf_graph::{Graph, Outlet, Script, read_graph_and_script};
+use csdf_bytes::Outlet;
+use csdf_graph::{Script, read_graph_and_script};
+use csdf_model::Graph;
 use std::alloc::{AllocError, Global};
 
 /// The text of lines on an accepted graph.

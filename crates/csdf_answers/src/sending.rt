@@ -4,7 +4,7 @@ ghost use Rattle.std.specs.Prelude.{◌≡◌, true, IfErr, OnErr, OnOk};
 ghost use Rattle.std.specs.Io.KnownBytes.{Appends};
 
 use crate::fault::{Stream, ToolFault};
-use csdf_graph::{Outlet, write_bytes};
+use csdf_bytes::{Outlet, write_bytes};
 
 /// Writes an answer. The error is [`ToolFault::Device`]: the writer failed.
 pub(crate) fn send<O: Outlet>(writer: &mut O, text: &[u8]) -> Result<(), ToolFault>

@@ -17,7 +17,8 @@ use crate::line::{Line, line_in};
 use crate::printed::name_at;
 use csdf_analysis::{AcceptFault, Accepted, Room, accept, accept_in_room};
 use csdf_core::{Core, Setup};
-use csdf_graph::{Actor, Graph, Kernel, Script};
+use csdf_graph::Script;
+use csdf_model::{Actor, Graph, Kernel};
 use std::alloc::{AllocError, Global};
 
 /// What each line asks for, or the first that asks for nothing that there is.

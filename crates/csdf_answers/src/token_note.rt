@@ -6,7 +6,7 @@ ghost use Rattle.std.specs.Str.Lines.{strip_carriage_return};
 ghost use Rattle.csdf_bytes.specs.TokenText.{is_newline, tokens_in};
 ghost use Rattle.csdf_answers.specs.TokenNotes.{fault_words, is_short, is_visible, line_in, line_words, note_line, quoted, shown, token_note, wrong_in, wrong_with};
 
-use csdf_graph::{INPUT_LIMIT, Slice, TokenFault, read_tokens};
+use csdf_bytes::{INPUT_LIMIT, Slice, TokenFault, read_tokens};
 use std::alloc::{AllocError, Global};
 use std::str;
 

@@ -10,7 +10,7 @@ ghost use Rattle.csdf_answers.specs.Turns.{Turns, TurnsAll};
 use crate::line::Line;
 use crate::printed::{push_cells_text, push_reply_line};
 use csdf_core::{Core, Move, play_on};
-use csdf_graph::Channel;
+use csdf_model::Channel;
 use std::alloc::{AllocError, Global};
 use std::slice;
 

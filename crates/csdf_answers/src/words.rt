@@ -3,7 +3,8 @@
 ghost use Rattle.std.specs.Prelude.{◌≡◌, map, IfOk, option_map, unwrap_or};
 ghost use Rattle.csdf_answers.specs.Lines.{words_of, tokens_of, actor_in, channel_in};
 
-use csdf_graph::{Graph, token_of};
+use csdf_bytes::token_of;
+use csdf_model::Graph;
 use std::alloc::{AllocError, Global};
 
 /// The words of a line, which stand apart by one space or more.

@@ -1,10 +1,14 @@
 -- What several calls of a device make together.
-use Rattle.std.proofs.Common.{◌≡◌, ℕ, ◌+◌, ◌≤◌, Bool, true, false, List, ◌++◌, length, take, drop, refl, sym, ◌∙◌, ap, subst, arith, length-append, length-take}
-use Rattle.std.specs.Prelude.{Option}
-use Rattle.std.specs.Io.KnownBytes.{Appends, Consumes}
-use Rattle.std.proofs.Math.Seq.{take-add}
-use Rattle.std.proofs.KnownBytes.{Appends-trans, Consumes-trans}
-use Rattle.csdf_bytes.specs.Device.{Emits, Fetches, TakesAtMost}
+use Rattle.std.proofs.Common.{◌≡◌, ℕ, suc, ◌+◌, ◌<◌, ◌≤◌, Bool, true, false, List, ◌++◌, length, take, drop, get_or, refl, sym, ◌∙◌, ap, subst, arith, length-append, length-take}
+use Rattle.std.specs.Prelude.{Option, None, Some, Result, Ok, Err, OnErr}
+use Rattle.std.specs.Io.KnownBytes.{Appends, Consumes, Keeps}
+use Rattle.std.proofs.Math.Seq.{drop-cons, take-add, take-append-add}
+use Rattle.std.proofs.lemmas.Grind.{flat_map-append}
+use Rattle.std.proofs.lemmas.List.{take-append-drop, take-append-le}
+use Rattle.std.proofs.lemmas.List.Concat.{flat_map-cons}
+use Rattle.std.specs.List.{flat_map}
+use Rattle.std.proofs.KnownBytes.{Appends-trans, Consumes-kept, Consumes-trans}
+use Rattle.csdf_bytes.specs.Device.{Emits, EmitsSome, Fetches, TakesAtMost}
 
 -- a call after others, which took the bytes bs
 pub TakesAtMost-more : (a b c : Option (List ℕ)) (bs buffer : List ℕ) (n most : ℕ) → Consumes a b bs → Fetches b c buffer n
@@ -21,6 +25,46 @@ pub Emits-more : (a b c : Option (List ℕ)) (bytes rest : List ℕ) (done n : �
 Emits-more a b c bytes rest done n is first next =
     let joined : take done bytes ++ take n rest ≡ take (done + n) bytes = ap (λ r. take done bytes ++ take n r) is ∙ sym (take-add done n bytes) in
     subst (Appends a c) joined (Appends-trans a b c (take done bytes) (take n rest) first next.put)
+
+-- a call that failed after others, which took the bytes bs
+pub TakesAtMost-kept : (a b c : Option (List ℕ)) (bs : List ℕ) (most : ℕ) → Consumes a b bs → Keeps b c → length bs ≤ most → TakesAtMost most a c
+TakesAtMost-kept a b c bs most first kept room = record { bytes = bs; taken = Consumes-kept a b c bs first kept; few = room }
+
+-- known bytes that grew and then stayed
+pub Appends-kept : (a b c : Option (List ℕ)) (bs : List ℕ) → Appends a b bs → Keeps b c → Appends a c bs
+Appends-kept None b c bs first kept = tt
+Appends-kept (Some x) None c bs first kept = absurd first
+Appends-kept (Some x) (Some y) None bs first kept = absurd kept
+Appends-kept (Some x) (Some y) (Some z) bs first kept = kept ∙ first
+
+-- a beginning of a line that went out after all that stands before it
+EmitsSome-after : (a b c : Option (List ℕ)) (front line rest : List ℕ) → Appends a b front → EmitsSome b c line → EmitsSome a c (front ++ (line ++ rest))
+EmitsSome-after a b c front line rest first next = record {
+  count = length front + next.count;
+  fits = let fits = next.fits in omega (arith, length-append front (line ++ rest), length-append line rest, fits);
+  put = let same : take (length front + next.count) (front ++ (line ++ rest)) ≡ front ++ take next.count line =
+      take-append-add front (line ++ rest) next.count ∙ ap (λ l. front ++ l) (take-append-le next.count line rest next.fits) in
+      subst (Appends a c) (sym same) (Appends-trans a b c front (take next.count line) first next.put);
+}
+
+-- the lines of a list, about the line at a place
+flat_map-at : {X : Type 0} (f : X → List ℕ) (xs : List X) (i : ℕ) (d : X) → i < length xs
+    → flat_map f xs ≡ flat_map f (take i xs) ++ (f (get_or xs i d) ++ flat_map f (drop (suc i) xs))
+flat_map-at f xs i d inside =
+    ap (flat_map f) (sym (take-append-drop i xs)) ∙ flat_map-append f (take i xs) (drop i xs)
+    ∙ ap (λ l. flat_map f (take i xs) ++ flat_map f l) (drop-cons xs i d inside)
+    ∙ ap (λ l. flat_map f (take i xs) ++ l) (flat_map-cons f (get_or xs i d) (drop (suc i) xs))
+
+-- the lines before a place went out, and a beginning of the line there
+pub EmitsSome-lines : {X : Type 0} (f : X → List ℕ) (xs : List X) (i : ℕ) (d : X) (a b c : Option (List ℕ)) → i < length xs
+    → Appends a b (flat_map f (take i xs)) → EmitsSome b c (f (get_or xs i d)) → EmitsSome a c (flat_map f xs)
+EmitsSome-lines f xs i d a b c inside first next =
+    subst (EmitsSome a c) (sym (flat_map-at f xs i d inside)) (EmitsSome-after a b c _ _ (flat_map f (drop (suc i) xs)) first next)
+
+-- what holds in any case
+pub on_err : {T E : Type 0} (r : Result T E) (P : Type 0) → P → OnErr r P
+on_err (Ok t) P holds = tt
+on_err (Err e) P holds = holds
 
 -- a mark that was not set at the end of a call is as it was before
 pub unmarked : (old new : Bool) → (old ≡ true → new ≡ true) → (new ≡ true → ⊥) → new ≡ old

@@ -22,6 +22,12 @@ pub record Emits (before after : Option (List ℕ)) (bytes : List ℕ) (n : ℕ)
   pub some : 0 < length bytes → 0 < n
   pub put : Appends before after (take n bytes)
 
+-- calls took a beginning of the bytes, after those that were taken before
+pub record EmitsSome (before after : Option (List ℕ)) (bytes : List ℕ) : Type 0 where
+  pub count : ℕ
+  pub fits : count ≤ length bytes
+  pub put : Appends before after (take count bytes)
+
 -- a device and its mark
 pub record Marked (D : Type 0) : Type 0 where
   pub device : D

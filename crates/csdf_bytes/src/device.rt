@@ -1,6 +1,7 @@
 //! What a device of bytes is.
 
-ghost use Rattle.std.specs.Prelude.{◌≡◌, ◌↔◌, ℕ, List, Bool, true, Option, IsErr, IfOk};
+ghost use Rattle.std.specs.Prelude.{◌≡◌, ◌↔◌, ℕ, List, Bool, true, Option, IsErr, IfOk, OnErr};
+ghost use Rattle.std.specs.Io.KnownBytes.{Keeps};
 ghost use Rattle.csdf_bytes.specs.Device.{Emits, Fetches};
 
 /// A device failed. Each later call of it fails too.
@@ -16,11 +17,12 @@ pub trait Intake {
     ghost failed: { Self → Bool };
 
     /// Puts bytes at the front of the buffer, and tells how many: where it has room, 0 only at
-    /// the end of input.
+    /// the end of input. A failure takes none of those that are left.
     fn fetch(&mut self, buffer: &mut [u8]) -> Result<usize, DeviceFailed>
         ensures mark { IsErr result ↔ (failed self.new ≡ true) }
         ensures stays { failed self.old ≡ true → failed self.new ≡ true }
-        ensures fetched { IfOk result (λ n. Fetches (left self.old) (left self.new) buffer.new n) };
+        ensures fetched { IfOk result (λ n. Fetches (left self.old) (left self.new) buffer.new n) }
+        ensures kept { OnErr result (Keeps (left self.old) (left self.new)) };
 }
 
 /// A device that bytes go to.
@@ -32,10 +34,11 @@ pub trait Outlet {
     ghost failed: { Self → Bool };
 
     /// Takes bytes from the front of the slice, and tells how many: at least one, where there
-    /// is one.
+    /// is one. A failure takes none.
     fn emit(&mut self, bytes: &[u8]) -> Result<usize, DeviceFailed>
         ensures mark { IsErr result ↔ (failed self.new ≡ true) }
         ensures stays { failed self.old ≡ true → failed self.new ≡ true }
         ensures emitted { IfOk result
-            (λ n. Emits (written self.old) (written self.new) bytes.now n) };
+            (λ n. Emits (written self.old) (written self.new) bytes.now n) }
+        ensures kept { OnErr result (Keeps (written self.old) (written self.new)) };
 }

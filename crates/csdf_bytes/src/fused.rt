@@ -1,6 +1,7 @@
 //! A device that fails.
 
-ghost use Rattle.std.specs.Prelude.{◌≡◌, ◌↔◌, ◌+◌, ◌<◌, true, false, IsErr, IfOk};
+ghost use Rattle.std.specs.Prelude.{◌≡◌, ◌↔◌, ◌+◌, ◌<◌, true, false, IsErr, IfOk, OnErr};
+ghost use Rattle.std.specs.Io.KnownBytes.{Keeps};
 ghost use Rattle.csdf_bytes.specs.Device.{Emits, Fetches, Fuse, is_blown};
 
 use crate::device::{DeviceFailed, Intake, Outlet};
@@ -52,6 +53,7 @@ impl<I: Intake> Intake for Fused<I> {
         ensures stays { self.old.failed ≡ true → self.new.failed ≡ true }
         ensures fetched { IfOk result
             (λ n. Fetches (I.left self.old.device) (I.left self.new.device) buffer.new n) }
+        ensures kept { OnErr result (Keeps (I.left self.old.device) (I.left self.new.device)) }
         ensures spent { self.old.calls ≡ 0 → IsErr result }
         ensures blown { is_blown self.old ≡ true → self.new ≡ record self.old { failed = true } }
         ensures passes { 0 < self.old.calls → self.old.failed ≡ false
@@ -80,6 +82,7 @@ impl<O: Outlet> Outlet for Fused<O> {
         ensures stays { self.old.failed ≡ true → self.new.failed ≡ true }
         ensures emitted { IfOk result
             (λ n. Emits (O.written self.old.device) (O.written self.new.device) bytes.now n) }
+        ensures kept { OnErr result (Keeps (O.written self.old.device) (O.written self.new.device)) }
         ensures spent { self.old.calls ≡ 0 → IsErr result }
         ensures blown { is_blown self.old ≡ true → self.new ≡ record self.old { failed = true } }
         ensures passes { 0 < self.old.calls → self.old.failed ≡ false

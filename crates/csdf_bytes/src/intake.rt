@@ -1,6 +1,6 @@
 //! A whole input, read from a device.
 
-ghost use Rattle.std.specs.Prelude.{◌≡◌, ◌↔◌, ◌<◌, ◌≤◌, true, false, Err, length, vec_len, IfOk, IfSome, OnOk};
+ghost use Rattle.std.specs.Prelude.{◌≡◌, ◌↔◌, ◌<◌, ◌≤◌, true, Err, length, vec_len, IfOk, IfSome, OnOk};
 ghost use Rattle.std.specs.Io.KnownBytes.{IsAtEnd};
 ghost use Rattle.csdf_bytes.specs.Device.{TakesAtMost};
 
@@ -39,8 +39,7 @@ pub fn read_bytes<I: Intake>(alloc: Global, reader: &mut I) -> Result<Vec<u8>, I
     ensures read { result ≡ Err InputFault.Read ↔ (I.failed reader.new ≡ true) }
     ensures long { result ≡ Err InputFault.TooLong
         → IfSome (I.left reader.old) (λ bytes. INPUT_LIMIT < length bytes) }
-    ensures few { I.failed reader.new ≡ false
-        → TakesAtMost 16777217 (I.left reader.old) (I.left reader.new) }
+    ensures few { TakesAtMost 16777217 (I.left reader.old) (I.left reader.new) }
 {
     let mut bytes = Vec::new(alloc);
     let mut buffer = [0; PIECE];

@@ -2,11 +2,12 @@
 
 ghost use Rattle.std.specs.Prelude.{◌≡◌, true, OnErr, OnOk};
 ghost use Rattle.std.specs.Io.KnownBytes.{Appends};
+ghost use Rattle.csdf_bytes.specs.Device.{EmitsSome};
 
 use crate::device::{DeviceFailed, Outlet};
 use thiserror::Error;
 
-/// The writer failed. How much went out before is not said.
+/// The writer failed. A beginning of the bytes went out before, which may be none of them.
 #[derive(Clone, Copy, Debug, PartialEq, Eq, Error)]
 #[error("the writer failed")]
 pub struct WriteFault;
@@ -15,6 +16,7 @@ pub struct WriteFault;
 pub fn write_bytes<O: Outlet>(writer: &mut O, bytes: &[u8]) -> Result<(), WriteFault>
     ensures written { OnOk result
         (Appends (O.written writer.old) (O.written writer.new) bytes.now) }
+    ensures begun { OnErr result (EmitsSome (O.written writer.old) (O.written writer.new) bytes.now) }
     ensures marked { OnErr result (O.failed writer.new ≡ true) }
     ensures unmarked { OnOk result (O.failed writer.new ≡ O.failed writer.old) }
 {

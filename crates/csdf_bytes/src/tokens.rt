@@ -3,7 +3,7 @@
 ghost use Rattle.std.specs.Prelude.{◌≡◌, ◌≢◌, ◌↔◌, ◌≤◌, true, false, Ok, Err, length, map, IfErr, IfOk, IfSome, OnErr, OnOk};
 ghost use Rattle.std.specs.Io.KnownBytes.{Appends, IsAtEnd};
 ghost use Rattle.std.specs.List.{after_first, before_first, position};
-ghost use Rattle.csdf_bytes.specs.Device.{TakesAtMost};
+ghost use Rattle.csdf_bytes.specs.Device.{EmitsSome, TakesAtMost};
 ghost use Rattle.csdf_bytes.specs.TokenText.{entry_of, is_newline, at_line, token_text, tokens_in, tokens_up_to, words_from};
 
 use crate::device::{Intake, Outlet};
@@ -47,8 +47,7 @@ pub fn read_tokens<I: Intake>(alloc: Global, reader: &mut I) -> Result<Vec<i32>,
         → IfSome (I.left reader.old) (λ bytes. tokens_in bytes ≡ Err fault)) }
     ensures read { result ≡ Err TokenFault.Read ↔ (I.failed reader.new ≡ true) }
     ensures whole { OnOk result (IsAtEnd (I.left reader.new)) }
-    ensures few { I.failed reader.new ≡ false
-        → TakesAtMost 16777217 (I.left reader.old) (I.left reader.new) }
+    ensures few { TakesAtMost 16777217 (I.left reader.old) (I.left reader.new) }
 {
     match read_bytes(alloc, reader) {
         Ok(bytes) => tokens_of(alloc, &bytes),
@@ -126,6 +125,8 @@ fn at_line(line: u32, fault: WordFault) -> TokenFault
 pub fn write_tokens<O: Outlet>(writer: &mut O, tokens: &[i32]) -> Result<(), WriteFault>
     ensures written { OnOk result
         (Appends (O.written writer.old) (O.written writer.new) (token_text tokens.now)) }
+    ensures begun { OnErr result
+        (EmitsSome (O.written writer.old) (O.written writer.new) (token_text tokens.now)) }
     ensures marked { OnErr result (O.failed writer.new ≡ true) }
     ensures unmarked { OnOk result (O.failed writer.new ≡ O.failed writer.old) }
 {

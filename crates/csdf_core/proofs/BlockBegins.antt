@@ -41,22 +41,22 @@ needs_none channels a k (suc n) e =
       needs_none channels a (suc k) n e,
     )
 
-none_found : (test : ℕ → Bool) (ns : List ℕ) → AllByRecursion (λ c. test c ≡ false) ns → find test ns ≡ None
+pub none_found : (test : ℕ → Bool) (ns : List ℕ) → AllByRecursion (λ c. test c ≡ false) ns → find test ns ≡ None
 none_found test [] all = refl
 none_found test (c ∷ ns) all = ap (λ (b : Bool). cond b (Some c) (find test ns)) all.0 ∙ none_found test ns all.1
 
-above : (a b : ℕ) → b < a → nat_le a b ≡ false
+pub above : (a b : ℕ) → b < a → nat_le a b ≡ false
 above a b lt = grind (arith, nat_tests)
 
-not_reached : (o : Option ℕ) (b n : ℕ) → IfSome o (λ most. b + suc n ≤ most) → is_reached o b ≡ false
+pub not_reached : (o : Option ℕ) (b n : ℕ) → IfSome o (λ most. b + suc n ≤ most) → is_reached o b ≡ false
 not_reached None b n h = refl
 not_reached (Some most) b n h = above most b (omega arith)
 
-dry_free : (b : Bool) (x y : ℕ) → (b ≡ true → y ≤ x) → (b && nat_lt x y) ≡ false
+pub dry_free : (b : Bool) (x y : ℕ) → (b ≡ true → y ≤ x) → (b && nat_lt x y) ≡ false
 dry_free true x y h = le-ltb x y (h refl)
 dry_free false x y h = refl
 
-and_none : (b c : Bool) → c ≡ false → (b && c) ≡ false
+pub and_none : (b c : Bool) → c ≡ false → (b && c) ≡ false
 and_none true c e = e
 and_none false c e = refl
 

@@ -30,7 +30,7 @@ use Rattle.csdf_core.proofs.Presents.{present_same}
 use Rattle.csdf_core.proofs.PortLemmas.{need_is}
 use Rattle.csdf_core.proofs.Runs.{plays_none}
 
-fewer : (o : Option ℕ) (b c n : ℕ) → c ≡ b + 1 → IfSome o (λ most. b + suc n ≤ most) → IfSome o (λ most. c + n ≤ most)
+pub fewer : (o : Option ℕ) (b c n : ℕ) → c ≡ b + 1 → IfSome o (λ most. b + suc n ≤ most) → IfSome o (λ most. c + n ≤ most)
 fewer None b c n e h = tt
 fewer (Some most) b c n e h = omega (arith, e, h)
 
@@ -414,7 +414,7 @@ plain_or_not channels a = elim (one_or_more (length (inputs_at channels a))) [
   ]
 ]
 
-machine_same : (m other : Machine) → m.now ≡ other.now → m.peaks ≡ other.peaks → m.sums ≡ other.sums → m.started ≡ other.started → m.kept ≡ other.kept
+pub machine_same : (m other : Machine) → m.now ≡ other.now → m.peaks ≡ other.peaks → m.sums ≡ other.sums → m.started ≡ other.started → m.kept ≡ other.kept
     → m.pool ≡ other.pool → m ≡ other
 machine_same m other e1 e2 e3 e4 e5 e6 = λ i. record { now = e1 i; peaks = e2 i; sums = e3 i; started = e4 i; kept = e5 i; pool = e6 i }
 

@@ -15,7 +15,7 @@ use Rattle.csdf_core.proofs.OnePhase.{same_need, same_takes}
 use Rattle.csdf_core.proofs.BlockTokens.{drop_sum}
 use Rattle.csdf_core.proofs.PortLemmas.{need_is}
 
-fronts_more : (amount : ℕ → ℕ) (ns : List ℕ) (c : ℕ) (f : ℕ → List ℤ) → fronts amount (ns ++ c ∷ []) f ≡ fronts amount ns f ++ take (amount c) (f c)
+pub fronts_more : (amount : ℕ → ℕ) (ns : List ℕ) (c : ℕ) (f : ℕ → List ℤ) → fronts amount (ns ++ c ∷ []) f ≡ fronts amount ns f ++ take (amount c) (f c)
 fronts_more amount [] c f = append-nil (take (amount c) (f c))
 fronts_more amount (d ∷ ns) c f =
     ap (λ (u : List ℤ). take (amount d) (f d) ++ u) (fronts_more amount ns c f)

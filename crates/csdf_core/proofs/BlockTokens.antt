@@ -28,7 +28,7 @@ left_at a k (x ∷ cs) [] c e lt = absurd (omega arith)
 left_at a k (x ∷ cs) (t ∷ ts) zero e lt = refl
 left_at a k (x ∷ cs) (t ∷ ts) (suc c) e lt = left_at a k cs ts c (omega arith) (omega arith)
 
-length-left : (a k : ℕ) (cs : List Channel) (ts : List (List ℤ)) → length ts ≡ length cs → length (left a k cs ts) ≡ length cs
+pub length-left : (a k : ℕ) (cs : List Channel) (ts : List (List ℤ)) → length ts ≡ length cs → length (left a k cs ts) ≡ length cs
 length-left a k [] [] e = refl
 length-left a k [] (t ∷ ts) e = absurd (omega arith)
 length-left a k (x ∷ cs) [] e = absurd (omega arith)

@@ -48,3 +48,6 @@ pub mod FewGifts
 pub mod OnePhase
 pub mod BlockReads
 pub mod GreatestBlocks
+pub mod FeedbackTokens
+pub mod FeedbackMoves
+pub mod FeedbackReads

@@ -20,7 +20,7 @@ rate_one rates j k e =
     let at : (i : ℕ) → i % length rates ≡ 0 = λ i. ap (λ l. i % l) e ∙ mod-one i in
     ap (λ i. get_or rates i 0) (at j ∙ sym (at k))
 
-take_is : (cs : List Channel) (k c : ℕ) → c < length cs → take_at cs k c ≡ rate (consume_at cs c) k
+pub take_is : (cs : List Channel) (k c : ℕ) → c < length cs → take_at cs k c ≡ rate (consume_at cs c) k
 take_is [] k c lt = absurd (omega arith)
 take_is (x ∷ cs) k zero lt = refl
 take_is (x ∷ cs) k (suc c) lt = take_is cs k c (omega arith)
@@ -30,7 +30,7 @@ give_is [] k c lt = absurd (omega arith)
 give_is (x ∷ cs) k zero lt = refl
 give_is (x ∷ cs) k (suc c) lt = give_is cs k c (omega arith)
 
-sum_same : (f g : ℕ → ℕ) (ns : List ℕ) → AllByRecursion (λ c. f c ≡ g c) ns → sum_by f ns ≡ sum_by g ns
+pub sum_same : (f g : ℕ → ℕ) (ns : List ℕ) → AllByRecursion (λ c. f c ≡ g c) ns → sum_by f ns ≡ sum_by g ns
 sum_same f g [] all = refl
 sum_same f g (c ∷ ns) all = omega (arith, sum_by-cons f c ns, sum_by-cons g c ns, all.0, sum_same f g ns all.1)
 
@@ -45,20 +45,23 @@ module _ (cs : List Channel) (a : ℕ) (has : HasPhases cs a 1) where
       (λ c (lt : c < length cs) (e : to_at cs c ≡ a).
       take_is cs j c lt ∙ rate_one (consume_at cs c) j k (has.takes c lt e) ∙ sym (take_is cs k c lt)) within own
 
+  pub same_gives : (j k : ℕ) → AllByRecursion (λ c. give_at cs j c ≡ give_at cs k c) (outputs_at cs a)
+  same_gives j k =
+      let ns : List ℕ = outputs_at cs a in
+      let within : AllByRecursion (λ c. c < length cs) ns =
+      recursion_from_All (λ c. c < length cs) ns (numbers_within (λ (c : Channel). c.from == a) cs) in
+      let own : AllByRecursion (λ c. from_at cs c ≡ a) ns = recursion_from_All (λ c. from_at cs c ≡ a) ns (numbers_own (λ (c : Channel). c.from) a cs) in
+      both ns
+      (λ c (lt : c < length cs) (e : from_at cs c ≡ a).
+      give_is cs j c lt ∙ rate_one (produce_at cs c) j k (has.gives c lt e) ∙ sym (give_is cs k c lt)) within own
+
   pub same_need : (j k : ℕ) → need a j cs ≡ need a k cs
   same_need j k =
       sym (need_is a j cs) ∙ sum_same (take_at cs j) (take_at cs k) (inputs_at cs a) (same_takes j k) ∙ need_is a k cs
 
   pub same_gift : (j k : ℕ) → gift a j cs ≡ gift a k cs
   same_gift j k =
-      let ns : List ℕ = outputs_at cs a in
-      let within : AllByRecursion (λ c. c < length cs) ns =
-      recursion_from_All (λ c. c < length cs) ns (numbers_within (λ (c : Channel). c.from == a) cs) in
-      let own : AllByRecursion (λ c. from_at cs c ≡ a) ns = recursion_from_All (λ c. from_at cs c ≡ a) ns (numbers_own (λ (c : Channel). c.from) a cs) in
-      let same : AllByRecursion (λ c. give_at cs j c ≡ give_at cs k c) ns = both ns
-      (λ c (lt : c < length cs) (e : from_at cs c ≡ a).
-      give_is cs j c lt ∙ rate_one (produce_at cs c) j k (has.gives c lt e) ∙ sym (give_is cs k c lt)) within own in
-      sym (gift_is a j cs) ∙ sum_same (give_at cs j) (give_at cs k) ns same ∙ gift_is a k cs
+      sym (gift_is a j cs) ∙ sum_same (give_at cs j) (give_at cs k) (outputs_at cs a) (same_gives j k) ∙ gift_is a k cs
 
   pub needs_times : (k n : ℕ) → needs_of cs a k n ≡ n * need a k cs
   needs_times k zero = omega arith

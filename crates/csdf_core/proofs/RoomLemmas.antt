@@ -65,7 +65,7 @@ was_at : (plan : Plan) (p : Present) (a : ℕ) (x : Stage) → stage p a ≡ x
 was_at plan p a x at = ap (λ s. reserved_at s (need a (count p a) plan.channels) (gift a (count p a) plan.channels)) at
 
 -- what a read takes out of all channels
-held-left : (a k : ℕ) (cs : List Channel) (ts : List (List ℤ)) → length ts ≡ length cs → AreThere a k cs ts
+pub held-left : (a k : ℕ) (cs : List Channel) (ts : List (List ℤ)) → length ts ≡ length cs → AreThere a k cs ts
     → sum_by length (left a k cs ts) + need a k cs ≡ sum_by length ts
 held-left a k [] [] e there = refl
 held-left a k [] (t ∷ ts) e there = absurd (omega arith)
@@ -84,7 +84,7 @@ held-left a k (c ∷ cs) (t ∷ ts) e there =
     )
 
 -- what a write puts into all channels
-held-joined : (a k : ℕ) (cs : List Channel) (ts : List (List ℤ)) (v : List ℤ) → length ts ≡ length cs → length v ≡ gift a k cs
+pub held-joined : (a k : ℕ) (cs : List Channel) (ts : List (List ℤ)) (v : List ℤ) → length ts ≡ length cs → length v ≡ gift a k cs
     → sum_by length (joined ts (shares a k cs v)) ≡ sum_by length ts + gift a k cs
 held-joined a k [] [] v e all = refl
 held-joined a k [] (t ∷ ts) v e all = absurd (omega arith)

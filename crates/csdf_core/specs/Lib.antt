@@ -19,3 +19,4 @@ pub mod Phases
 pub mod Sound
 pub mod Inside
 pub mod Blocks
+pub mod Feedback

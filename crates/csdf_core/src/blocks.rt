@@ -20,10 +20,10 @@ use csdf_pool::Pool;
 
 /// What so many firings of an actor move in all, and the firing after them.
 #[derive(Clone, Copy)]
-struct Ahead {
-    next: Turn,
-    needed: u64,
-    given: u64,
+pub(crate) struct Ahead {
+    pub(crate) next: Turn,
+    pub(crate) needed: u64,
+    pub(crate) given: u64,
 }
 
 /// What n firings of an actor of one phase move, from this one on: each as much as the first.
@@ -82,7 +82,7 @@ fn one_by_one(layout: &Layout, actor: u32, turn: Turn, n: u32) -> Ahead
 
 /// What n firings move, from this one on.
 #[inline(always)]
-fn look_ahead(layout: &Layout, actor: u32, turn: Turn, n: u32) -> Ahead
+pub(crate) fn look_ahead(layout: &Layout, actor: u32, turn: Turn, n: u32) -> Ahead
     requires actor { actor < length layout.now.sources }
     requires in_phase { IsInPhase layout.now.channels actor turn.firing turn.phase }
     requires low { turn.phase < 16 }
@@ -120,7 +120,7 @@ struct Span {
 }
 
 /// How many firings that each move so many tokens are possible where this many can be moved.
-fn times(tokens: u64, each: u64, most: u32) -> u32
+pub(crate) fn times(tokens: u64, each: u64, most: u32) -> u32
     ensures { result ≤ most }
 {
     if each == 0 {
@@ -399,7 +399,7 @@ impl Core {
     }
 
     /// Whether so many firings more may begin, of all actors together.
-    fn may_begin(&self, n: u32) -> bool
+    pub(crate) fn may_begin(&self, n: u32) -> bool
         ensures { IsTrue result ↔ IfSome self.now.plan.firings (λ most. begun_count self.now.now + n ≤ most) }
     {
         match self.layout.firings() {
@@ -409,7 +409,7 @@ impl Core {
     }
 
     /// Whether so many cells are neither held nor reserved.
-    fn has_cells(&self, given: u64) -> bool
+    pub(crate) fn has_cells(&self, given: u64) -> bool
         requires { given ≤ 8192 * 16_384_000 }
         ensures { IsTrue result ↔ held self.now.now + reserved self.now.plan self.now.now + given ≤ self.now.plan.cells }
     {

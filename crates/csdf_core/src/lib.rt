@@ -2,6 +2,7 @@
 #![tactic(auto)]
 
 mod blocks;
+mod feedback;
 mod filling;
 mod firing_core;
 mod first_refusal;
@@ -19,6 +20,7 @@ mod transfer;
 mod turn;
 
 pub use blocks::Block;
+pub use feedback::Feedback;
 pub use firing_core::Core;
 pub use laws::{
     ample_by_default, has_firings, has_period, phases_return, printed_is_period, runs_for_ever,

@@ -70,7 +70,7 @@ fn given_one_by_one(layout: &Layout, actor: u32, channel: u32, turn: Turn, n: u3
 }
 
 /// How many tokens n firings take of an input, from this one on.
-fn taken_of(layout: &Layout, actor: u32, channel: u32, turn: Turn, n: u32) -> u64
+pub(crate) fn taken_of(layout: &Layout, actor: u32, channel: u32, turn: Turn, n: u32) -> u64
     requires actor { actor < length layout.now.sources }
     requires channel { channel < length layout.now.channels }
     requires own { to_at layout.now.channels channel ≡ actor }
@@ -86,7 +86,7 @@ fn taken_of(layout: &Layout, actor: u32, channel: u32, turn: Turn, n: u32) -> u6
 }
 
 /// How many tokens n firings give to an output, from this one on.
-fn given_of(layout: &Layout, actor: u32, channel: u32, turn: Turn, n: u32) -> u64
+pub(crate) fn given_of(layout: &Layout, actor: u32, channel: u32, turn: Turn, n: u32) -> u64
     requires actor { actor < length layout.now.sources }
     requires channel { channel < length layout.now.channels }
     requires own { from_at layout.now.channels channel ≡ actor }

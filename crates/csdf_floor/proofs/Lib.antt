@@ -30,3 +30,4 @@ pub mod MostPeriods
 pub mod MadeFloors
 pub mod OneFirings
 pub mod MoreFirings
+pub mod LoopMakings

@@ -363,22 +363,23 @@ room_less each n i at most lt le =
     omega (arith, le, t, s)
 
 -- the book then
-pub book_fired : (keeps keeps2 : Bool) (w : Work) (core new : View) (journal moves2 : List Move) (sinks sinks2 reads : List (List ℤ)) (a n each : ℕ) (v : List ℤ)
-    → IsBook (floor_of keeps w core journal sinks) reads → HasPhases core.plan.channels a 1 → each ≡ gift a (count core.now a) core.plan.channels
-    → IsMade keeps2 w core new journal sinks reads a (count core.now a) n (get_or reads a []) v
-    → moves2 ≡ journal ++ alike_of a each n v → sinks2 ≡ sinks_after w sinks a (get_or reads a [])
+pub book_fired : (keeps keeps2 : Bool) (w : Work) (core new : View) (journal moves2 : List Move) (sinks sinks2 reads : List (List ℤ)) (a n each : ℕ)
+    (tokens v : List ℤ) → IsBook (floor_of keeps w core journal sinks) reads → HasPhases core.plan.channels a 1
+    → each ≡ gift a (count core.now a) core.plan.channels
+    → IsMade keeps2 w core new journal sinks reads a (count core.now a) n tokens v
+    → moves2 ≡ journal ++ alike_of a each n v → sinks2 ≡ sinks_after w sinks a tokens
     → IsBook (floor_of keeps2 w new moves2 sinks2) reads
-book_fired keeps keeps2 w core new journal moves2 sinks sinks2 reads a n each v b has e made is took =
+book_fired keeps keeps2 w core new journal moves2 sinks sinks2 reads a n each tokens v b has e made is took =
     let p : Program = program w in
     let k : ℕ = count core.now a in
-    let tokens : List ℤ = get_or reads a [] in
+    let kept : List ℤ = get_or reads a [] in
     let alike : alike_of a each n v ≡ firings_of p.plan.channels a k n v = alike_is core.plan.channels a each k n v has e
     ∙ ap (λ (u : Plan). firings_of u.channels a k n v) b.kept.plan in
-    let whole : IsBook (floor_of keeps2 w new (journal ++ firings_of p.plan.channels a k n v) (sinks_after w sinks a tokens)) (set reads a tokens) =
-    made.book tokens in
+    let whole : IsBook (floor_of keeps2 w new (journal ++ firings_of p.plan.channels a k n v) (sinks_after w sinks a tokens)) (set reads a kept) =
+    made.book kept in
     subst (λ (rs : List (List ℤ)). IsBook (floor_of keeps2 w new moves2 sinks2) rs) (set-get_or reads a [])
-    (subst (λ (ss : List (List ℤ)). IsBook (floor_of keeps2 w new moves2 ss) (set reads a tokens)) (sym took)
-    (subst (λ (js : List Move). IsBook (floor_of keeps2 w new js (sinks_after w sinks a tokens)) (set reads a tokens))
+    (subst (λ (ss : List (List ℤ)). IsBook (floor_of keeps2 w new moves2 ss) (set reads a kept)) (sym took)
+    (subst (λ (js : List Move). IsBook (floor_of keeps2 w new js (sinks_after w sinks a tokens)) (set reads a kept))
     (ap (λ (ms : List Move). journal ++ ms) (sym alike) ∙ sym is) whole))
 
 pub has_made : (keeps : Bool) (w : Work) (core new : View) (journal journal2 : JournalView) (sinks lists2 : ListsView) (reads : List (List ℤ)) (a n each : ℕ)

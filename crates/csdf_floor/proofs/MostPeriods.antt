@@ -5,7 +5,7 @@ use Rattle.std.specs.Prelude.{All}
 use Rattle.std.proofs.lemmas.List.Elements.{All-get_or, All-from_get_or}
 use Rattle.std.proofs.lemmas.Bool.Decides.{eqb_tells}
 use Rattle.csdf_analysis.specs.Acceptance.{Accepted, IsAccepted}
-use Rattle.csdf_floor.specs.Work.{HasFewFirings, IsMostPeriods}
+use Rattle.csdf_floor.specs.Work.{IsMostPeriods}
 use Rattle.csdf_floor.proofs.Works.{few_in_thousand}
 
 -- of one actor

@@ -1,8 +1,14 @@
 -- Several firings of one actor, made at once.
-use Rattle.std.specs.Prelude.{ℕ, zero, suc, ◌≡◌, ◌+◌, List, [], ◌∷◌, ◌++◌, ℤ, take, drop, slice_set, replicate}
+use Rattle.std.specs.Prelude.{ℕ, zero, suc, ◌≡◌, ◌+◌, ◌*◌, List, [], ◌∷◌, ◌++◌, ℤ, length, take, drop, slice_set, replicate}
+use Rattle.csdf_model.specs.declared.parts.Kernel.{Kernel}
+use Rattle.csdf_kernel.specs.Loop.{loop_values}
+use Rattle.csdf_core.specs.declared.feedback.Feedback.{Feedback}
+use Rattle.csdf_core.specs.Blocks.{needs_of, gifts_of}
+use Rattle.csdf_core.specs.Feedback.{AreReadWith, loop_reads}
+use Rattle.csdf_core.specs.Shows.{View}
 use Rattle.csdf_core.specs.Moves.{Move}
 use Rattle.csdf_core.specs.Moves.{Begin, Read, Write, Finish}
-use Rattle.csdf_core.specs.Rows.{need}
+use Rattle.csdf_core.specs.Rows.{need, gift}
 use Rattle.csdf_core.specs.Step.{count}
 use Rattle.csdf_core.specs.Ports.{outputs_at}
 use Rattle.csdf_core.specs.State.{present}
@@ -16,6 +22,23 @@ abbrev pub made_value : Program → ℕ → ℕ → ℕ → List ℤ → List �
 made_value w a k zero tokens = []
 made_value w a k (suc n) tokens =
     value w a k (take (need a k w.plan.channels) tokens) ++ made_value w a (suc k) n (drop (need a k w.plan.channels) tokens)
+
+-- v are the values of a kernel, over what a core's channels hold: a state and other tokens, which tell what the actor's next n firings read
+pub record AreLoopValues (core : View) (kernel : Kernel) (counts : List ℕ) (a n : ℕ) (f : Feedback) (v : List ℤ) : Type 0 where
+  pub state : List ℤ
+  pub others : List ℤ
+  pub state_long : length state ≡ f.taken
+  pub others_long : length others ≡ n * f.each
+  pub read : (u : List ℤ) → length u ≡ gifts_of core.plan.channels a (count core.now a) n → AreReadWith core.plan core.now a (count core.now a) n u
+      (loop_reads f.is_first f.each f.before (gift a (count core.now a) core.plan.channels) n state others u)
+  pub values : v ≡ loop_values kernel counts f.is_first f.each f.before n state others
+
+-- v are the kernel's own values of the actor's next n firings, which read these tokens when they write v
+pub record AreOwnValues (f : FloorView) (a n : ℕ) (v : List ℤ) : Type 0 where
+  pub tokens : List ℤ
+  pub long : length tokens ≡ needs_of f.core.plan.channels a (count f.core.now a) n
+  pub read : AreReadWith f.core.plan f.core.now a (count f.core.now a) n v tokens
+  pub just : v ≡ made_value (program f.work) a (count f.core.now a) n tokens
 
 -- the moves of n firings that each write so many of the tokens
 abbrev pub alike_of : ℕ → ℕ → ℕ → List ℤ → List Move

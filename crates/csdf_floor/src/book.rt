@@ -1,49 +1,45 @@
 //! A core, and the moves that brought it where it is.
 
-ghost use Rattle.std.specs.Prelude.{ℕ, ◌≡◌, ◌≢◌, ◌↔◌, IsTrue, All, ◌+◌, ◌<◌, ◌≤◌, [], ◌∷◌, None, true, false, pos, IfOk, OnOk, OnErr, IsOk, length, map};
-ghost use Rattle.std.specs.Prelude.{replicate, slice_range, suc, slice_index, slice_index_or, ◌*◌};
+ghost use Rattle.std.specs.Prelude.{ℕ, ◌≡◌, ◌↔◌, IsTrue, All, ◌+◌, ◌<◌, ◌≤◌, [], None, true, false, pos, IfOk, OnOk, IsOk, length, map};
+ghost use Rattle.std.specs.Prelude.{replicate, slice_range, suc, slice_index, slice_index_or};
 ghost use Rattle.std.specs.List.{range_with_len};
 ghost use Rattle.csdf_model.specs.declared.parts.Kernel.TheVariants.{Sink};
-ghost use Rattle.csdf_core.specs.declared.stage.Stage.TheVariants.{Idle, Begun, Fetched, Written};
-ghost use Rattle.csdf_core.specs.Blocks.{CanFire, AreReadEach, needs_of};
+ghost use Rattle.csdf_core.specs.declared.stage.Stage.TheVariants.{Idle, Fetched};
 ghost use Rattle.csdf_core.specs.Moves.{Begin, Read, Write, Finish, Close};
-ghost use Rattle.csdf_core.specs.Phases.{HasPhases};
 ghost use Rattle.csdf_core.specs.Plan.{Channel as ChannelModel};
 ghost use Rattle.csdf_core.specs.Ports.{outputs_at};
-ghost use Rattle.csdf_core.specs.Rows.{need, gift};
+ghost use Rattle.csdf_core.specs.Rows.{need};
 ghost use Rattle.csdf_core.specs.Shows.{Shows};
 ghost use Rattle.csdf_core.specs.State.{opening, present};
-ghost use Rattle.csdf_core.specs.Step.{count, given, is_source, stage, refusal, is_over, producer};
+ghost use Rattle.csdf_core.specs.Step.{count, given, stage, refusal, is_over, producer};
 ghost use Rattle.csdf_journal.specs.View.{is_kept};
 ghost use Rattle.csdf_kernel.specs.Value.{HasFilterInRange};
 ghost use Rattle.csdf_floor.specs.Journal.{IsHonest, inputs, output_counts, value, reads_of, state_of};
 ghost use Rattle.csdf_floor.specs.Work.{IsWork, program, feed_of, feeds_in, is_sink_kernel};
 ghost use Rattle.csdf_floor.specs.Floor.{IsUnderWay, task_of};
 ghost use Rattle.csdf_floor.specs.Outcome.{report_of, report_on};
-ghost use Rattle.csdf_floor.specs.Making.{HasMade, made_moves, made_value};
 ghost use Rattle.csdf_floor.specs.Inside.{AreClosed, HasGiven, HasRoom, HasTaken, IsBook, IsNext, is_due};
 
 use crate::certain;
 use crate::jobs::{blank, refill};
 use crate::lists::Lists;
-use crate::making::note_firings;
 use crate::outcome::ChannelReport;
 use crate::same::{are_same_tokens, is_same_kernel};
 use crate::work::Work;
-use csdf_core::{Block, Core, Stage};
+use csdf_core::{Core, Stage};
 use csdf_journal::{Journal, Keeping};
-use csdf_kernel::{Counts, Inputs, Job, Outputs, eval_block};
+use csdf_kernel::{Counts, Inputs, Job};
 use csdf_model::Kernel;
 use std::alloc::{AllocError, Global};
 use std::marker::Model;
 
 /// What is run, its core, the moves that brought the core where it is, and what the sinks took.
 pub(crate) struct Book {
-    work: Work,
-    core: Core,
-    journal: Journal,
-    sinks: Lists,
-    reads: Vec<Vec<i32>>,
+    pub(crate) work: Work,
+    pub(crate) core: Core,
+    pub(crate) journal: Journal,
+    pub(crate) sinks: Lists,
+    pub(crate) reads: Vec<Vec<i32>>,
 }
 
 impl Drop for Book {
@@ -172,7 +168,7 @@ impl Book {
     }
 
     /// Makes room for a copy of so many tokens, those of the next move where it is a write.
-    fn reserve_copy(&mut self, alloc: Global, tokens: usize) -> Result<(), AllocError>
+    pub(crate) fn reserve_copy(&mut self, alloc: Global, tokens: usize) -> Result<(), AllocError>
         ensures shown { self.new.shown ≡ self.old.shown }
         ensures rooms { self.new.rooms ≡ self.old.rooms }
         ensures reads { self.new.reads ≡ self.old.reads }
@@ -325,404 +321,6 @@ impl Book {
         let _ = &self.work;
         self.write(actor, tokens);
         self.finish(actor);
-    }
-
-    /// Makes the buffer of the actor, which is idle, this long.
-    fn fit_length(&mut self, actor: u32, needed: usize) -> Result<(), AllocError>
-        requires exists { actor < length self.old.shown.core.plan.sources }
-        requires idle { stage self.old.shown.core.now actor ≡ Idle }
-        ensures shown { self.new.shown ≡ self.old.shown }
-        ensures rooms { self.new.rooms ≡ self.old.rooms }
-        ensures room { self.new.room ≡ self.old.room }
-        ensures buffer { OnOk result (length (slice_index_or self.new.reads actor []) ≡ needed) }
-    {
-        self.reads[actor as usize].resize(needed, 0)
-    }
-
-    /// Makes room in the actor's list, where it is a sink, for so many tokens.
-    fn reserve_taken(&mut self, actor: u32, needed: usize) -> Result<(), AllocError>
-        requires { actor < length self.old.shown.core.plan.sources }
-        ensures shown { self.new.shown ≡ self.old.shown }
-        ensures reads { self.new.reads ≡ self.old.reads }
-        ensures room { self.new.room ≡ self.old.room }
-        ensures sink { OnOk result (is_sink_kernel (slice_index_or (program self.old.shown.work).kernels actor Sink) ≡ true
-            → needed ≤ slice_index self.new.rooms actor) }
-    {
-        if !self.work.is_sink(actor) {
-            return Ok(());
-        }
-        self.sinks.reserve(actor, needed)
-    }
-
-    /// Copies what the actor's next n firings read into its buffer, which is as long.
-    fn peek(&mut self, actor: u32, n: u32)
-        requires can { CanFire self.old.shown.core.plan self.old.shown.core.now actor n }
-        requires buffer { length (slice_index_or self.old.reads actor [])
-            ≡ needs_of self.old.shown.core.plan.channels actor (count self.old.shown.core.now actor) n }
-        ensures shown { self.new.shown ≡ self.old.shown }
-        ensures rooms { self.new.rooms ≡ self.old.rooms }
-        ensures room { self.new.room ≡ self.old.room }
-        ensures width { self.new.width ≡ self.old.width }
-        ensures buffer { length (slice_index_or self.new.reads actor []) ≡ length (slice_index_or self.old.reads actor []) }
-        ensures read { AreReadEach self.old.shown.core.plan self.old.shown.core.now actor (count self.old.shown.core.now actor) n
-            (slice_index_or self.new.reads actor []) }
-    {
-        let buffer = &mut self.reads[actor as usize];
-        self.core.peek(actor, n, buffer.as_mut_slice());
-    }
-
-    /// The kernel's values of the actor's next n firings, which read what is in its buffer, in the
-    /// place of what the outputs hold. The actor is no source.
-    fn values_into(
-        &self,
-        actor: u32,
-        n: u32,
-        counts: &mut Counts,
-        outputs: &mut Outputs,
-    ) -> Result<(), AllocError>
-        requires exists { actor < length self.now.shown.core.plan.sources }
-        requires other { is_source (program self.now.shown.work).plan actor ≡ false }
-        requires phases { HasPhases self.now.shown.core.plan.channels actor 1 }
-        requires buffer { length (slice_index_or self.now.reads actor [])
-            ≡ needs_of self.now.shown.core.plan.channels actor (count self.now.shown.core.now actor) n }
-        ensures { OnOk result (outputs.new.items ≡ made_value (program self.now.shown.work) actor (count self.now.shown.core.now actor) n
-            (slice_index_or self.now.reads actor [])) }
-    {
-        self.work
-            .counts_into(actor, self.core.fired(actor), counts)?;
-        let kernel = self.work.kernel(actor);
-        let need = self.core.need(actor);
-        let buffer = &self.reads[actor as usize];
-        eval_block(kernel, counts.as_slice(), need, n, buffer, outputs)
-    }
-
-    /// The kernel's values of the next n firings of a source, which are there in its file, in the place
-    /// of what the outputs hold.
-    fn feed_values_into(
-        &self,
-        actor: u32,
-        n: u32,
-        counts: &mut Counts,
-        outputs: &mut Outputs,
-    ) -> Result<(), AllocError>
-        requires can { CanFire self.now.shown.core.plan self.now.shown.core.now actor n }
-        requires source { is_source (program self.now.shown.work).plan actor ≡ true }
-        requires phases { HasPhases self.now.shown.core.plan.channels actor 1 }
-        ensures { OnOk result (outputs.new.items ≡ made_value (program self.now.shown.work) actor (count self.now.shown.core.now actor) n
-            (slice_index_or self.now.reads actor [])) }
-    {
-        self.work
-            .counts_into(actor, self.core.fired(actor), counts)?;
-        let kernel = self.work.kernel(actor);
-        let each = self.core.gives(actor);
-        let used = self.core.written(actor) as usize;
-        let feed = self.work.part(actor, used, n as usize * each);
-        eval_block(kernel, counts.as_slice(), each, n, feed, outputs)
-    }
-
-    /// The kernel's values of the actor's next n firings, whose tokens are in its buffer.
-    fn block_values_into(
-        &self,
-        actor: u32,
-        n: u32,
-        counts: &mut Counts,
-        outputs: &mut Outputs,
-    ) -> Result<(), AllocError>
-        requires can { CanFire self.now.shown.core.plan self.now.shown.core.now actor n }
-        requires phases { HasPhases self.now.shown.core.plan.channels actor 1 }
-        requires buffer { length (slice_index_or self.now.reads actor [])
-            ≡ needs_of self.now.shown.core.plan.channels actor (count self.now.shown.core.now actor) n }
-        ensures { OnOk result (outputs.new.items ≡ made_value (program self.now.shown.work) actor (count self.now.shown.core.now actor) n
-            (slice_index_or self.now.reads actor [])) }
-    {
-        if self.work.is_source(actor) {
-            return self.feed_values_into(actor, n, counts, outputs);
-        }
-        self.values_into(actor, n, counts, outputs)
-    }
-
-    /// Makes the actor's next n firings, each of which writes so many tokens: the kernel's values of
-    /// what is in the actor's buffer, which is what they read.
-    fn fire(&mut self, actor: u32, n: u32, each: usize, tokens: &[i32])
-        requires can { CanFire self.old.shown.core.plan self.old.shown.core.now actor n }
-        requires phases { HasPhases self.old.shown.core.plan.channels actor 1 }
-        requires each { each ≡ gift actor (count self.old.shown.core.now actor) self.old.shown.core.plan.channels }
-        requires keeps { self.old.shown.keeps ≡ false }
-        requires room { 4 * n ≤ self.old.room }
-        requires width { each ≤ self.old.width }
-        requires buffer { length (slice_index_or self.old.reads actor [])
-            ≡ needs_of self.old.shown.core.plan.channels actor (count self.old.shown.core.now actor) n }
-        requires read { AreReadEach self.old.shown.core.plan self.old.shown.core.now actor (count self.old.shown.core.now actor) n
-            (slice_index_or self.old.reads actor []) }
-        requires sink { is_sink_kernel (slice_index_or (program self.old.shown.work).kernels actor Sink) ≡ true
-            → needs_of self.old.shown.core.plan.channels actor (count self.old.shown.core.now actor) n ≤ slice_index self.old.rooms actor }
-        requires just { tokens.now ≡ made_value (program self.old.shown.work) actor (count self.old.shown.core.now actor) n
-            (slice_index_or self.old.reads actor []) }
-        ensures made { HasMade self.old.shown self.new.shown actor n (made_moves self.old.shown actor n) }
-        ensures room { self.old.room ≤ self.new.room + 4 * n }
-    {
-        self.core.fire(actor, n, tokens);
-        let is_sink = self.work.is_sink(actor);
-        let taken = &self.reads[actor as usize];
-        self.sinks.append_where(is_sink, actor, taken);
-        note_firings(&mut self.journal, actor, n, each, tokens);
-    }
-
-    /// How many of its next firings the actor can make at once, at most so many: 0 where the journal
-    /// is kept, and for an actor of several phases or with a channel to itself.
-    pub(crate) fn block(&self, actor: u32, most: u32) -> Block
-        requires { actor < length self.now.shown.core.plan.sources }
-        ensures most { result.firings ≤ most }
-        ensures can { 0 < result.firings → CanFire self.now.shown.core.plan self.now.shown.core.now actor result.firings }
-        ensures needed { 0 < result.firings → result.needed
-            ≡ needs_of self.now.shown.core.plan.channels actor (count self.now.shown.core.now actor) result.firings }
-        ensures keeps { 0 < result.firings → self.now.shown.keeps ≡ false }
-        ensures phases { 0 < result.firings → HasPhases self.now.shown.core.plan.channels actor 1 }
-    {
-        if self.journal.keeps() || !self.core.has_one_phase(actor) {
-            return Block {
-                firings: 0,
-                needed: 0,
-                given: 0,
-            };
-        }
-        self.core.block(actor, most)
-    }
-
-    /// Makes room for the actor's next n firings, which read so many tokens, and the closing of its
-    /// outputs.
-    fn make_room_for(
-        &mut self,
-        alloc: Global,
-        actor: u32,
-        n: u32,
-        needed: usize,
-    ) -> Result<(), AllocError>
-        requires exists { actor < length self.old.shown.core.plan.sources }
-        requires idle { stage self.old.shown.core.now actor ≡ Idle }
-        ensures shown { self.new.shown ≡ self.old.shown }
-        ensures buffer { OnOk result (length (slice_index_or self.new.reads actor []) ≡ needed) }
-        ensures sink { OnOk result (is_sink_kernel (slice_index_or (program self.old.shown.work).kernels actor Sink) ≡ true
-            → needed ≤ slice_index self.new.rooms actor) }
-        ensures width { OnOk result (gift actor (count self.old.shown.core.now actor) self.old.shown.core.plan.channels ≤ self.new.width) }
-        ensures room { OnOk result (4 * n + length (outputs_at self.old.shown.core.plan.channels actor) ≤ self.new.room) }
-        ensures greater { self.old.room ≤ self.new.room }
-    {
-        self.fit_length(actor, needed)?;
-        self.reserve_taken(actor, needed)?;
-        let each = self.core.gives(actor);
-        let closes = self.output_count(actor);
-        self.reserve_copy(alloc, each)?;
-        self.reserve(4 * n as usize + closes)
-    }
-
-    /// Makes the actor's next n firings at once, which read so many tokens.
-    pub(crate) fn make(
-        &mut self,
-        actor: u32,
-        n: u32,
-        needed: usize,
-        counts: &mut Counts,
-        outputs: &mut Outputs,
-    ) -> Result<(), AllocError>
-        requires can { CanFire self.old.shown.core.plan self.old.shown.core.now actor n }
-        requires needed { needed ≡ needs_of self.old.shown.core.plan.channels actor (count self.old.shown.core.now actor) n }
-        requires keeps { self.old.shown.keeps ≡ false }
-        requires phases { HasPhases self.old.shown.core.plan.channels actor 1 }
-        ensures made { OnOk result (HasMade self.old.shown self.new.shown actor n (made_moves self.old.shown actor n)) }
-        ensures room { OnOk result (length (outputs_at self.old.shown.core.plan.channels actor) ≤ self.new.room) }
-        ensures unchanged { OnErr result (self.new.shown ≡ self.old.shown) }
-        ensures room_stays { OnErr result (self.old.room ≤ self.new.room) }
-    {
-        self.make_room_for(*outputs.allocator(), actor, n, needed)?;
-        self.peek(actor, n);
-        self.block_values_into(actor, n, counts, outputs)?;
-        let each = self.core.gives(actor);
-        self.fire(actor, n, each, outputs.as_slice());
-        Ok(())
-    }
-
-    /// What the actor's present firing computes from.
-    fn firing_inputs(&self, actor: u32) -> &[i32]
-        requires exists { actor < length self.now.shown.core.plan.sources }
-        requires few { length (slice_index_or self.now.reads actor []) ≤ 8192 }
-        ensures value { result.now ≡ inputs (program self.now.shown.work) actor (count self.now.shown.core.now actor)
-            (slice_index_or self.now.reads actor []) }
-        ensures few { length result.now ≤ 8192 }
-    {
-        if self.work.is_source(actor) {
-            return self.feed_part(actor);
-        }
-        &self.reads[actor as usize]
-    }
-
-    /// The kernel's value of the actor's present firing, which has read what is in its buffer, in the
-    /// place of what the outputs hold: they have room for it.
-    fn value_into(&self, actor: u32, counts: &Counts, outputs: &mut Outputs)
-        requires exists { actor < length self.now.shown.core.plan.sources }
-        requires counts { counts.now.items ≡ output_counts (program self.now.shown.work) actor (count self.now.shown.core.now actor) }
-        requires few_counts { length counts.now.items ≤ 128 }
-        requires small_counts { All (λ n. n ≤ 64) counts.now.items }
-        requires few { length (slice_index_or self.now.reads actor []) ≤ 8192 }
-        requires room { gift actor (count self.now.shown.core.now actor) self.now.shown.core.plan.channels ≤ outputs.old.capacity }
-        ensures { outputs.new.items ≡ value (program self.now.shown.work) actor (count self.now.shown.core.now actor)
-            (slice_index_or self.now.reads actor []) }
-    {
-        let kernel = self.work.kernel(actor);
-        let inputs = self.firing_inputs(actor);
-        let need = inputs.len();
-        match eval_block(kernel, counts.as_slice(), need, 1, inputs, outputs) {
-            Ok(()) => {}
-            Err(_error) => unreachable!(),
-        }
-    }
-
-    /// All that the actor's next firing asks for: its counts, and room for its value, its moves and the
-    /// closing of its outputs.
-    fn prepare_one(
-        &mut self,
-        actor: u32,
-        counts: &mut Counts,
-        outputs: &mut Outputs,
-    ) -> Result<(), AllocError>
-        requires exists { actor < length self.old.shown.core.plan.sources }
-        requires idle { stage self.old.shown.core.now actor ≡ Idle }
-        ensures shown { self.new.shown ≡ self.old.shown }
-        ensures room { OnOk result (HasRoom self.new actor) }
-        ensures need { OnOk result (length (slice_index_or self.new.reads actor []) ≤ 8192) }
-        ensures moves { OnOk result (4 + length (outputs_at self.old.shown.core.plan.channels actor) ≤ self.new.room) }
-        ensures greater { self.old.room ≤ self.new.room }
-        ensures width { OnOk result (gift actor (count self.old.shown.core.now actor) self.old.shown.core.plan.channels ≤ self.new.width) }
-        ensures counts { OnOk result (counts.new.items ≡ output_counts (program self.old.shown.work) actor (count self.old.shown.core.now actor)) }
-        ensures few_counts { OnOk result (length counts.new.items ≤ 128) }
-        ensures small_counts { OnOk result (All (λ n. n ≤ 64) counts.new.items) }
-        ensures outputs { OnOk result (gift actor (count self.old.shown.core.now actor) self.old.shown.core.plan.channels ≤ outputs.new.capacity) }
-    {
-        self.counts_into(actor, counts)?;
-        let each = self.core.gives(actor);
-        outputs.clear();
-        outputs.reserve(each)?;
-        let needed = self.core.need(actor);
-        self.make_room_for(*outputs.allocator(), actor, 1, needed)
-    }
-
-    /// Makes the actor's next firing, which may begin: the four moves one by one.
-    pub(crate) fn make_one(
-        &mut self,
-        actor: u32,
-        counts: &mut Counts,
-        outputs: &mut Outputs,
-    ) -> Result<(), AllocError>
-        requires exists { actor < length self.old.shown.core.plan.sources }
-        requires idle { stage self.old.shown.core.now actor ≡ Idle }
-        requires accepted { refusal self.old.shown.core.plan self.old.shown.core.now (Begin actor) ≡ None }
-        ensures made { OnOk result (HasMade self.old.shown self.new.shown actor 1 (made_moves self.old.shown actor 1)) }
-        ensures room { OnOk result (length (outputs_at self.old.shown.core.plan.channels actor) ≤ self.new.room) }
-        ensures unchanged { OnErr result (self.new.shown ≡ self.old.shown) }
-        ensures room_stays { OnErr result (self.old.room ≤ self.new.room) }
-    {
-        let _ = &self.work;
-        self.prepare_one(actor, counts, outputs)?;
-        self.take(actor);
-        self.value_into(actor, counts, outputs);
-        self.give(actor, outputs.as_slice());
-        Ok(())
-    }
-
-    /// Whether the actor's next firing may begin.
-    fn may_begin(&self, actor: u32) -> bool
-        ensures { IsTrue result ↔ (refusal self.now.shown.core.plan self.now.shown.core.now (Begin actor) ≡ None) }
-    {
-        let _ = &self.work;
-        self.core.can_begin(actor).is_ok()
-    }
-
-    /// Makes the actor's next firing and tells 1, or 0 where none more is wanted, it may not begin, or memory
-    /// runs out: then nothing is made.
-    fn make_more(
-        &mut self,
-        actor: u32,
-        most: u32,
-        counts: &mut Counts,
-        outputs: &mut Outputs,
-    ) -> u32
-        requires exists { actor < length self.old.shown.core.plan.sources }
-        requires idle { stage self.old.shown.core.now actor ≡ Idle }
-        requires room { length (outputs_at self.old.shown.core.plan.channels actor) ≤ self.old.room }
-        ensures most { result ≤ most }
-        ensures made { HasMade self.old.shown self.new.shown actor result (made_moves self.old.shown actor result) }
-        ensures room { length (outputs_at self.old.shown.core.plan.channels actor) ≤ self.new.room }
-        ensures before { IsHonest (program self.old.shown.work) self.old.shown.journal }
-    {
-        let _ = &self.work;
-        if most == 0 || !self.may_begin(actor) {
-            return 0;
-        }
-        match self.make_one(actor, counts, outputs) {
-            Ok(()) => 1,
-            Err(_error) => 0,
-        }
-    }
-
-    /// Makes the actor's next firings one by one, of which the first may begin, until so many are made or
-    /// the next one may not begin. It makes fewer where memory runs out after the first.
-    fn make_singly(
-        &mut self,
-        actor: u32,
-        most: u32,
-        counts: &mut Counts,
-        outputs: &mut Outputs,
-    ) -> Result<u32, AllocError>
-        requires exists { actor < length self.old.shown.core.plan.sources }
-        requires idle { stage self.old.shown.core.now actor ≡ Idle }
-        requires accepted { refusal self.old.shown.core.plan self.old.shown.core.now (Begin actor) ≡ None }
-        requires some { 0 < most }
-        ensures some { IfOk result (λ n. 0 < n) }
-        ensures most { IfOk result (λ n. n ≤ most) }
-        ensures made { IfOk result (λ n. HasMade self.old.shown self.new.shown actor n (made_moves self.old.shown actor n)) }
-        ensures room { OnOk result (length (outputs_at self.old.shown.core.plan.channels actor) ≤ self.new.room) }
-        ensures unchanged { OnErr result (self.new.shown ≡ self.old.shown) }
-    {
-        let _ = &self.work;
-        self.make_one(actor, counts, outputs)?;
-        let mut made = 1;
-        for _firing in 1..most {
-            let more = self.make_more(actor, most - made, counts, outputs);
-            if more == 0 {
-                break;
-            }
-            made += more;
-        }
-        Ok(made)
-    }
-
-    /// Makes the actor's next firings, of which the first may begin, until so many are made or the next
-    /// one may not begin: as one block, or one by one where no block can be had, and then fewer where
-    /// memory runs out after the first.
-    pub(crate) fn make_many(
-        &mut self,
-        actor: u32,
-        most: u32,
-        counts: &mut Counts,
-        outputs: &mut Outputs,
-    ) -> Result<u32, AllocError>
-        requires exists { actor < length self.old.shown.core.plan.sources }
-        requires idle { stage self.old.shown.core.now actor ≡ Idle }
-        requires accepted { refusal self.old.shown.core.plan self.old.shown.core.now (Begin actor) ≡ None }
-        requires some { 0 < most }
-        ensures some { IfOk result (λ n. 0 < n) }
-        ensures most { IfOk result (λ n. n ≤ most) }
-        ensures made { IfOk result (λ n. HasMade self.old.shown self.new.shown actor n (made_moves self.old.shown actor n)) }
-        ensures room { OnOk result (length (outputs_at self.old.shown.core.plan.channels actor) ≤ self.new.room) }
-        ensures unchanged { OnErr result (self.new.shown ≡ self.old.shown) }
-    {
-        let block = self.block(actor, most);
-        let n = block.firings;
-        if n == 0 {
-            return self.make_singly(actor, most, counts, outputs);
-        }
-        self.make(actor, n, block.needed as usize, counts, outputs)?;
-        Ok(n)
     }
 
     /// Closes the channel, whose producer is idle and makes no firing more.
@@ -898,7 +496,7 @@ impl Book {
     }
 
     /// The part of its feed that the next firing of a source computes from.
-    fn feed_part(&self, actor: u32) -> &[i32]
+    pub(crate) fn feed_part(&self, actor: u32) -> &[i32]
         requires { actor < length self.now.shown.core.plan.sources }
         ensures value { result.now ≡ slice_range (feed_of self.now.shown.work.feeds actor)
             (given (program self.now.shown.work).plan actor (count self.now.shown.core.now actor))

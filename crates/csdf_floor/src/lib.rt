@@ -11,6 +11,7 @@ mod jobs;
 mod laws;
 mod limits;
 mod lists;
+mod looping;
 mod making;
 mod outcome;
 mod printed;
@@ -18,7 +19,6 @@ mod same;
 mod settling;
 mod work;
 
-pub use csdf_journal::{Journal, Keeping};
 pub use ending::Ending;
 pub use fault::{DeliverFault, RunFault, StartFault};
 pub use floor::Floor;

@@ -1,4 +1,4 @@
-//! Cyclo-static dataflow graphs: graph files, scripts, token files and devices.
+//! Graph files: graphs, and the scripts of moves that they may hold.
 #![tactic(auto)]
 
 mod checks;
@@ -14,12 +14,6 @@ mod script_text;
 mod shape;
 mod tree;
 
-pub use csdf_bytes::{
-    DeviceFailed, FromReader, Fused, INPUT_LIMIT, InputFault, Intake, Outlet, Slice, TOKEN_LIMIT,
-    ToWriter, TokenFault, WordFault, WriteFault, read_bytes, read_tokens, token_of, write_bytes,
-    write_tokens, written_tokens_read_back,
-};
-pub use csdf_model::{Actor, Channel, Graph, Kernel, rate, total};
 pub use fault::{At, GraphFault};
 pub use graph_and_script::{GraphAndScript, read_graph_and_script};
 pub use names::is_name;

@@ -1,6 +1,7 @@
 -- The definitions at worked examples.
-use Rattle.std.proofs.Common.{◌≡◌, [], ◌∷◌, pos, negsuc, refl}
+use Rattle.std.proofs.Common.{◌≡◌, true, false, [], ◌∷◌, pos, negsuc, refl}
 use Rattle.csdf_model.specs.declared.parts.Kernel.TheVariants.{Copy, Sum, Fir}
+use Rattle.csdf_kernel.specs.Loop.{loop_values}
 use Rattle.csdf_kernel.specs.Value.{places, clamp, floor, copy_token, convolution, filter_token, value_of}
 
 sum_at_the_top : value_of Sum (2 ∷ []) (pos 2147483647 ∷ pos 1 ∷ []) ≡ pos 2147483647 ∷ pos 2147483647 ∷ []
@@ -34,3 +35,15 @@ filtered_by_sixteen : value_of
     ≡ pos 187 ∷ pos 204 ∷ []
 unfolding value_of filter_token convolution places clamp floor
 filtered_by_sixteen = refl
+
+-- a running sum of 1, 2, 3, whose state begins with 0 and is read last: each firing writes it to itself and to another channel
+summed_on : loop_values Sum (1 ∷ 1 ∷ []) false 1 0 3 (pos 0 ∷ []) (pos 1 ∷ pos 2 ∷ pos 3 ∷ [])
+    ≡ pos 1 ∷ pos 1 ∷ pos 3 ∷ pos 3 ∷ pos 6 ∷ pos 6 ∷ []
+unfolding value_of clamp
+summed_on = refl
+
+-- one token out, and behind it two that are read first by the next firing: 1, 2 and 10 give 13, 13, 13
+kept_behind : loop_values Sum (1 ∷ 2 ∷ []) true 1 1 2 (pos 1 ∷ pos 2 ∷ []) (pos 10 ∷ pos 20 ∷ [])
+    ≡ pos 13 ∷ pos 13 ∷ pos 13 ∷ pos 46 ∷ pos 46 ∷ pos 46 ∷ []
+unfolding value_of clamp
+kept_behind = refl

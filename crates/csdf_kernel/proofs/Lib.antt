@@ -2,3 +2,4 @@ pub mod PlaceLemmas
 pub mod NumberLemmas
 pub mod ValueLemmas
 pub mod Examples
+pub mod LoopLemmas

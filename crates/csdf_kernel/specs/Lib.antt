@@ -1,2 +1,3 @@
 pub mod Filter
 pub mod Value
+pub mod Loop

@@ -7,12 +7,14 @@ ghost use Rattle.csdf_kernel.specs.Value.{value_of, values_of, HasFilterInRange}
 
 mod channels;
 mod filter;
+mod looping;
 mod numbers;
 mod outputs;
 mod small;
 
 pub use channels::push_same;
 use csdf_model::Kernel;
+pub use looping::eval_loop;
 pub use outputs::Outputs;
 use outputs::{outputs_into, values_into};
 use smallvec::SmallVec;

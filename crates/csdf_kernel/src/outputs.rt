@@ -14,7 +14,7 @@ use std::alloc::AllocError;
 pub type Outputs = SmallVec<i32, 16>;
 
 /// How many tokens the counts add up to.
-fn total_of(counts: &[u32]) -> usize
+pub(crate) fn total_of(counts: &[u32]) -> usize
     requires { sum counts.now < 2 ^ 32 }
     ensures { result ≡ sum counts.now }
 {
@@ -23,7 +23,7 @@ fn total_of(counts: &[u32]) -> usize
 
 /// The kernel's value, at the end of a list that has room for it.
 #[tactic(auto, unfolding(crate::specs::Value::value_of))]
-fn push_value(outputs: &mut Outputs, kernel: &Kernel, counts: &[u32], inputs: &[i32])
+pub(crate) fn push_value(outputs: &mut Outputs, kernel: &Kernel, counts: &[u32], inputs: &[i32])
     requires few_counts { length counts.now ≤ 128 }
     requires small_counts { All (λ count. count ≤ 64) counts.now }
     requires few_inputs { length inputs.now ≤ 8192 }
@@ -52,7 +52,7 @@ fn push_value(outputs: &mut Outputs, kernel: &Kernel, counts: &[u32], inputs: &[
 /// Room for so many tokens in the place of what the list holds, which is let go.
 ///
 /// An error says that memory ran out; then the list is as it was.
-fn make_room(outputs: &mut Outputs, count: usize) -> Result<(), AllocError>
+pub(crate) fn make_room(outputs: &mut Outputs, count: usize) -> Result<(), AllocError>
     ensures room { OnOk result (HasRoomFor outputs.new count) }
     ensures items { OnOk result (outputs.new.items ≡ []) }
     ensures unchanged { OnErr result (outputs.new ≡ outputs.old) }

@@ -1,17 +1,14 @@
 //! Actors that no channels join.
 
 use crate::misfit::{entries_at, table_at};
-use crate::names::name_of;
+use crate::names::{first_named, name_of};
 use csdf_graph::At;
 use std::alloc::{AllocError, Global};
 use toml::{Table, Value};
 
 /// The number of the actor at this end of a channel, where there is one.
 fn actor_at(file: &Table, channel: &Value, end: &str) -> Option<usize> {
-    let name = channel.get(end)?.as_str()?;
-    entries_at(file, "actor")
-        .iter()
-        .position(|actor| name_of(actor.as_table()) == Some(name))
+    first_named(entries_at(file, "actor"), channel.get(end)?.as_str()?)
 }
 
 /// Marks the actor with this number.

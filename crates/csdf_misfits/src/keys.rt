@@ -1,6 +1,6 @@
 //! The keys of each table, and the first that is missing, of the wrong kind or unknown.
 
-use crate::misfit::{Found, Misfit, Wanted, entries_at, table_at};
+use crate::misfit::{Found, Misfit, Wanted, entries_at, table_at, text_at};
 use csdf_graph::At;
 use toml::{Table, Value};
 
@@ -236,11 +236,7 @@ impl Key {
 fn unfit(table: &Table, keys: &[Key]) -> Option<Misfit<'static>> {
     for key in keys {
         if let Some(found) = key.found(table) {
-            return Some(Misfit {
-                key: key.name,
-                found,
-                wanted: Wanted::Words(key.holds.words()),
-            });
+            return Some(Misfit::new(key.name, found, key.holds.words()));
         }
     }
     None
@@ -250,11 +246,8 @@ fn unfit(table: &Table, keys: &[Key]) -> Option<Misfit<'static>> {
 fn superfluous(table: &Table) -> Option<Misfit<'static>> {
     for key in ["weights", "shift"] {
         if table.get(key).is_some() {
-            return Some(Misfit {
-                key,
-                found: Found::Unlisted,
-                wanted: Wanted::Words("it only where kernel is \"fir\""),
-            });
+            let words = "it only where kernel is \"fir\"";
+            return Some(Misfit::new(key, Found::Unlisted, words));
         }
     }
     None
@@ -264,26 +257,35 @@ fn superfluous(table: &Table) -> Option<Misfit<'static>> {
 fn lacking(table: &Table) -> Option<Misfit<'static>> {
     for key in ["weights", "shift"] {
         if table.get(key).is_none() {
-            return Some(Misfit {
-                key,
-                found: Found::Nothing,
-                wanted: Wanted::Words("it where kernel is \"fir\""),
-            });
+            return Some(Misfit::new(key, Found::Nothing, "it where kernel is \"fir\""));
         }
     }
     None
 }
 
+/// Whether this is the word for a kernel without numbers of its own.
+fn is_plain(word: &str) -> bool {
+    word == "source" || word == "sink" || word == "copy" || word == "sum"
+}
+
 /// What is wrong with the kernel of an actor's table.
 fn kernel_misfit(table: &Table) -> Option<Misfit<'_>> {
-    match table.get("kernel")?.as_str()? {
-        "fir" => lacking(table),
-        "source" | "sink" | "copy" | "sum" => superfluous(table),
-        word => Some(Misfit {
-            key: "kernel",
-            found: Found::Text(word),
-            wanted: Wanted::Words("source, sink, copy, sum or fir"),
-        }),
+    let word = text_at(table, "kernel")?;
+    if word == "fir" {
+        return lacking(table);
+    }
+    if is_plain(word) {
+        return superfluous(table);
+    }
+    let words = "source, sink, copy, sum or fir";
+    Some(Misfit::new("kernel", Found::Text(word), words))
+}
+
+/// What is wrong with a table, where it has no key but those that it may have.
+fn listed_misfit(table: &Table, at: At) -> Option<Misfit<'_>> {
+    match unfit(table, keys_of(at)) {
+        Some(misfit) => Some(misfit),
+        None => kernel_misfit(table),
     }
 }
 
@@ -297,8 +299,5 @@ pub(crate) fn shape_misfit(file: &Table, at: At) -> Option<Misfit<'_>> {
             wanted: wanted_for(at, key),
         });
     }
-    match unfit(table, keys_of(at)) {
-        Some(misfit) => Some(misfit),
-        None => kernel_misfit(table),
-    }
+    listed_misfit(table, at)
 }

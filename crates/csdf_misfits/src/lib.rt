@@ -157,6 +157,21 @@ fn not_toml(alloc: Global, bytes: &[u8], error: &toml::de::Error) -> Result<Stri
     Ok(text)
 }
 
+/// Appends what there is to say of a fault of a text that is TOML.
+fn push_fault(
+    alloc: Global,
+    text: &mut String,
+    file: &Table,
+    fault: GraphFault,
+) -> Result<(), AllocError> {
+    push_place(text, file, fault)?;
+    push_others(text, file, fault)?;
+    if fault == GraphFault::NotConnected {
+        push_unjoined(alloc, text, file)?;
+    }
+    Ok(())
+}
+
 /// What there is to say of a fault with which [`read_graph`](csdf_graph::read_graph) or
 /// [`read_script`](csdf_graph::read_script) refuses a graph file: the name of the table or its
 /// place, the key, what was found there and what is wanted, and the same of each other actor and
@@ -168,11 +183,7 @@ pub fn explain_fault(alloc: Global, bytes: &[u8], fault: GraphFault) -> Result<S
     match toml::table_from_slice(alloc, bytes) {
         Ok(file) => {
             let mut text = String::new(alloc);
-            push_place(&mut text, &file, fault)?;
-            push_others(&mut text, &file, fault)?;
-            if fault == GraphFault::NotConnected {
-                push_unjoined(alloc, &mut text, &file)?;
-            }
+            push_fault(alloc, &mut text, &file, fault)?;
             Ok(text)
         }
         Err(error) if error.is_memory() => Err(AllocError),

@@ -5,16 +5,13 @@ use std::fmt;
 use toml::{Table, Value};
 
 /// A number of things, with the words for one and for several.
-#[derive(Drop)]
+#[derive(Clone, Copy)]
 struct Counted(usize, &'static str, &'static str);
 
 impl fmt::Display for Counted {
     fn fmt<W: fmt::Write>(&self, f: &mut fmt::Formatter<W>) -> fmt::Result {
-        if self.0 == 1 {
-            write!(f, "{} {}", self.0, self.1)
-        } else {
-            write!(f, "{} {}", self.0, self.2)
-        }
+        let words = if self.0 == 1 { self.1 } else { self.2 };
+        write!(f, "{} {words}", self.0)
     }
 }
 
@@ -24,11 +21,23 @@ fn write_ports<W: fmt::Write>(
     inputs: usize,
     outputs: usize,
 ) -> fmt::Result {
-    let (inputs, outputs) = (
-        Counted(inputs, "input", "inputs"),
-        Counted(outputs, "output", "outputs"),
-    );
+    let inputs = Counted(inputs, "input", "inputs");
+    let outputs = Counted(outputs, "output", "outputs");
     write!(f, "{inputs} and {outputs}")
+}
+
+/// Writes of which kind something is.
+fn write_kind<W: fmt::Write>(
+    f: &mut fmt::Formatter<W>,
+    something: &str,
+    kind: &str,
+) -> fmt::Result {
+    write!(f, "{something} of kind {kind}")
+}
+
+/// Writes a name that the table at this place has.
+fn write_taken<W: fmt::Write>(f: &mut fmt::Formatter<W>, name: &str, at: At) -> fmt::Result {
+    write!(f, "{name:?}, the name of {at}")
 }
 
 /// What stands at a key.
@@ -56,12 +65,12 @@ impl fmt::Display for Found<'_> {
         match self {
             Found::Nothing => f.write_str("nothing"),
             Found::Unlisted => f.write_str("a key that this table has not"),
-            Found::Kind(kind) => write!(f, "a value of kind {kind}"),
-            Found::Entry(kind) => write!(f, "an entry of kind {kind}"),
+            Found::Kind(kind) => write_kind(f, "a value", kind),
+            Found::Entry(kind) => write_kind(f, "an entry", kind),
             Found::Number(number) => write!(f, "{number}"),
             Found::Text(text) => write!(f, "{text:?}"),
-            Found::Taken(name, at) => write!(f, "{name:?}, the name of {at}"),
-            Found::Entries(count) => write!(f, "{}", Counted(*count, "entry", "entries")),
+            Found::Taken(name, at) => write_taken(f, name, *at),
+            Found::Entries(count) => Counted(*count, "entry", "entries").fmt(f),
             Found::Zeros => f.write_str("zeros alone"),
             Found::Ports(inputs, outputs) => write_ports(f, *inputs, *outputs),
         }
@@ -81,7 +90,7 @@ pub(crate) enum Wanted<'a> {
 impl fmt::Display for Wanted<'_> {
     fn fmt<W: fmt::Write>(&self, f: &mut fmt::Formatter<W>) -> fmt::Result {
         match self {
-            Wanted::Words(words) => write!(f, "{words}"),
+            Wanted::Words(words) => f.write_str(words),
             Wanted::Number(least, most) => write!(f, "{least} to {most}"),
             Wanted::Rates(count, actor) => write!(f, "{count}, one for each phase of {actor}"),
         }
@@ -96,6 +105,17 @@ pub(crate) struct Misfit<'a> {
     pub(crate) wanted: Wanted<'a>,
 }
 
+impl<'a> Misfit<'a> {
+    /// A key at which this was found, with what is wanted in words.
+    pub(crate) fn new(key: &'a str, found: Found<'a>, words: &'static str) -> Misfit<'a> {
+        Misfit {
+            key,
+            found,
+            wanted: Wanted::Words(words),
+        }
+    }
+}
+
 impl fmt::Display for Misfit<'_> {
     fn fmt<W: fmt::Write>(&self, f: &mut fmt::Formatter<W>) -> fmt::Result {
         write!(
@@ -106,9 +126,14 @@ impl fmt::Display for Misfit<'_> {
     }
 }
 
+/// The text at a key.
+pub(crate) fn text_at<'a>(table: &'a Table, key: &str) -> Option<&'a str> {
+    table.get(key)?.as_str()
+}
+
 /// The table of a list with this number.
 fn listed_at<'a>(file: &'a Table, list: &str, number: u32) -> Option<&'a Table> {
-    file.get(list)?.as_array()?.get(number as usize)?.as_table()
+    entries_at(file, list).get(number as usize)?.as_table()
 }
 
 /// The list that the table at a place is in, and its number there.

@@ -1,12 +1,12 @@
 //! Names of a wrong form, names that stand twice, and ends that name no actor.
 
-use crate::misfit::{Found, Misfit, Wanted, entries_at, listed, table_at};
+use crate::misfit::{Found, Misfit, entries_at, listed, table_at, text_at};
 use csdf_graph::{At, is_name};
-use toml::Table;
+use toml::{Table, Value};
 
 /// The name of a table.
 pub(crate) fn name_of(table: Option<&Table>) -> Option<&str> {
-    table?.get("name")?.as_str()
+    text_at(table?, "name")
 }
 
 /// A table of the same list.
@@ -18,35 +18,36 @@ fn beside(at: At, number: u32) -> At {
     }
 }
 
+/// The number of the first of these tables that has this name.
+pub(crate) fn first_named(tables: &[Value], name: &str) -> Option<usize> {
+    tables
+        .iter()
+        .position(|table| name_of(table.as_table()) == Some(name))
+}
+
 /// The earlier table of the same list that has this name.
 fn earlier(file: &Table, at: At, name: &str) -> Option<At> {
     let (list, number) = listed(at)?;
-    let place = entries_at(file, list)
-        .iter()
-        .position(|entry| name_of(entry.as_table()) == Some(name))?;
-    let first = u32::try_from(place).ok()?;
-    if first < number {
-        Some(beside(at, first))
-    } else {
-        None
+    match first_named(entries_at(file, list), name) {
+        Some(first) if first < number as usize => Some(beside(at, first as u32)),
+        _ => None,
     }
+}
+
+/// Why a name of the right form is refused: that an earlier table has it.
+fn taken_misfit<'a>(file: &Table, at: At, name: &'a str) -> Option<Misfit<'a>> {
+    let taken = Found::Taken(name, earlier(file, at, name)?);
+    Some(Misfit::new("name", taken, "a name that no earlier table has"))
 }
 
 /// Why a name is refused: its form, or that an earlier table has it.
 pub(crate) fn name_misfit(file: &Table, at: At) -> Option<Misfit<'_>> {
     let name = name_of(table_at(file, at))?;
-    let (found, words) = if is_name(name) {
-        let taken = Found::Taken(name, earlier(file, at, name)?);
-        (taken, "a name that no earlier table has")
-    } else {
-        let words = "a letter, then at most 31 letters, digits or underscores";
-        (Found::Text(name), words)
-    };
-    Some(Misfit {
-        key: "name",
-        found,
-        wanted: Wanted::Words(words),
-    })
+    if is_name(name) {
+        return taken_misfit(file, at, name);
+    }
+    let words = "a letter, then at most 31 letters, digits or underscores";
+    Some(Misfit::new("name", Found::Text(name), words))
 }
 
 /// The table of the actor with this name.
@@ -61,14 +62,10 @@ pub(crate) fn actor_named<'a>(file: &'a Table, name: &str) -> Option<&'a Table> 
 
 /// The end of a channel at a key, where it names no actor.
 fn unknown_end<'a>(file: &Table, channel: &'a Table, key: &'static str) -> Option<Misfit<'a>> {
-    let name = channel.get(key)?.as_str()?;
+    let name = text_at(channel, key)?;
     match actor_named(file, name) {
         Some(_) => None,
-        None => Some(Misfit {
-            key,
-            found: Found::Text(name),
-            wanted: Wanted::Words("the name of an actor"),
-        }),
+        None => Some(Misfit::new(key, Found::Text(name), "the name of an actor")),
     }
 }
 

@@ -13,6 +13,11 @@ fn outside(key: &'static str, found: Found<'static>, least: i64, most: i64) -> M
     }
 }
 
+/// The number at a key.
+fn integer_at(table: &Table, key: &str) -> Option<i64> {
+    table.get(key)?.as_integer()
+}
+
 /// The number at a key, where it is outside its limits.
 fn number_misfit(
     table: &Table,
@@ -20,7 +25,7 @@ fn number_misfit(
     least: i64,
     most: i64,
 ) -> Option<Misfit<'static>> {
-    let number = table.get(key)?.as_integer()?;
+    let number = integer_at(table, key)?;
     if number < least || number > most {
         Some(outside(key, Found::Number(number), least, most))
     } else {

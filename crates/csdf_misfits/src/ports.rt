@@ -1,7 +1,6 @@
 //! Kernels without the channels that they ask.
 
-use crate::misfit::{Found, Misfit, Wanted, entries_at, table_at};
-use crate::names::name_of;
+use crate::misfit::{Found, Misfit, entries_at, table_at, text_at};
 use csdf_graph::At;
 use toml::{Table, Value};
 
@@ -39,18 +38,20 @@ fn asked_of(kernel: &str) -> &'static str {
     }
 }
 
-/// An actor that has not the channels that its kernel asks.
-pub(crate) fn ports_misfit(file: &Table, number: u32) -> Option<Misfit<'_>> {
-    let actor = table_at(file, At::Actor(number))?;
-    let name = name_of(Some(actor))?;
-    let kernel = actor.get("kernel")?.as_str()?;
-    let (inputs, outputs) = (count_at(file, "to", name), count_at(file, "from", name));
+/// The channels of the actor with this name, where its kernel asks others.
+fn unfit_ports(file: &Table, name: &str, kernel: &str) -> Option<Misfit<'static>> {
+    let inputs = count_at(file, "to", name);
+    let outputs = count_at(file, "from", name);
     if are_fit(kernel, inputs, outputs) {
         return None;
     }
-    Some(Misfit {
-        key: "kernel",
-        found: Found::Ports(inputs, outputs),
-        wanted: Wanted::Words(asked_of(kernel)),
-    })
+    let found = Found::Ports(inputs, outputs);
+    Some(Misfit::new("kernel", found, asked_of(kernel)))
+}
+
+/// An actor that has not the channels that its kernel asks.
+pub(crate) fn ports_misfit(file: &Table, number: u32) -> Option<Misfit<'_>> {
+    let actor = table_at(file, At::Actor(number))?;
+    let name = text_at(actor, "name")?;
+    unfit_ports(file, name, text_at(actor, "kernel")?)
 }

@@ -1,6 +1,6 @@
 //! Rate lists that have not an entry for each phase, or that sum to 0.
 
-use crate::misfit::{Found, Misfit, Wanted, entries_at, table_at};
+use crate::misfit::{Found, Misfit, Wanted, entries_at, table_at, text_at};
 use crate::names::actor_named;
 use csdf_graph::At;
 use toml::Table;
@@ -20,7 +20,7 @@ fn length_at<'a>(
     key: &'static str,
     end: &str,
 ) -> Option<Misfit<'a>> {
-    let name = channel.get(end)?.as_str()?;
+    let name = text_at(channel, end)?;
     let phases = phases_of(actor_named(file, name)?);
     let count = entries_at(channel, key).len();
     if count as i64 == phases {
@@ -54,11 +54,7 @@ pub(crate) fn zero_misfit(file: &Table, number: u32) -> Option<Misfit<'_>> {
     let channel = table_at(file, At::Channel(number))?;
     for key in ["produce", "consume"] {
         if are_zeros(channel, key) {
-            return Some(Misfit {
-                key,
-                found: Found::Zeros,
-                wanted: Wanted::Words("a rate above 0 in some phase"),
-            });
+            return Some(Misfit::new(key, Found::Zeros, "a rate above 0 in some phase"));
         }
     }
     None

@@ -20,7 +20,7 @@ use Rattle.csdf_run.specs.declared.texts.Texts.{Texts}
 use Rattle.csdf_floor.specs.Journal.{Program}
 use Rattle.csdf_floor.specs.Outcome.{IsEndBeside, sequential_list}
 use Rattle.csdf_analysis.specs.declared.room.Room.{Room}
-use Rattle.csdf_run.specs.declared.length.Length.{Length}
+use Rattle.csdf_analysis.specs.declared.length.Length.{Length}
 use Rattle.csdf_run.specs.Texts.{◌>>=◌, AreTextsBeside, IsTextBeside, TellRun, TellSequentialRun, feed_in, feeds_from, sink_texts, sinks_among, text_at}
 use Rattle.csdf_floor.specs.Work.{AreFeeds, feed_of, feeds_in, is_sink_kernel, program}
 

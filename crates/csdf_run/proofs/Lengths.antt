@@ -5,8 +5,8 @@ use Rattle.csdf_analysis.specs.Acceptance.{Accepted}
 use Rattle.csdf_analysis.specs.declared.room.Room.{Room}
 use Rattle.csdf_floor.specs.Work.{HasFewFirings}
 use Rattle.csdf_floor.proofs.Works.{few_in_thousand}
-use Rattle.csdf_run.specs.declared.length.Length.{Length}
-use Rattle.csdf_run.specs.declared.length.Length.TheVariants.{Periods, UntilDry}
+use Rattle.csdf_analysis.specs.declared.length.Length.{Length}
+use Rattle.csdf_analysis.specs.declared.length.Length.TheVariants.{Periods, UntilDry}
 use Rattle.csdf_run.specs.Texts.{GoesOnFor, IsFileOf, MayGoOn}
 
 -- a run that may go on so long has a period and few firings

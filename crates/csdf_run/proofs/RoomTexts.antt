@@ -22,7 +22,7 @@ use Rattle.csdf_floor.specs.Work.{HasFewFirings, feeds_in}
 use Rattle.csdf_floor.proofs.Rooms.{differ_in_room, same_period}
 use Rattle.csdf_floor.proofs.Works.{playable_program}
 use Rattle.csdf_run.specs.declared.texts.Texts.{Texts}
-use Rattle.csdf_run.specs.declared.length.Length.{Length}
+use Rattle.csdf_analysis.specs.declared.length.Length.{Length}
 use Rattle.csdf_run.specs.Texts.{MayGoOn, TellRun, TellSameInAnyRoom, feeds_from, sink_texts, texts_in}
 use Rattle.csdf_run.proofs.Lengths.{may_run, one_length}
 

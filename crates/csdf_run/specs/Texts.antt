@@ -25,8 +25,8 @@ use Rattle.csdf_floor.specs.Report.{names_of, report_text}
 use Rattle.csdf_floor.specs.Sequential.{IsSequential}
 use Rattle.csdf_floor.specs.Work.{Work, HasFewFirings, IsMostPeriods, feed_of, feeds_in, is_sink_kernel}
 use Rattle.csdf_run.specs.Scripts.{kept_script}
-use Rattle.csdf_run.specs.declared.length.Length.{Length}
-use Rattle.csdf_run.specs.declared.length.Length.TheVariants.{Periods, UntilDry}
+use Rattle.csdf_analysis.specs.declared.length.Length.{Length}
+use Rattle.csdf_analysis.specs.declared.length.Length.TheVariants.{Periods, UntilDry}
 
 -- the contents of texts
 abbrev pub texts_in : List (Vec ℕ) → List (List ℕ)

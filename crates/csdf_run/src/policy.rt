@@ -1,8 +1,8 @@
 //! The policy of the workers: who tends the graph, who sleeps, and who is woken.
 
 use crate::actors::bit_of;
-use csdf_graph::Kernel;
 use csdf_kernel::Job;
+use csdf_model::Kernel;
 
 /// How many products, or tokens, make a firing heavy: it takes about as long as to wake a worker.
 const HEAVY: usize = 16_384;

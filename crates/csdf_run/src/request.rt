@@ -8,8 +8,9 @@ ghost use Rattle.csdf_run.specs.Texts.{work_for};
 
 use crate::hints::Hints;
 use csdf_analysis::Accepted;
-use csdf_floor::{Floor, Keeping, Outcome, RunFault, settle};
-use csdf_graph::Graph;
+use csdf_floor::{Floor, Outcome, RunFault, settle};
+use csdf_journal::Keeping;
+use csdf_model::Graph;
 use std::alloc::{AllocError, Global};
 use std::marker::Model;
 

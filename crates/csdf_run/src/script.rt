@@ -7,8 +7,8 @@ ghost use Rattle.csdf_floor.specs.Report.{name_at, names_of};
 ghost use Rattle.csdf_run.specs.Scripts.{actor_names, kept_script, move_entries, move_entry, move_text, script_text, spaced_tokens};
 
 use csdf_core::Move;
-use csdf_floor::Journal;
-use csdf_graph::{Actor, Channel, Graph};
+use csdf_journal::Journal;
+use csdf_model::{Actor, Channel, Graph};
 use std::alloc::{AllocError, Global};
 
 /// The actor's name.

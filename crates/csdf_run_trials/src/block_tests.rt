@@ -4,7 +4,8 @@
 ghost use Rattle.std.specs.Prelude.{IfOk};
 
 use crate::shared::{accepted_in, expect_eq, feeds_of};
-use csdf_floor::{Floor, Keeping, StartFault, are_feeds, may_run};
+use csdf_floor::{Floor, StartFault, are_feeds, may_run};
+use csdf_journal::Keeping;
 use csdf_kernel::{Counts, Outputs};
 use std::alloc::Global;
 use std::process::Abort;
@@ -19,6 +20,32 @@ const LINE: &str = r#"actor = [
 channel = [
   { name = "x", from = "a", to = "b", produce = [1], consume = [1], capacity = 3 },
   { name = "y", from = "b", to = "c", produce = [1], consume = [1], capacity = 3 },
+]
+"#;
+
+/// The same with a sum in the place of the copy, which keeps its state in a channel to itself.
+const SUMS: &str = r#"actor = [
+  { name = "a", kernel = "source" },
+  { name = "b", kernel = "sum" },
+  { name = "c", kernel = "sink" },
+]
+channel = [
+  { name = "x", from = "a", to = "b", produce = [1], consume = [1], capacity = 3 },
+  { name = "s", from = "b", to = "b", produce = [1], consume = [1], initial = [0] },
+  { name = "y", from = "b", to = "c", produce = [1], consume = [1], capacity = 3 },
+]
+"#;
+
+/// A filter that reads its state first and gives it back behind one token for the sink.
+const FILTER: &str = r#"actor = [
+  { name = "a", kernel = "source" },
+  { name = "b", kernel = "fir", weights = [1, 2], shift = 0 },
+  { name = "c", kernel = "sink" },
+]
+channel = [
+  { name = "y", from = "b", to = "c", produce = [1], consume = [1], capacity = 3 },
+  { name = "s", from = "b", to = "b", produce = [2], consume = [2], initial = [1, 1] },
+  { name = "x", from = "a", to = "b", produce = [1], consume = [1], capacity = 3 },
 ]
 "#;
 
@@ -70,9 +97,9 @@ fn turns(alloc: Global, floor: &mut Floor) -> Result<String, Fail> {
     Ok(told)
 }
 
-/// What comes of four periods of the line.
-fn told_of(rt: &impl Abort, alloc: Global, keeping: Keeping) -> Result<String, Fail> {
-    let accepted = accepted_in(alloc, LINE)?;
+/// What comes of four periods of the graph.
+fn told_of(rt: &impl Abort, alloc: Global, graph: &str, keeping: Keeping) -> Result<String, Fail> {
+    let accepted = accepted_in(alloc, graph)?;
     let feeds = feeds_of(alloc, &[5, -6, 7, 8])?;
     assert!(rt; are_feeds(accepted.graph(), &feeds));
     assert!(rt; may_run(&accepted, 4));
@@ -83,7 +110,7 @@ fn told_of(rt: &impl Abort, alloc: Global, keeping: Keeping) -> Result<String, F
 /// Three firings fill the channel, so three are made at once, and then the fourth.
 #[test]
 fn a_line_is_made_at_once(rt: HostRuntime) -> Result<(), Fail> {
-    let told = told_of(&rt, rt.alloc(), Keeping::NotKept)?;
+    let told = told_of(&rt, rt.alloc(), LINE, Keeping::NotKept)?;
     expect_eq(&rt, told.as_str(), "3 3 3 1 1 1 [][][5, -6, 7, 8]");
     Ok(())
 }
@@ -91,7 +118,31 @@ fn a_line_is_made_at_once(rt: HostRuntime) -> Result<(), Fail> {
 /// The same where the moves are kept.
 #[test]
 fn a_line_is_made_at_once_and_its_moves_are_kept(rt: HostRuntime) -> Result<(), Fail> {
-    let told = told_of(&rt, rt.alloc(), Keeping::Kept)?;
+    let told = told_of(&rt, rt.alloc(), LINE, Keeping::Kept)?;
     expect_eq(&rt, told.as_str(), "3 3 3 1 1 1 [][][5, -6, 7, 8]");
+    Ok(())
+}
+
+/// Running sums: each firing reads what the one before it wrote to itself.
+#[test]
+fn sums_that_keep_a_state_are_made_at_once(rt: HostRuntime) -> Result<(), Fail> {
+    let told = told_of(&rt, rt.alloc(), SUMS, Keeping::NotKept)?;
+    expect_eq(&rt, told.as_str(), "3 3 3 1 1 1 [][][5, -1, 6, 14]");
+    Ok(())
+}
+
+/// The same firings one by one.
+#[test]
+fn sums_that_keep_a_state_are_made_one_by_one(rt: HostRuntime) -> Result<(), Fail> {
+    let told = told_of(&rt, rt.alloc(), SUMS, Keeping::Kept)?;
+    expect_eq(&rt, told.as_str(), "3 3 3 1 1 1 [][][5, -1, 6, 14]");
+    Ok(())
+}
+
+/// From 1, 1 and 5: 3 goes to the sink, and 3, 11 are the next state; then 25, and 25, -1; 23, and 23, 13; 49.
+#[test]
+fn a_state_is_read_first_and_given_back_last(rt: HostRuntime) -> Result<(), Fail> {
+    let told = told_of(&rt, rt.alloc(), FILTER, Keeping::NotKept)?;
+    expect_eq(&rt, told.as_str(), "3 3 3 1 1 1 [][][3, 25, 23, 49]");
     Ok(())
 }

@@ -3,7 +3,8 @@ ghost use Rattle.csdf_claims.specs.Board.{Holds, KeepsAll};
 
 use crate::shared::{TWO_SOURCES, accepted_in, expect_eq, ran};
 use csdf_claims::{Board, Place};
-use csdf_run::{Gate, Outcome};
+use csdf_floor::Outcome;
+use csdf_run::Gate;
 use std::alloc::Global;
 use std::process::Abort;
 use std::sync::Wait;

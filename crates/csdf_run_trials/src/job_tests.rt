@@ -2,7 +2,7 @@
 
 ghost use Rattle.csdf_floor.specs.Floor.{IsReady};
 
-use crate::shared::{done_of, job_of};
+use crate::shared::{done_of, expect_eq, job_of};
 use csdf_kernel::{Done, Job, Outputs, eval, eval_into, push_same};
 use csdf_model::Kernel;
 use std::alloc::Global;
@@ -13,14 +13,14 @@ const OUTPUTS: [i32; 20] = [1, 2, 3, 1, 2, 3, 1, 2, 3, 1, 2, 3, 1, 2, 3, 1, 2, 3
 
 fn check_job(rt: &impl Abort, job: &Job) {
     assert!(rt; matches!(job.kernel, Kernel::Copy));
-    assert_eq!(rt; (job.actor, job.firing), (3, 5));
-    assert_eq!(rt; job.counts.as_slice(), [20].as_slice());
-    assert_eq!(rt; job.inputs.as_slice(), [1, 2, 3].as_slice());
+    expect_eq(rt, (job.actor, job.firing), (3, 5));
+    expect_eq(rt, job.counts.as_slice(), [20].as_slice());
+    expect_eq(rt, job.inputs.as_slice(), [1, 2, 3].as_slice());
 }
 
 fn check_done(rt: &impl Abort, done: &Done) {
     check_job(rt, done.job());
-    assert_eq!(rt; done.outputs(), OUTPUTS.as_slice());
+    expect_eq(rt, done.outputs(), OUTPUTS.as_slice());
 }
 
 /// The job that came back is done now.
@@ -52,11 +52,11 @@ fn check_next(rt: &impl Abort, job: &Job, outputs: &mut Outputs) -> Result<(), F
 {
     match eval_into(job, outputs) {
         Ok(()) => {
-            assert_eq!(rt; outputs.as_slice(), OUTPUTS.as_slice());
+            expect_eq(rt, outputs.as_slice(), OUTPUTS.as_slice());
             Ok(())
         }
         Err(fault) => {
-            assert_eq!(rt; outputs.as_slice(), [11, 11].as_slice());
+            expect_eq(rt, outputs.as_slice(), [11, 11].as_slice());
             Err(fault.into())
         }
     }
@@ -72,7 +72,20 @@ fn fills_the_outputs_again(rt: HostRuntime) -> Result<(), Fail> {
     eval_into(&sum, &mut outputs)?;
     check_next(&rt, &copy, &mut outputs)?;
     eval_into(&sum, &mut outputs)?;
-    assert_eq!(&rt; outputs.as_slice(), [11, 11].as_slice());
+    expect_eq(&rt, outputs.as_slice(), [11, 11].as_slice());
+    Ok(())
+}
+
+fn check_blank(rt: &impl Abort, job: &Job) {
+    assert!(rt; matches!(job.kernel, Kernel::Sink));
+    expect_eq(rt, (job.actor, job.firing), (0, 0));
+}
+
+fn check_empty(rt: &impl Abort, job: &Job, outputs: &mut Outputs) -> Result<(), Fail>
+    requires { IsReady job.now }
+{
+    eval_into(job, outputs)?;
+    expect_eq(rt, outputs.len(), 0);
     Ok(())
 }
 
@@ -80,12 +93,9 @@ fn fills_the_outputs_again(rt: HostRuntime) -> Result<(), Fail> {
 #[test]
 fn begins_with_a_blank_job(rt: HostRuntime) -> Result<(), Fail> {
     let job = Job::blank(rt.alloc());
-    assert!(&rt; matches!(job.kernel, Kernel::Sink));
-    assert_eq!(&rt; (job.actor, job.firing), (0, 0));
+    check_blank(&rt, &job);
     let mut outputs = Outputs::new(rt.alloc());
     push_same(&mut outputs, 3, 7);
-    assert_eq!(&rt; outputs.as_slice(), [7, 7, 7].as_slice());
-    eval_into(&job, &mut outputs)?;
-    assert!(&rt; outputs.is_empty());
-    Ok(())
+    expect_eq(&rt, outputs.as_slice(), [7, 7, 7].as_slice());
+    check_empty(&rt, &job, &mut outputs)
 }

@@ -1,8 +1,8 @@
 use crate::shared::{accepted_in, expect_eq};
-use csdf_analysis::Room;
-use csdf_run::{
-    Ending, Keeping, Length, Open, RunOptions, Texts, may_run, most_periods, run_texts_with,
-};
+use csdf_analysis::{Length, Room};
+use csdf_floor::{Ending, may_run, most_periods};
+use csdf_journal::Keeping;
+use csdf_run::{Open, RunOptions, Texts, run_texts_with};
 use std::alloc::Global;
 use std::process::Abort;
 use std::sync::Wait;

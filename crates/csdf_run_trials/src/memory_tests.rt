@@ -7,12 +7,11 @@ ghost use Rattle.csdf_floor.specs.Floor.{IsReady};
 use crate::shared::{accepted_in, deliver, done_of, expect_eq, feeds_of, ran, settled, told_of};
 use csdf_analysis::Accepted;
 use csdf_core::Core;
+use csdf_floor::{DeliverFault, Floor, Outcome, RunFault, StartFault, are_feeds, may_run};
+use csdf_journal::Keeping;
 use csdf_kernel::{Done, Job, Outputs, eval, eval_into};
-use csdf_run::{
-    DeliverFault, Floor, Keeping, Open, Outcome, RunFault, StartFault, are_feeds, may_run,
-    run_texts,
-};
-use std::alloc::Global;
+use csdf_run::{Open, run_texts};
+use std::alloc::{AllocError, Global};
 use std::process::Abort;
 use std::sync::Wait;
 use std::test::Fail;
@@ -61,7 +60,7 @@ fn floor_of<R: Abort>(
 
 // ---- what a floor shows
 
-fn show_actors(text: &mut String, core: &Core) -> Result<(), Fail> {
+fn show_actors(text: &mut String, core: &Core) -> Result<(), AllocError> {
     for actor in 0..core.actors() {
         let fired = core.fired(actor);
         let stage = core.stage(actor);
@@ -72,7 +71,7 @@ fn show_actors(text: &mut String, core: &Core) -> Result<(), Fail> {
     Ok(())
 }
 
-fn show_channel(text: &mut String, core: &Core, channel: u32) -> Result<(), Fail>
+fn show_channel(text: &mut String, core: &Core, channel: u32) -> Result<(), AllocError>
     requires { channel < length core.now.plan.channels }
 {
     let len = core.len(channel);
@@ -86,14 +85,14 @@ fn show_channel(text: &mut String, core: &Core, channel: u32) -> Result<(), Fail
     Ok(())
 }
 
-fn show_channels(text: &mut String, core: &Core) -> Result<(), Fail> {
+fn show_channels(text: &mut String, core: &Core) -> Result<(), AllocError> {
     for channel in 0..core.channels() {
         show_channel(text, core, channel)?;
     }
     Ok(())
 }
 
-fn show_rest_of_core(text: &mut String, core: &Core) -> Result<(), Fail> {
+fn show_rest_of_core(text: &mut String, core: &Core) -> Result<(), AllocError> {
     for cell in core.free_cells() {
         write!(text, "{cell} ")?;
     }
@@ -102,21 +101,21 @@ fn show_rest_of_core(text: &mut String, core: &Core) -> Result<(), Fail> {
     Ok(())
 }
 
-fn show_journal(text: &mut String, floor: &Floor) -> Result<(), Fail> {
+fn show_journal(text: &mut String, floor: &Floor) -> Result<(), AllocError> {
     for next in floor.journal() {
         write!(text, "{next:?}\n")?;
     }
     Ok(())
 }
 
-fn show_sinks(text: &mut String, floor: &Floor) -> Result<(), Fail> {
+fn show_sinks(text: &mut String, floor: &Floor) -> Result<(), AllocError> {
     for sink in floor.sinks() {
         write!(text, "{sink:?}\n")?;
     }
     Ok(())
 }
 
-fn show_all(text: &mut String, floor: &Floor) -> Result<(), Fail> {
+fn show_all(text: &mut String, floor: &Floor) -> Result<(), AllocError> {
     show_actors(text, floor.core())?;
     show_channels(text, floor.core())?;
     show_rest_of_core(text, floor.core())?;

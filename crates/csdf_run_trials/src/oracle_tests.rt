@@ -1,7 +1,8 @@
 use crate::shared::{accepted_in, expect_eq, ran};
 use csdf_analysis::Accepted;
-use csdf_graph::{Channel, Graph, Kernel};
-use csdf_run::{Ending, Open, Outcome};
+use csdf_floor::{Ending, Outcome};
+use csdf_model::{Channel, Graph, Kernel};
+use csdf_run::Open;
 use std::alloc::Global;
 use std::process::Abort;
 use std::sync::Wait;

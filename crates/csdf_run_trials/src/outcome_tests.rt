@@ -2,7 +2,8 @@
 
 use crate::shared::{accepted_in, expect_eq, ran};
 use csdf_core::Move;
-use csdf_run::{Open, Outcome};
+use csdf_floor::Outcome;
+use csdf_run::Open;
 use std::alloc::Global;
 use std::process::Abort;
 use std::sync::Wait;

@@ -5,11 +5,10 @@ ghost use Rattle.csdf_floor.specs.Floor.{IsReady};
 use crate::shared::{accepted_in, deliver, done_of, expect_eq, feeds_of, ran, settled, told_of};
 use csdf_analysis::Accepted;
 use csdf_core::Refusal;
-use csdf_graph::Kernel;
+use csdf_floor::{DeliverFault, Ending, Floor, Outcome, RunFault, StartFault, are_feeds, may_run};
 use csdf_kernel::{Counts, Done, Inputs, Job};
-use csdf_run::{
-    DeliverFault, Ending, Floor, Open, Outcome, RunFault, StartFault, are_feeds, may_run,
-};
+use csdf_model::Kernel;
+use csdf_run::Open;
 use std::alloc::Global;
 use std::process::Abort;
 use std::sync::Wait;

@@ -5,9 +5,11 @@ ghost use Rattle.csdf_kernel.specs.Value.{HasFilterInRange};
 ghost use Rattle.csdf_floor.specs.Floor.{IsReady};
 
 use csdf_analysis::{Accepted, accept};
-use csdf_graph::{Kernel, read_graph};
+use csdf_floor::{Floor, Outcome, RunFault, are_feeds, may_run, printed_report, settle};
+use csdf_graph::read_graph;
 use csdf_kernel::{Counts, Done, Inputs, Job, eval};
-use csdf_run::{Floor, Gate, Outcome, RunFault, are_feeds, may_run, printed_report, run, settle};
+use csdf_model::Kernel;
+use csdf_run::{Gate, run};
 use std::alloc::Global;
 use std::fmt::Debug;
 use std::process::Abort;
@@ -52,13 +54,20 @@ pub(crate) fn expect_eq<T: PartialEq + Debug + Drop>(rt: &impl Abort, found: T, 
     assert_eq!(rt; found, want);
 }
 
+/// Asserts that a number is at most another.
+fn expect_at_most(rt: &impl Abort, found: u32, most: u32)
+    ensures { found ≤ most }
+{
+    assert!(rt; found <= most);
+}
+
 /// Asserts that a filter's number of taps and its shift are in range.
 fn expect_filter(rt: &impl Abort, kernel: &Kernel)
     ensures { HasFilterInRange kernel.now }
 {
     if let Kernel::Fir { taps, shift, .. } = kernel {
-        assert!(rt; *taps <= 16);
-        assert!(rt; *shift <= 31);
+        expect_at_most(rt, *taps, 16);
+        expect_at_most(rt, *shift, 31);
     }
 }
 

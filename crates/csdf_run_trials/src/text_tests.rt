@@ -1,7 +1,9 @@
 use crate::shared::{TWO_SOURCES, expect_eq};
 use csdf_analysis::AcceptFault;
-use csdf_graph::{GraphFault, TokenFault};
-use csdf_run::{Ending, Texts, TextsFault, run_texts};
+use csdf_bytes::TokenFault;
+use csdf_floor::Ending;
+use csdf_graph::GraphFault;
+use csdf_run::{Texts, TextsFault, run_texts};
 use std::alloc::Global;
 use std::process::Abort;
 use std::sync::Wait;

@@ -13,8 +13,8 @@ use Rattle.csdf_answers.specs.declared.fault.ToolFault.TheVariants as fault
 use Rattle.csdf_answers.specs.declared.fault.Stream.TheVariants.{Output, File}
 use Rattle.csdf_analysis.specs.declared.room.Room.{Room}
 use Rattle.csdf_floor.proofs.Works.{few_in_thousand}
-use Rattle.csdf_run.specs.declared.length.Length.{Length}
-use Rattle.csdf_run.specs.declared.length.Length.TheVariants as lengths
+use Rattle.csdf_analysis.specs.declared.length.Length.{Length}
+use Rattle.csdf_analysis.specs.declared.length.Length.TheVariants as lengths
 use Rattle.csdf_run.specs.Texts.{MayGoOn}
 use Rattle.csdf_words.specs.CommandLine.{Order}
 use Rattle.csdf_words.specs.HowLong.{MayBeAsked}

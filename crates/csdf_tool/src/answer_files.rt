@@ -10,7 +10,7 @@ ghost use Rattle.csdf_tool.specs.GraphFiles.{is_input};
 use crate::disk::Disk;
 use crate::files::graph_bytes;
 use csdf_answers::{Stream, ToolFault, describe_as, play_script};
-use csdf_graph::{Intake, Outlet};
+use csdf_bytes::{Intake, Outlet};
 use csdf_words::Inquiry;
 use std::alloc::Global;
 

@@ -6,7 +6,7 @@ ghost use Rattle.csdf_tool.specs.Acts.{Act, Asks, Look, Read, Put, found, given}
 use crate::look::token_file_at;
 use crate::put_fault::PutFault;
 use csdf_answers::{TokenFile, ToolFault};
-use csdf_graph::{FromReader, InputFault, ToWriter, read_bytes, write_bytes};
+use csdf_bytes::{FromReader, InputFault, ToWriter, read_bytes, write_bytes};
 use std::alloc::{AllocError, Global};
 use std::fs::{self, Permissions};
 use std::io::ErrorKind;

@@ -12,7 +12,9 @@ use crate::disk::Disk;
 use crate::files::{graph_bytes, token_path};
 use crate::run_files::is_source;
 use csdf_answers::{Stream, ToolFault, explain, explain_with, push_token_note};
-use csdf_graph::{Actor, GraphFault, Intake, Outlet, read_graph};
+use csdf_bytes::{Intake, Outlet};
+use csdf_graph::{GraphFault, read_graph};
+use csdf_model::Actor;
 use std::alloc::Global;
 
 /// Appends the line of a source on its token file.

@@ -11,7 +11,7 @@ ghost use Rattle.csdf_tool.specs.Running.{IsFeedMissing, IsUnput, in_file};
 use crate::disk::Disk;
 use crate::put_fault::PutFault;
 use csdf_answers::{Name, Stream, ToolFault, unread};
-use csdf_graph::{InputFault, Intake, read_bytes};
+use csdf_bytes::{InputFault, Intake, read_bytes};
 use std::alloc::{AllocError, Global};
 use std::path::{Path, PathBuf};
 

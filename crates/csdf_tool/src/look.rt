@@ -5,7 +5,7 @@ ghost use Rattle.std.specs.Fs.{IsDir, IsFile};
 ghost use Rattle.csdf_tool.specs.TokenFiles.{IsReadOf, unopened};
 
 use csdf_answers::{TokenFile, ToolFault};
-use csdf_graph::{FromReader, InputFault, Intake, read_bytes};
+use csdf_bytes::{FromReader, InputFault, Intake, read_bytes};
 use std::alloc::Global;
 use std::fs;
 use std::fs::FileType;

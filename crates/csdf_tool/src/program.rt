@@ -15,7 +15,7 @@ use crate::run_files::run_files;
 use clap::Error;
 use clap::error::ErrorKind;
 use csdf_answers::{Form, Stream, ToolFault, fault_line, memory_line};
-use csdf_graph::{Intake, Outlet, write_bytes};
+use csdf_bytes::{Intake, Outlet, write_bytes};
 use csdf_words::{Request, Unread, form_of, request_of};
 use std::alloc::Global;
 use std::fmt;

@@ -1,6 +1,7 @@
 use crate::shared::{CHAIN, DISAGREEING, expect_eq_of};
 use csdf_analysis::{AcceptFault, repetition};
-use csdf_graph::{Graph, read_graph};
+use csdf_graph::read_graph;
+use csdf_model::Graph;
 use std::process::Abort;
 use std::test::Fail;
 
@@ -100,6 +101,12 @@ fn finds_the_least_vector(rt: HostRuntime) -> Result<(), Fail> {
     Ok(())
 }
 
+/// Why the graph has no vector.
+fn refusal_of(rt: &impl AllocGlobal, text: &str) -> Result<Option<AcceptFault>, Fail> {
+    let graph = graph(rt, text)?;
+    Ok(repetition(rt.alloc(), &graph).err())
+}
+
 #[test]
 fn names_the_channel_that_is_refused(rt: HostRuntime) -> Result<(), Fail> {
     for (text, want) in [
@@ -107,10 +114,7 @@ fn names_the_channel_that_is_refused(rt: HostRuntime) -> Result<(), Fail> {
         (STEEP, AcceptFault::Unbalanced(1)),
         (WIDE, AcceptFault::TooLarge(0)),
     ] {
-        match repetition(rt.alloc(), &graph(&rt, text)?) {
-            Ok(vector) => assert!(rt; false, "{vector:?} of {text}"),
-            Err(fault) => expect_eq_of(&rt, fault, want, text),
-        }
+        expect_eq_of(&rt, refusal_of(&rt, text)?, Some(want), text);
     }
     Ok(())
 }

@@ -2,8 +2,10 @@
 
 use crate::core_tests::{AMPLE, PAIR, opening_core, shown, state_after};
 use crate::shared::{accepted_in, expect_eq};
-use csdf_core::{Block, Core};
+use csdf_analysis::Accepted;
+use csdf_core::Core;
 use std::alloc::Global;
+use std::process::Abort;
 use std::test::Fail;
 
 /// A source, a stage and a sink, each of one token a firing, with four cells between two.
@@ -111,20 +113,84 @@ fn made(
     Ok(read)
 }
 
+/// Asserts the greatest block of the actor of at most `most` firings: how many, and what it reads and
+/// writes.
+fn expect_block(rt: &impl Abort, core: &Core, actor: u32, most: u32, want: (u32, u64, u64)) {
+    let block = core.block(actor, most);
+    expect_eq(rt, (block.firings, block.needed, block.given), want);
+}
+
+/// A block: its actor, the most firings that are asked for, how many it has and what they read and
+/// write, the tokens that it writes, and those that it reads. It is made where it writes so many.
+struct Step {
+    actor: u32,
+    most: u32,
+    block: (u32, u64, u64),
+    written: &'static [i32],
+    read: &'static [i32],
+}
+
+fn make(rt: &impl Abort, alloc: Global, core: &mut Core, step: &Step) -> Result<(), Fail> {
+    expect_block(rt, core, step.actor, step.most, step.block);
+    let read = made(alloc, core, step.actor, step.most, step.written)?;
+    expect_eq(rt, read.as_slice(), step.read);
+    Ok(())
+}
+
+fn make_all(rt: &impl Abort, alloc: Global, core: &mut Core, steps: &[Step]) -> Result<(), Fail> {
+    for step in steps {
+        make(rt, alloc, core, step)?;
+    }
+    Ok(())
+}
+
+fn check_shown(rt: &impl Abort, alloc: Global, core: &Core, want: &str) -> Result<(), Fail> {
+    let state = shown(alloc, core)?;
+    expect_eq(rt, state.as_str(), want);
+    Ok(())
+}
+
+/// Makes the blocks on a new core, and asserts what it shows then.
+fn check_blocks(
+    rt: &impl Abort,
+    alloc: Global,
+    accepted: &Accepted,
+    steps: &[Step],
+    want: &str,
+) -> Result<(), Fail> {
+    let mut core = opening_core(alloc, accepted)?;
+    make_all(rt, alloc, &mut core, steps)?;
+    check_shown(rt, alloc, &core, want)
+}
+
+const PIPELINE_BLOCKS: [Step; 3] = [
+    Step {
+        actor: 0,
+        most: 8,
+        block: (4, 0, 4),
+        written: &[5, 6, 7, 8],
+        read: &[],
+    },
+    Step {
+        actor: 1,
+        most: 3,
+        block: (3, 3, 3),
+        written: &[5, 6, 7],
+        read: &[5, 6, 7],
+    },
+    Step {
+        actor: 2,
+        most: 8,
+        block: (3, 3, 0),
+        written: &[],
+        read: &[5, 6, 7],
+    },
+];
+
 #[test]
 fn a_pipeline_in_blocks(rt: HostRuntime) -> Result<(), Fail> {
-    let alloc = rt.alloc();
-    let accepted = accepted_in(alloc, PIPELINE)?;
-    let mut core = opening_core(alloc, &accepted)?;
-    let none = made(alloc, &mut core, 0, 8, &[5, 6, 7, 8])?;
-    expect_eq(&rt, none.len(), 0);
-    let copied = made(alloc, &mut core, 1, 3, &[5, 6, 7])?;
-    expect_eq(&rt, copied.as_slice(), [5, 6, 7].as_slice());
-    let sunk = made(alloc, &mut core, 2, 8, &[])?;
-    expect_eq(&rt, sunk.as_slice(), [5, 6, 7].as_slice());
-    let state = shown(alloc, &core)?;
-    expect_eq(&rt, state.as_str(), PIPELINE_STATE);
-    Ok(())
+    let accepted = accepted_in(rt.alloc(), PIPELINE)?;
+    check_blocks(&rt, rt.alloc(), &accepted, &PIPELINE_BLOCKS, PIPELINE_STATE)
 }
 
 #[test]
@@ -134,18 +200,27 @@ fn a_pipeline_move_by_move(rt: HostRuntime) -> Result<(), Fail> {
     Ok(())
 }
 
+const PAIR_BLOCKS: [Step; 2] = [
+    Step {
+        actor: 0,
+        most: 8,
+        block: (2, 0, 3),
+        written: &[5, 6, 7],
+        read: &[],
+    },
+    Step {
+        actor: 1,
+        most: 8,
+        block: (1, 3, 0),
+        written: &[],
+        read: &[5, 6, 7],
+    },
+];
+
 #[test]
 fn two_phases_in_a_block(rt: HostRuntime) -> Result<(), Fail> {
-    let alloc = rt.alloc();
-    let accepted = accepted_in(alloc, PAIR)?;
-    let mut core = opening_core(alloc, &accepted)?;
-    let none = made(alloc, &mut core, 0, 8, &[5, 6, 7])?;
-    expect_eq(&rt, none.len(), 0);
-    let sunk = made(alloc, &mut core, 1, 8, &[])?;
-    expect_eq(&rt, sunk.as_slice(), [5, 6, 7].as_slice());
-    let state = shown(alloc, &core)?;
-    expect_eq(&rt, state.as_str(), PAIR_STATE);
-    Ok(())
+    let accepted = accepted_in(rt.alloc(), PAIR)?;
+    check_blocks(&rt, rt.alloc(), &accepted, &PAIR_BLOCKS, PAIR_STATE)
 }
 
 #[test]
@@ -155,28 +230,49 @@ fn two_phases_move_by_move(rt: HostRuntime) -> Result<(), Fail> {
     Ok(())
 }
 
+/// The sum's first block, of one firing, is looked at and not made.
+const JOIN_BLOCKS: [Step; 5] = [
+    Step {
+        actor: 0,
+        most: 8,
+        block: (4, 0, 4),
+        written: &[1, 2, 3, 4],
+        read: &[],
+    },
+    Step {
+        actor: 1,
+        most: 1,
+        block: (1, 0, 1),
+        written: &[10],
+        read: &[],
+    },
+    Step {
+        actor: 2,
+        most: 8,
+        block: (1, 3, 2),
+        written: &[],
+        read: &[],
+    },
+    Step {
+        actor: 1,
+        most: 8,
+        block: (1, 0, 1),
+        written: &[20],
+        read: &[],
+    },
+    Step {
+        actor: 2,
+        most: 8,
+        block: (2, 6, 4),
+        written: &[13, 13, 27, 27],
+        read: &[1, 2, 10, 3, 4, 20],
+    },
+];
+
 #[test]
 fn several_inputs_and_outputs_in_a_block(rt: HostRuntime) -> Result<(), Fail> {
-    let alloc = rt.alloc();
-    let accepted = accepted_in(alloc, JOIN)?;
-    let mut core = opening_core(alloc, &accepted)?;
-    let none = made(alloc, &mut core, 0, 8, &[1, 2, 3, 4])?;
-    expect_eq(&rt, none.len(), 0);
-    let still_none = made(alloc, &mut core, 1, 1, &[10])?;
-    expect_eq(&rt, still_none.len(), 0);
-    let one = Block {
-        firings: 1,
-        needed: 3,
-        given: 2,
-    };
-    expect_eq(&rt, core.block(2, 8), one);
-    let last = made(alloc, &mut core, 1, 8, &[20])?;
-    expect_eq(&rt, last.len(), 0);
-    let read = made(alloc, &mut core, 2, 8, &[13, 13, 27, 27])?;
-    expect_eq(&rt, read.as_slice(), [1, 2, 10, 3, 4, 20].as_slice());
-    let state = shown(alloc, &core)?;
-    expect_eq(&rt, state.as_str(), JOIN_STATE);
-    Ok(())
+    let accepted = accepted_in(rt.alloc(), JOIN)?;
+    check_blocks(&rt, rt.alloc(), &accepted, &JOIN_BLOCKS, JOIN_STATE)
 }
 
 #[test]
@@ -186,28 +282,16 @@ fn several_inputs_and_outputs_move_by_move(rt: HostRuntime) -> Result<(), Fail> 
     Ok(())
 }
 
+fn check_lengths(rt: &impl Abort, core: &Core) {
+    expect_block(rt, core, 0, 8, (2, 0, 3));
+    expect_block(rt, core, 0, 1, (1, 0, 2));
+    expect_block(rt, core, 1, 8, (0, 0, 0));
+}
+
 #[test]
 fn a_block_is_as_long_as_room_and_tokens_last(rt: HostRuntime) -> Result<(), Fail> {
-    let alloc = rt.alloc();
-    let accepted = accepted_in(alloc, PAIR)?;
-    let core = opening_core(alloc, &accepted)?;
-    let two = Block {
-        firings: 2,
-        needed: 0,
-        given: 3,
-    };
-    expect_eq(&rt, core.block(0, 8), two);
-    let one = Block {
-        firings: 1,
-        needed: 0,
-        given: 2,
-    };
-    expect_eq(&rt, core.block(0, 1), one);
-    let none = Block {
-        firings: 0,
-        needed: 0,
-        given: 0,
-    };
-    expect_eq(&rt, core.block(1, 8), none);
+    let accepted = accepted_in(rt.alloc(), PAIR)?;
+    let core = opening_core(rt.alloc(), &accepted)?;
+    check_lengths(&rt, &core);
     Ok(())
 }

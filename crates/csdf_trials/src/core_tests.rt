@@ -3,7 +3,7 @@ ghost use Rattle.std.specs.Prelude.{◌≡◌, ◌≤◌, All, length, IfOk};
 use crate::shared::{CHAIN, accepted_in, expect_eq, expect_eq_of};
 use csdf_analysis::Accepted;
 use csdf_core::{Core, Move, Played, Reply, Setup, play};
-use csdf_graph::{Actor, Kernel};
+use csdf_model::{Actor, Kernel};
 use csdf_pool::Cells;
 use std::alloc::{AllocError, Global};
 use std::fmt::Write;

@@ -1,8 +1,6 @@
 use crate::shared::expect_eq;
-use csdf_graph::{
-    Actor, At, Channel, Graph, GraphFault, Kernel, Script, read_graph, read_graph_and_script,
-    read_script,
-};
+use csdf_graph::{At, GraphFault, Script, read_graph, read_graph_and_script, read_script};
+use csdf_model::{Actor, Channel, Graph, Kernel};
 use std::process::Abort;
 use std::test::Fail;
 
@@ -187,7 +185,14 @@ fn refuses_edits_of_actors(rt: HostRuntime) -> Result<(), Fail> {
 
 const MANY: &str = "initial = [1, 2, 3, 4]\ncapacity";
 
-const EDITS_OF_THE_CHANNEL: [(&str, &str, GraphFault); 10] = [
+/// A second channel of the same name.
+const TWICE: &str = "capacity = 3\n[[channel]]\nname = \"x\"\nfrom = \"src\"\nto = \"snk\"\n\
+    produce = [2, 1]\nconsume = [3]";
+
+/// A capacity out of range, to an actor that is not there.
+const FAULTY_TWICE: &str = "\"zz\"\nproduce = [2, 1]\nconsume = [3]\ncapacity = 0";
+
+const EDITS_OF_THE_CHANNEL: [(&str, &str, GraphFault); 12] = [
     (
         "capacity",
         "rate = 1\ncapacity",
@@ -210,6 +215,12 @@ const EDITS_OF_THE_CHANNEL: [(&str, &str, GraphFault); 10] = [
     ("[2, 1]", "[2]", GraphFault::PhaseLength(0)),
     ("[2, 1]", "[0]", GraphFault::PhaseLength(0)),
     ("[2, 1]", "[0, 0]", GraphFault::ZeroRate(0)),
+    ("capacity = 3", TWICE, GraphFault::Name(At::Channel(1))),
+    (
+        "\"snk\"\nproduce = [2, 1]\nconsume = [3]\ncapacity = 3",
+        FAULTY_TWICE,
+        GraphFault::Range(At::Channel(0)),
+    ),
 ];
 
 #[test]
@@ -218,27 +229,6 @@ fn refuses_edits_of_the_channel(rt: HostRuntime) -> Result<(), Fail> {
         expect_edited(&rt, *old, *new, Some(*fault))?;
     }
     Ok(())
-}
-
-#[test]
-fn refuses_a_name_used_twice(rt: HostRuntime) -> Result<(), Fail> {
-    let twice = format!(in rt.alloc(); "{CHANNEL}{CHANNEL}")?;
-    let fault = GraphFault::Name(At::Channel(1));
-    expect_edited(&rt, CHANNEL, twice.as_str(), Some(fault))
-}
-
-#[test]
-fn refuses_a_range_before_an_unknown_actor(rt: HostRuntime) -> Result<(), Fail> {
-    let channel = r#"[[channel]]
-name = "x"
-from = "src"
-to = "zz"
-produce = [2, 1]
-consume = [3]
-capacity = 0
-"#;
-    let fault = GraphFault::Range(At::Channel(0));
-    expect_edited(&rt, CHANNEL, channel, Some(fault))
 }
 
 #[test]
@@ -253,24 +243,25 @@ fn a_graph_is_read_beside_a_faulty_script(rt: HostRuntime) -> Result<(), Fail> {
     expect_edited(&rt, "[script]\n", "[script]\nlimit = -1\n", None)
 }
 
-#[test]
-fn refuses_cells(rt: HostRuntime) -> Result<(), Fail> {
-    for (cells, fault) in [
-        ("cells = 1\n", None),
-        ("cells = 0\n", Some(GraphFault::Range(At::File))),
-        ("cells = 8388481\n", Some(GraphFault::Range(At::File))),
-    ] {
-        let text = format!(in rt.alloc(); "{cells}{LOOP}")?;
-        expect_eq(&rt, refusal(&rt, text.as_str()), fault);
+/// The number of cells that the file gives, or why it is refused.
+fn cells_of(rt: &impl AllocGlobal, text: &str) -> Result<Option<u32>, GraphFault> {
+    match read_graph(rt.alloc(), text.as_bytes()) {
+        Ok(graph) => Ok(graph.cells()),
+        Err(fault) => Err(fault),
     }
-    Ok(())
 }
 
 #[test]
 fn reads_cells(rt: HostRuntime) -> Result<(), Fail> {
-    let text = format!(in rt.alloc(); "cells = 8388480\n{LOOP}")?;
-    let graph = read_graph(rt.alloc(), text.as_bytes())?;
-    expect_eq(&rt, graph.cells(), Some(8_388_480));
+    for (cells, want) in [
+        ("cells = 1\n", Ok(Some(1))),
+        ("cells = 8388480\n", Ok(Some(8_388_480))),
+        ("cells = 0\n", Err(GraphFault::Range(At::File))),
+        ("cells = 8388481\n", Err(GraphFault::Range(At::File))),
+    ] {
+        let text = format!(in rt.alloc(); "{cells}{LOOP}")?;
+        expect_eq(&rt, cells_of(&rt, text.as_str()), want);
+    }
     Ok(())
 }
 

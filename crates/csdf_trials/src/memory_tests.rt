@@ -6,7 +6,7 @@ use crate::core_tests::{PAIR, moves_in, opening_core, shown, text_of};
 use crate::shared::{CHAIN, accepted_in, expect_eq};
 use csdf_analysis::{AcceptFault, Accepted, accept, capacities, repetition};
 use csdf_core::{Core, Move, Reply, play_on};
-use csdf_graph::Graph;
+use csdf_model::Graph;
 use std::alloc::Global;
 use std::process::Abort;
 use std::test::Fail;

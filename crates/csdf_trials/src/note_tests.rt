@@ -2,7 +2,7 @@
 
 use crate::shared::{CHAIN, expect_eq, expect_eq_of};
 use csdf_answers::{TokenFile, explain_with, push_token_note};
-use csdf_graph::ToWriter;
+use csdf_bytes::ToWriter;
 use std::process::Abort;
 use std::test::Fail;
 

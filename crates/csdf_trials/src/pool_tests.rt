@@ -263,26 +263,62 @@ fn beside_the_plain_pool(rt: HostRuntime) -> Result<(), Fail> {
     play_both(&rt, rt.alloc(), &mut two, &mut plain)
 }
 
-// Puts forty tokens and takes them, on both pools, and then puts them and drops all but two.
+// Forty tokens.
+fn forty(alloc: Global) -> Result<Vec<i32>, AllocError> {
+    let mut tokens = vec![in alloc; 0; 40]?;
+    for (i, token) in tokens.iter_mut().enumerate() {
+        *token = 100 + i as i32 % 40;
+    }
+    Ok(tokens)
+}
+
+// Puts the tokens on both pools.
+fn put_both(
+    rt: &impl Abort,
+    two: &mut Two,
+    plain: &mut Plain,
+    chain: u32,
+    tokens: &[i32],
+) -> Result<(), Fail> {
+    assert!(rt; two.put_all(chain, tokens) && plain.put_all(chain, tokens)?);
+    Ok(())
+}
+
+// Takes so many tokens from both pools, which are the same.
+fn take_both(
+    rt: &impl Abort,
+    alloc: Global,
+    two: &mut Two,
+    plain: &mut Plain,
+    chain: u32,
+    n: usize,
+) -> Result<(), Fail> {
+    assert!(rt; same_taken(alloc, two, plain, chain, n)?);
+    Ok(())
+}
+
+// Drops 38 tokens of the second chain on both pools.
+fn drop_both(rt: &impl Abort, alloc: Global, two: &mut Two, plain: &mut Plain) -> Result<(), Fail> {
+    assert!(rt; two.drop_some(1, 38) && plain.take_some(alloc, 1, 38)?.len() == 38);
+    Ok(())
+}
+
+// Puts the forty tokens and takes them, on both pools, and then puts them and drops all but two.
 fn play_forty(
     rt: &impl Abort,
     alloc: Global,
     two: &mut Two,
     plain: &mut Plain,
+    tokens: &[i32],
 ) -> Result<(), Fail> {
-    let mut tokens = vec![in alloc; 0; 40]?;
-    for (i, token) in tokens.iter_mut().enumerate() {
-        *token = 100 + i as i32 % 40;
-    }
-    assert!(rt; two.put_all(0, &tokens) && plain.put_all(0, &tokens)?);
+    put_both(rt, two, plain, 0, tokens)?;
     check_alike(rt, alloc, two, plain)?;
-    assert!(rt; same_taken(alloc, two, plain, 0, 40)?);
+    take_both(rt, alloc, two, plain, 0, 40)?;
     check_alike(rt, alloc, two, plain)?;
-    assert!(rt; two.put_all(1, &tokens) && plain.put_all(1, &tokens)?);
-    assert!(rt; two.drop_some(1, 38) && plain.take_some(alloc, 1, 38)?.len() == 38);
+    put_both(rt, two, plain, 1, tokens)?;
+    drop_both(rt, alloc, two, plain)?;
     check_alike(rt, alloc, two, plain)?;
-    assert!(rt; same_taken(alloc, two, plain, 1, 2)?);
-    Ok(())
+    take_both(rt, alloc, two, plain, 1, 2)
 }
 
 // Takes all cells by turns for both chains and gives them back, so that no two of them are next
@@ -301,11 +337,23 @@ fn play_turns(
     Ok(())
 }
 
+// In rows of cells, and then in cells of which no two are in a row.
+fn play_forties(
+    rt: &impl Abort,
+    alloc: Global,
+    two: &mut Two,
+    plain: &mut Plain,
+    tokens: &[i32],
+) -> Result<(), Fail> {
+    play_forty(rt, alloc, two, plain, tokens)?;
+    play_turns(rt, alloc, two, plain)?;
+    play_forty(rt, alloc, two, plain, tokens)
+}
+
 #[test]
 fn forty_at_once(rt: HostRuntime) -> Result<(), Fail> {
     let mut two = Two::new(rt.alloc(), 50)?;
     let mut plain = Plain::new(rt.alloc(), 50)?;
-    play_forty(&rt, rt.alloc(), &mut two, &mut plain)?;
-    play_turns(&rt, rt.alloc(), &mut two, &mut plain)?;
-    play_forty(&rt, rt.alloc(), &mut two, &mut plain)
+    let tokens = forty(rt.alloc())?;
+    play_forties(&rt, rt.alloc(), &mut two, &mut plain, &tokens)
 }

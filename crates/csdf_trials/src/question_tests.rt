@@ -6,7 +6,7 @@ use csdf_answers::{
     Form, Name, Question, Stream, ToolFault, describe, describe_as, describe_with_room, fault_line,
     memory_line,
 };
-use csdf_graph::ToWriter;
+use csdf_bytes::ToWriter;
 use std::process::Abort;
 use std::test::Fail;
 

@@ -52,10 +52,8 @@ fn expect_refused(
     text: &str,
     want: AcceptFault,
 ) -> Result<(), Fail> {
-    match accept_in_room(rt.alloc(), graph(rt, text)?, Room::Periods(8)) {
-        Ok(_) => assert!(rt; false, "accepted: {text}"),
-        Err(fault) => expect_eq_of(rt, fault, want, text),
-    }
+    let answer = accept_in_room(rt.alloc(), graph(rt, text)?, Room::Periods(8));
+    expect_eq_of(rt, answer.err(), Some(want), text);
     Ok(())
 }
 

@@ -3,7 +3,8 @@
 use crate::core_tests::LOOP;
 use crate::shared::{CHAIN, DISAGREEING, STUCK_CYCLE, expect_eq, line_of};
 use csdf_answers::{Name, Stream, ToolFault, play_script};
-use csdf_graph::{At, Fused, GraphFault, ToWriter};
+use csdf_bytes::{Fused, ToWriter};
+use csdf_graph::{At, GraphFault};
 use std::process::Abort;
 use std::test::Fail;
 

@@ -61,7 +61,7 @@ pub(crate) fn expect_eq_of<T: PartialEq + Debug + Drop>(
     want: T,
     text: &str,
 ) {
-    assert_eq!(rt; found, want, "of {text}");
+    expect_eq(rt, (text, found), (text, want));
 }
 
 /// The line of a fault.

@@ -7,8 +7,8 @@ use Rattle.csdf_answers.specs.declared.question.Form.TheVariants as forms
 use Rattle.csdf_answers.specs.declared.question.Question.TheVariants.{Check, Repetition, Schedule, Capacity, Dot}
 use Rattle.csdf_analysis.specs.declared.room.Room.{Room}
 use Rattle.csdf_analysis.specs.declared.room.Room.TheVariants.{Least, Periods, Auto}
-use Rattle.csdf_run.specs.declared.length.Length.{Length}
-use Rattle.csdf_run.specs.declared.length.Length.TheVariants as lengths
+use Rattle.csdf_analysis.specs.declared.length.Length.{Length}
+use Rattle.csdf_analysis.specs.declared.length.Length.TheVariants as lengths
 use Rattle.csdf_words.specs.CommandLine.{program, asked_by, asked_with, room_in, words_ask, Asked, Input, Moves, Ask, Explain, Run}
 
 abbrev on : Text → List Text

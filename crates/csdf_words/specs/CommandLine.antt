@@ -11,8 +11,8 @@ use Rattle.clap.specs.declared.builder.value_parser.ValueParser.TheVariants.{Uns
 use Rattle.clap.specs.declared.error.kind.ErrorKind.TheVariants.{OutOfMemory}
 use Rattle.csdf_analysis.specs.declared.room.Room.{Room}
 use Rattle.csdf_analysis.specs.declared.room.Room.TheVariants.{Least, Periods, Auto}
-use Rattle.csdf_run.specs.declared.length.Length.{Length}
-use Rattle.csdf_run.specs.declared.length.Length.TheVariants as lengths
+use Rattle.csdf_analysis.specs.declared.length.Length.{Length}
+use Rattle.csdf_analysis.specs.declared.length.Length.TheVariants as lengths
 use Rattle.csdf_words.specs.declared.command.Request.{Request}
 use Rattle.csdf_words.specs.declared.command.Request.TheVariants as request
 use Rattle.csdf_words.specs.declared.command.Unread.{Unread}

@@ -1,8 +1,8 @@
 -- How long a run may be asked to go on.
 use denote.Struct.Props as logic
 use Rattle.std.specs.Prelude.{◌≤◌}
-use Rattle.csdf_run.specs.declared.length.Length.{Length}
-use Rattle.csdf_run.specs.declared.length.Length.TheVariants as lengths
+use Rattle.csdf_analysis.specs.declared.length.Length.{Length}
+use Rattle.csdf_analysis.specs.declared.length.Length.TheVariants as lengths
 
 -- 1 to 1,000 periods, which any graph may have, or until a source has run dry
 abbrev pub MayBeAsked : Length → Type 0

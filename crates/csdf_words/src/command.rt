@@ -15,9 +15,8 @@ use crate::order::{Inquiry, RunOrder};
 use clap::builder::ValueParser;
 use clap::error::ErrorKind;
 use clap::{Arg, ArgAction, ArgMatches, Command, Error};
-use csdf_analysis::Room;
+use csdf_analysis::{Length, Room};
 use csdf_answers::{Form, Question};
-use csdf_run::Length;
 use std::alloc::{AllocError, Global};
 
 /// What the program is asked to do.

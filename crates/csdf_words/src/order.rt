@@ -5,9 +5,8 @@ ghost use Rattle.csdf_analysis.specs.Room.{HasSomePeriod};
 ghost use Rattle.csdf_words.specs.Rooms.{HasSomePeriod-prop};
 ghost use Rattle.csdf_words.specs.HowLong.{MayBeAsked, MayBeAsked-prop};
 
-use csdf_analysis::Room;
+use csdf_analysis::{Length, Room};
 use csdf_answers::{Form, Question};
-use csdf_run::Length;
 
 /// A question about the graph of a file.
 #[derive(Clone, Copy)]

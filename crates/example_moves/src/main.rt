@@ -7,7 +7,8 @@ ghost use Rattle.csdf_core.specs.State.{opening};
 
 use csdf_analysis::{Accepted, accept};
 use csdf_core::{Core, Setup};
-use csdf_graph::{Actor, Kernel, read_graph};
+use csdf_graph::read_graph;
+use csdf_model::{Actor, Kernel};
 use std::alloc::{AllocError, Global};
 use std::io;
 

@@ -1,3 +1,4 @@
+use Rattle.std.proofs.lemmas.Grind.{common_steps}
 use Rattle.std.proofs.Common.{◌<◌, List, [], length, map, subst, sym, ap, ◌∙◌, arith}
 use Rattle.std.specs.Prelude.{option_map}
 use Rattle.std.proofs.lemmas.List.{length-map}
@@ -39,3 +40,6 @@ loop-place-preserved c =
     next_members actors channels c.loop-place.members.items c.in-Some.next.items c.loop-place.place channel here
     (channel_at c.args.channels.now c.loop-place.place c.index-channels-place.result c.index-channels-place.is) c.loop-place.invariant
     (subst (λ o. Joins actors channel c.loop-place.members.items (option_map (λ v. v.items) o)) c.in-Some.is c.in_ok-next.ensures)
+
+pub returns-clause-members : goal.returns-clause-members
+returns-clause-members c = grind (arith, common_steps)

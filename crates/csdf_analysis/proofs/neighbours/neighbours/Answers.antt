@@ -13,3 +13,9 @@ neighbours_of-requires-clause-few c = grind (arith, common_steps)
 
 pub loop-actor-init : goal.loop-actor-init
 loop-actor-init c = grind (arith, common_steps)
+
+pub overflow_cast-actor-end : goal.overflow_cast-actor-end
+overflow_cast-actor-end c = grind (arith, common_steps)
+
+pub neighbours_of-requires-clause-exists : goal.neighbours_of-requires-clause-exists
+neighbours_of-requires-clause-exists c = grind (arith, common_steps)

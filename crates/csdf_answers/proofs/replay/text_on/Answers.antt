@@ -1,4 +1,5 @@
-use Rattle.std.proofs.Common.{length, map, refl, sym, ap, subst, ◌∙◌, string_bytes}
+use Rattle.std.proofs.lemmas.Grind.{common_steps}
+use Rattle.std.proofs.Common.{arith, length, map, refl, sym, ap, subst, ◌∙◌, string_bytes}
 use Rattle.std.proofs.lemmas.List.{length-map}
 use Rattle.std.proofs.lemmas.Result.{IfOk-weaker}
 use Rattle.csdf_model.specs.Graph.{Graph, channel_view}
@@ -26,3 +27,12 @@ returns c =
       refl,
       subst (λ p. PrintsLines names p (opening p) lines (string_bytes text)) c.in_ok-core.ensures.plan named,
     )) c.turn_all.ensures
+
+pub opening_core-requires : goal.opening_core-requires
+opening_core-requires c = grind (arith, common_steps)
+
+pub returns-in_err-core : goal.returns-in_err-core
+returns-in_err-core c = grind (arith, common_steps)
+
+pub turn_all-requires-clause-few : goal.turn_all-requires-clause-few
+turn_all-requires-clause-few c = grind (arith, common_steps)

@@ -13,3 +13,6 @@ returns-clause-opens c = grind (arith, common_steps)
 
 pub returns-clause-sums : goal.returns-clause-sums
 returns-clause-sums c = grind (arith, common_steps)
+
+pub returns-clause-phases : goal.returns-clause-phases
+returns-clause-phases c = grind (arith, common_steps)

@@ -1,3 +1,4 @@
+use Rattle.std.proofs.lemmas.Grind.{common_steps}
 use Rattle.std.specs.List.{range_with_len}
 use Rattle.csdf_core.specs.Transfers.{filled_from}
 use Rattle.std.proofs.Common.{replicate, [], ◌≤◌, ◌≡◌, ◌<◌, ℕ, ◌∙◌, ap, arith, List, length, map}
@@ -52,3 +53,18 @@ returns-clause-cells c =
     let count = c.channels-channel-end.ensures.count in
     let past : length xs ≤ c.loop-channel.channel = (let f = c.loop-channel-test.false in let n = length-map cs (λ (d : Channel). d.initial) in omega arith) in
     cells_all xs c.loop-channel.channel c.loop-channel.pool _ past c.loop-channel.invariant.cells
+
+pub overflow_cast-channels : goal.overflow_cast-channels
+overflow_cast-channels c = grind (arith, common_steps)
+
+pub overflow_cast-channel-end : goal.overflow_cast-channel-end
+overflow_cast-channel-end c = grind (arith, common_steps)
+
+pub loop-channel-smaller : goal.loop-channel-smaller
+loop-channel-smaller c = grind (arith, common_steps)
+
+pub returns-clause-tokens : goal.returns-clause-tokens
+returns-clause-tokens c = grind (arith, common_steps)
+
+pub returns-clause-shared_out : goal.returns-clause-shared_out
+returns-clause-shared_out c = grind (arith, common_steps)

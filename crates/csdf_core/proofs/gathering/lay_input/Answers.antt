@@ -1,3 +1,4 @@
+use Rattle.std.proofs.lemmas.Grind.{common_steps}
 use Rattle.std.proofs.Common.{◌≡◌, ◌+◌, ◌-◌, ◌++◌, ℕ, List, length, take, drop, get_or, ap, ap₂, subst, sym, ◌∙◌, rules, arith}
 use Rattle.std.specs.Prelude.{ℤ}
 use Rattle.std.proofs.lemmas.Slice.{overwrites}
@@ -47,3 +48,15 @@ loop-firing-preserved c =
           c.loop-firing.into _ _ c.loop-firing-test.true (c.loop-firing.invariant.slot.all_is ∙ sym (need_is c.args.actor k cs)) c.turn_after-after.ensures.firing
           left front put back c.loop-firing.invariant.laid;
     }
+
+pub loop-firing-init : goal.loop-firing-init
+loop-firing-init c = grind (arith, common_steps)
+
+pub overflow_add-end : goal.overflow_add-end
+overflow_add-end c = grind (arith, common_steps)
+
+pub loop-firing-smaller : goal.loop-firing-smaller
+loop-firing-smaller c = grind (arith, common_steps)
+
+pub returns : goal.returns
+returns c = grind (arith, common_steps)

@@ -1,4 +1,4 @@
-use Rattle.std.proofs.Common.{◌≡◌, ◌∙◌, arith}
+use Rattle.std.proofs.Common.{◌∙◌, arith}
 use Rattle.csdf_floor.specs.Work.{IsMostPeriods}
 use Rattle.csdf_floor.proofs.MostPeriods.{most_of_all, most_with_one, most_is_many}
 use Rattle.csdf_floor.proofs.limits.most_periods.Goals as goal

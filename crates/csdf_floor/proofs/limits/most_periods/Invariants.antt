@@ -1,4 +1,3 @@
-use Rattle.std.proofs.Common.{ℕ}
 use Rattle.csdf_floor.proofs.MostPeriods.{IsMostBelow}
 use Rattle.csdf_floor.proofs.limits.most_periods.Given as goal
 

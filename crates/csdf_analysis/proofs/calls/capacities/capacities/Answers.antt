@@ -1,11 +1,10 @@
-use Rattle.std.proofs.Common.{arith}
+use Rattle.std.proofs.Common.{arith, rules, subst, sym, ◌∙◌}
 use Rattle.std.proofs.lemmas.Grind.{common_steps}
-use Rattle.std.proofs.Common.{rules, subst, sym, ◌∙◌}
 use Rattle.std.proofs.lemmas.Bool.{false≢true}
 use Rattle.csdf_analysis.specs.Period.{HoldInitial, CompletesPeriod}
 use Rattle.csdf_analysis.specs.Capacities.{full_capacities}
 use Rattle.csdf_analysis.specs.Lowering.{first_bounds, IsLowered}
-use Rattle.csdf_analysis.proofs.LowerLemmas.{first_initial, too_tight, lowered_first, lowered_all, same_list}
+use Rattle.csdf_analysis.proofs.LowerLemmas.{within_at, room_at, first_initial, too_tight, lowered_first, lowered_all, same_list}
 use Rattle.csdf_analysis.proofs.calls.capacities.capacities.Goals as goal
 
 pub completes-requires-2-clause-initial : goal.completes-requires-2-clause-initial
@@ -60,3 +59,19 @@ returns-in_err-bounds-clause-refusal c = grind (arith, common_steps)
 
 pub returns-in_err-least-clause-refusal : goal.returns-in_err-least-clause-refusal
 returns-in_err-least-clause-refusal c = grind (arith, common_steps)
+
+pub full_capacities-requires-clause-channels : goal.full_capacities-requires-clause-channels
+full_capacities-requires-clause-channels c =
+    within_at c.args.graph.now c.args.vector.now.r.items c.args.vector.now.q.items _ _ c.channels.ensures.well_formed c.requires c.deref.ensures.value c.channels.ensures.value
+
+pub full_capacities-requires-clause-room : goal.full_capacities-requires-clause-room
+full_capacities-requires-clause-room c =
+    room_at c.args.graph.now c.args.vector.now.r.items c.args.vector.now.q.items _ _ c.requires c.deref.ensures.value c.channels.ensures.value
+
+pub first_bounds-requires-clause-channels : goal.first_bounds-requires-clause-channels
+first_bounds-requires-clause-channels c =
+    within_at c.args.graph.now c.args.vector.now.r.items c.args.vector.now.q.items _ _ c.channels-2.ensures.well_formed c.requires c.deref-3.ensures.value c.channels-2.ensures.value
+
+pub first_bounds-requires-clause-room : goal.first_bounds-requires-clause-room
+first_bounds-requires-clause-room c =
+    room_at c.args.graph.now c.args.vector.now.r.items c.args.vector.now.q.items _ _ c.requires c.deref-3.ensures.value c.channels-2.ensures.value

@@ -47,3 +47,12 @@ raise-requires-clause-completes c = grind (arith, common_steps)
 
 pub returns-in_err-least : goal.returns-in_err-least
 returns-in_err-least c = grind (arith, common_steps)
+
+pub overflow_cast-place : goal.overflow_cast-place
+overflow_cast-place c = grind (arith, common_steps)
+
+pub raise-requires-clause-exists : goal.raise-requires-clause-exists
+raise-requires-clause-exists c = grind (arith, common_steps)
+
+pub index_mut-requires : goal.index_mut-requires
+index_mut-requires c = grind (arith, common_steps)

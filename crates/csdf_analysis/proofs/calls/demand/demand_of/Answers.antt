@@ -1,4 +1,5 @@
-use Rattle.std.proofs.Common.{List, map, subst}
+use Rattle.std.proofs.lemmas.Grind.{common_steps}
+use Rattle.std.proofs.Common.{arith, List, map, subst}
 use Rattle.csdf_model.specs.Graph.{Channel, actor_view, channel_view}
 use Rattle.csdf_analysis.specs.Demands.{AskBefore}
 use Rattle.csdf_analysis.specs.Members.{AreMembers}
@@ -27,3 +28,12 @@ returns-clause-demand c =
     (subst (λ ms. (done : List Channel) → AreMembers (map actor_view c.actors-actors.result.now) done ms
     → AskBefore (map actor_view c.actors-actors.result.now) done (channel_view c.index-channels-number.result) c.asked_of.result) c.deref.ensures.value
     c.asked_of.ensures)
+
+pub bounds-channels-number : goal.bounds-channels-number
+bounds-channels-number c = grind (arith, common_steps)
+
+pub members_before-requires-clause-few : goal.members_before-requires-clause-few
+members_before-requires-clause-few c = grind (arith, common_steps)
+
+pub members_before-requires-clause-exists : goal.members_before-requires-clause-exists
+members_before-requires-clause-exists c = grind (arith, common_steps)

@@ -1,6 +1,7 @@
-use Rattle.std.proofs.Common.{arith}
+use Rattle.std.proofs.Common.{◌∙◌, ap, length, arith, rules, List, map, subst, sym}
+use Rattle.csdf_model.specs.WellFormed.{IsActor}
+use Rattle.csdf_analysis.proofs.LowerLemmas.{within_for}
 use Rattle.std.proofs.lemmas.Grind.{common_steps}
-use Rattle.std.proofs.Common.{rules, List, map, subst, sym}
 use Rattle.std.specs.Prelude.{All}
 use Rattle.csdf_model.specs.Graph.{Actor, Channel, channel_view}
 use Rattle.csdf_analysis.specs.Members.{IsLink}
@@ -28,3 +29,17 @@ returns-in_err-map_err-clause-refusal c = grind (arith, common_steps)
 
 pub firings-requires-clause-each_actor : goal.firings-requires-clause-each_actor
 firings-requires-clause-each_actor c = grind (arith, common_steps)
+
+pub cycles-requires-clause-few : goal.cycles-requires-clause-few
+cycles-requires-clause-few c = grind (arith, common_steps)
+
+pub check_capacities-requires-clause-few : goal.check_capacities-requires-clause-few
+check_capacities-requires-clause-few c = grind (arith, common_steps)
+
+pub firings-requires-clause-actors : goal.firings-requires-clause-actors
+firings-requires-clause-actors c = subst (All IsActor) (sym c.actors-2.ensures.value) c.actors-2.ensures.well_formed.fitting.actors
+
+pub check_capacities-requires-clause-channels : goal.check_capacities-requires-clause-channels
+check_capacities-requires-clause-channels c =
+    within_for c.args.graph.now c.in_ok-q.q.items _ _ c.channels-2.ensures.well_formed (c.in_ok-q.ensures.each_actor ∙ ap length c.actors-2.ensures.value)
+    c.deref-2.ensures.value c.channels-2.ensures.value

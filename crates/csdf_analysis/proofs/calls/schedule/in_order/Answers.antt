@@ -1,5 +1,5 @@
+use Rattle.std.proofs.Common.{inr, arith}
 use Rattle.std.proofs.lemmas.Grind.{common_steps}
-use Rattle.std.proofs.Common.{arith}
 use Rattle.csdf_analysis.proofs.RunLemmas.{firings_left}
 use Rattle.csdf_analysis.proofs.SearchLemmas.{printed_all}
 use Rattle.csdf_analysis.proofs.calls.schedule.in_order.Goals as goal
@@ -13,3 +13,18 @@ returns c = printed_all _ _ _ _ _ _ _ _ c.loop-actor.invariant.run.at c.in_defau
 
 pub loop-actor-preserved : goal.loop-actor-preserved
 loop-actor-preserved c = grind (arith, common_steps)
+
+pub new-requires : goal.new-requires
+new-requires c = c.requires.each_channel
+
+pub step-requires-clause-can_go : goal.step-requires-clause-can_go
+step-requires-clause-can_go c = c.in-Some.ensures.found.can_go
+
+pub step-requires-clause-actors : goal.step-requires-clause-actors
+step-requires-clause-actors c = c.in-Some.ensures.waiting.actors
+
+pub step-requires-clause-able : goal.step-requires-clause-able
+step-requires-clause-able c = λ b can. inr (c.in-Some.ensures.waiting.able b can)
+
+pub next-requires-clause-waiting : goal.next-requires-clause-waiting
+next-requires-clause-waiting c = c.loop-actor.invariant.waiting

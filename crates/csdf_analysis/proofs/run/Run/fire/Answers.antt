@@ -1,3 +1,4 @@
+use Rattle.std.proofs.lemmas.Grind.{common_steps}
 use Rattle.std.proofs.Common.{◌≡◌, ◌+◌, ◌%◌, List, ℕ, length, get_or, set, refl, ap, subst, sym, ◌∙◌, arith}
 use Rattle.std.specs.Vec.{with_items}
 use Rattle.std.proofs.lemmas.List.{get_or_default, with_items_is}
@@ -51,3 +52,9 @@ returns-clause-run c =
           (subst (AreHeld channels counts) (sym last) (subst (λ (ks : List ℕ). AreHeld channels ks c.put.new.lengths) (sym is) held)) refl;
       in_phase = in_phase_fired actors old counts _ a c.phase_after.result c.requires.can_go.able.exists c.requires.run.in_phase is phase;
     }
+
+pub overflow_add-index_mut : goal.overflow_add-index_mut
+overflow_add-index_mut c = grind (arith, common_steps)
+
+pub returns-clause-counts : goal.returns-clause-counts
+returns-clause-counts c = grind (arith, common_steps)

@@ -1,3 +1,4 @@
+use Rattle.std.proofs.lemmas.Grind.{common_steps}
 use Rattle.std.proofs.Common.{◌≡◌, ℕ, ap, subst, sym, ◌∙◌, refl, arith, Option, Some, None, false}
 use Rattle.std.specs.Prelude.{is_some}
 use Rattle.csdf_core.specs.Plan.{Plan}
@@ -59,3 +60,18 @@ returns-then-not-has_supply c =
     let short = rw (← c.self.view_is) at c.if-not-has_supply.ensures.1 in
     rw (← c.self.view_is)
     (λ e. absurd (cc), λ h. short (λ source. (let s = h.supply source in omega (arith, s, given, given_more plan a k n))))
+
+pub overflow_add-from : goal.overflow_add-from
+overflow_add-from c = grind (arith, common_steps)
+
+pub returns-then-from : goal.returns-then-from
+returns-then-from c = grind (arith, common_steps)
+
+pub returns-then-is_some : goal.returns-then-is_some
+returns-then-is_some c = grind (arith, common_steps)
+
+pub returns-then-not-may_begin : goal.returns-then-not-may_begin
+returns-then-not-may_begin c = grind (arith, common_steps)
+
+pub returns-then-not-has_cells : goal.returns-then-not-has_cells
+returns-then-not-has_cells c = grind (arith, common_steps)

@@ -1,3 +1,4 @@
+use Rattle.std.proofs.lemmas.Grind.{common_steps}
 use Rattle.std.specs.Prelude.{slice_index}
 use Rattle.csdf_core.specs.declared.stage.Stage.TheVariants.{Idle}
 use Rattle.csdf_core.specs.Sound.{IsSound}
@@ -85,3 +86,30 @@ returns-clause-step c =
     }) (sym one) in
     rw (← c.self.view_is) (follows_accepted _ _ (Finish a) _ refl none refl now c.self.invariant.sound.fit refl c.self.invariant.sound.cells
     (sym (peaks_stay _ _ _ _ _ _ _ c.self.invariant.sound)))
+
+pub returns-in-Some-clause-refusal : goal.returns-in-Some-clause-refusal
+returns-in-Some-clause-refusal c = grind (arith, common_steps)
+
+pub returns-in-Some-clause-unchanged : goal.returns-in-Some-clause-unchanged
+returns-in-Some-clause-unchanged c = grind (arith, common_steps)
+
+pub returns-in-Some-clause-cells : goal.returns-in-Some-clause-cells
+returns-in-Some-clause-cells c = grind (arith, common_steps)
+
+pub overflow_add-index_mut : goal.overflow_add-index_mut
+overflow_add-index_mut c = grind (arith, common_steps)
+
+pub overflow_cast-need : goal.overflow_cast-need
+overflow_cast-need c = grind (arith, common_steps)
+
+pub overflow_cast-gift : goal.overflow_cast-gift
+overflow_cast-gift c = grind (arith, common_steps)
+
+pub returns-clause-refusal : goal.returns-clause-refusal
+returns-clause-refusal c = grind (arith, common_steps)
+
+pub returns-clause-unchanged : goal.returns-clause-unchanged
+returns-clause-unchanged c = grind (arith, common_steps)
+
+pub returns-clause-cells : goal.returns-clause-cells
+returns-clause-cells c = grind (arith, common_steps)

@@ -95,7 +95,7 @@ invariant_of-self c =
     (feeds_in c.self.inside.reads.items)) (sym c.note_firings.ensures.keeps)
     (book_fired c.self.inside.journal.keeps c.self.inside.journal.keeps c.self.inside.work c.self.inside.core c.fire.new.self c.self.inside.journal.moves
     c.note_firings.new.journal.moves c.self.inside.sinks.lists c.append_where.new.self.lists (feeds_in c.self.inside.reads.items) c.args.actor c.args.n
-    c.args.each c.args.tokens.now c.self.invariant (has at) (each at) (made at) c.note_firings.ensures.moves (took at))
+    c.args.each (tokens at) c.args.tokens.now c.self.invariant (has at) (each at) (made at) c.note_firings.ensures.moves (took at))
 
 pub returns-clause-made : goal.returns-clause-made
 returns-clause-made c =

@@ -1,7 +1,6 @@
-use Rattle.std.proofs.Common.{List, rules, sym, subst}
-use Rattle.std.specs.Prelude.{ℤ}
-use Rattle.csdf_analysis.specs.Acceptance.{Accepted, IsAccepted}
-use Rattle.csdf_floor.specs.Work.{AreFeeds, HasFewFirings}
+use Rattle.std.proofs.Common.{rules, sym, subst}
+use Rattle.csdf_analysis.specs.Acceptance.{Accepted}
+use Rattle.csdf_floor.specs.Work.{HasFewFirings}
 use Rattle.csdf_floor.proofs.work.Work.new.Goals as goal
 
 pub invariant_of-result : goal.invariant_of-result

@@ -1,0 +1,283 @@
+-- Firings of an actor that keeps its state in a channel to itself are their moves, one after another.
+use Rattle.std.proofs.Common.{◌≡◌, ℕ, zero, suc, ◌+◌, ◌-◌, ◌*◌, ◌<◌, ◌≤◌, List, [], ◌∷◌, length, get_or, set, take, drop, refl, ap, ap₂, subst, ◌∙◌}
+use Rattle.std.proofs.Common.{sym, arith, None, set-set, length-set, get_or-set_same, suc-mul}
+use Rattle.std.specs.Prelude.{ℤ}
+use Rattle.std.proofs.lemmas.List.{set-get_or, length-take-le, length-drop}
+use Rattle.csdf_pool.specs.Pool.{Shared}
+use Rattle.csdf_core.specs.declared.stage.Stage.TheVariants.{Idle, Begun, Fetched, Written}
+use Rattle.csdf_core.specs.Blocks.{gifts_of, firings_of, AreAccepted, answers_to, pool_after, peaks_after, Suffices}
+use Rattle.csdf_core.specs.Feedback.{KeepsState, GoesOn}
+use Rattle.csdf_core.specs.Moves.{Begin, Read, Write, Finish}
+use Rattle.csdf_core.specs.Plan.{Plan}
+use Rattle.csdf_core.specs.Ports.{take_at, tokens_in, raise_over, EnoughOver}
+use Rattle.csdf_core.specs.Rows.{need, gift, left, AreThere}
+use Rattle.csdf_core.specs.Shows.{Plays}
+use Rattle.csdf_core.specs.Step.{count, stage, refusal, first_of, write_table, begun_count, held}
+use Rattle.csdf_core.specs.Transfers.{after_read}
+use Rattle.csdf_core.proofs.Accepting.{reads_free, writes_free, finishes_free}
+use Rattle.csdf_core.proofs.BlockMachines.{Machine, IsGood, view, plays_first, ins, outs, all_told, m_begun, m_fetched, m_written, m_finished}
+use Rattle.csdf_core.proofs.BlockMachines.{good_begun, good_fetched, good_written, good_finished, follows_begun, follows_fetched}
+use Rattle.csdf_core.proofs.BlockMachines.{follows_written, follows_finished}
+use Rattle.csdf_core.proofs.BlockMoves.{AreFew, fewer, machine_same}
+use Rattle.csdf_core.proofs.BlockTokens.{outputs_after}
+use Rattle.csdf_core.proofs.FeedbackTokens.{goes_next, state_length, tokens_after, room_after, state_takes, state_needed}
+use Rattle.csdf_core.proofs.Moving.{peaks_here, enough_here, cells_to_write}
+use Rattle.csdf_core.proofs.OnePhase.{same_gift}
+use Rattle.csdf_core.proofs.Presents.{present_same}
+use Rattle.csdf_core.proofs.Ready.{are_there}
+use Rattle.csdf_core.proofs.RoomLemmas.{held-left, held-joined}
+use Rattle.csdf_core.proofs.Runs.{plays_none}
+
+-- the state after n firings, in one step
+pub record IsLoopBlock (plan : Plan) (a k n : ℕ) (v : List ℤ) (m new : Machine) : Type 0 where
+  pub counts : new.now.counts ≡ set m.now.counts a (k + n)
+  pub stages : new.now.stages ≡ m.now.stages
+  pub opens : new.now.opens ≡ m.now.opens
+  pub sums : new.sums ≡ set m.sums a (get_or m.sums a 0 + gifts_of plan.channels a k n)
+  pub started : new.started ≡ m.started + n
+  pub kept : new.kept ≡ m.kept
+  pub cells : new.pool ≡ pool_after plan a k n m.pool v
+  pub peaks : new.peaks ≡ peaks_after plan a k n m.pool v m.peaks
+  pub enough : Suffices plan a k n m.pool v
+  pub good : IsGood plan new
+  pub accepted : AreAccepted plan m.now (firings_of plan.channels a k n v)
+  pub plays : Plays (view plan m) (view plan new) (firings_of plan.channels a k n v) (answers_to plan m.now (firings_of plan.channels a k n v))
+
+module _ (plan : Plan) (a own : ℕ) (keeps : KeepsState plan a own) where
+  module _ (n : ℕ) (m : Machine) (v : List ℤ) (good : IsGood plan m) (h : GoesOn plan m.now a own (count m.now a) (suc n))
+      (len : length v ≡ gift a (count m.now a) plan.channels) (few : gift a (count m.now a) plan.channels ≤ 8192) where
+    abbrev k : ℕ
+    k = count m.now a
+
+    abbrev m1 : Machine
+    m1 = m_begun plan a m
+
+    abbrev m2 : Machine
+    m2 = m_fetched plan a m1
+
+    abbrev m3 : Machine
+    m3 = m_written plan a m2 v
+
+    abbrev pub m4 : Machine
+    m4 = m_finished plan a m3
+
+    lt : a < length m.now.stages
+    lt = let staged = good.sound.fit.staged in let there = h.there in omega arith
+
+    pub none1 : refusal plan m.now (Begin a) ≡ None
+    none1 = goes_next plan a own keeps m.now n good.sound.fit h
+
+    pub good1 : IsGood plan m1
+    good1 = good_begun plan a m good none1
+
+    at1 : stage m1.now a ≡ Begun
+    at1 = get_or-set_same m.now.stages a Begun Idle lt
+
+    pub none2 : refusal plan m1.now (Read a) ≡ None
+    none2 = reads_free plan m1.now a h.there at1
+
+    pub good2 : IsGood plan m2
+    good2 = good_fetched plan a m1 good1 none2
+
+    at2 : stage m2.now a ≡ Fetched
+    at2 = get_or-set_same m1.now.stages a Fetched Idle (let e = length-set m.now.stages a Begun in let l = lt in omega (arith, e, l))
+
+    pub none3 : first_of (write_table plan m2.now a v) ≡ None
+    none3 = writes_free plan m2.now a v h.there at2 len
+
+    pub good3 : IsGood plan m3
+    good3 = good_written plan a m2 good2 v none3
+
+    lt3 : a < length m3.now.stages
+    lt3 = let staged = good3.sound.fit.staged in let there = h.there in omega arith
+
+    lt2 : a < length m2.now.stages
+    lt2 = let staged = good2.sound.fit.staged in let there = h.there in omega arith
+
+    at3 : stage m3.now a ≡ Written
+    at3 = get_or-set_same m2.now.stages a Written Idle lt2
+
+    pub none4 : refusal plan m3.now (Finish a) ≡ None
+    none4 = finishes_free plan m3.now a h.there at3
+
+    pub good4 : IsGood plan m4
+    good4 = good_finished plan a m3 good3 none4 few
+
+    -- what has changed
+    pub stages4 : m4.now.stages ≡ m.now.stages
+    stages4 =
+        set-set (set (set m.now.stages a Begun) a Fetched) a Written Idle
+        ∙ set-set (set m.now.stages a Begun) a Fetched Idle
+        ∙ set-set m.now.stages a Begun Idle
+        ∙ ap (set m.now.stages a) (sym h.idle)
+        ∙ set-get_or m.now.stages a Idle
+
+    pub kept4 : m4.kept ≡ m.kept
+    kept4 = omega (arith, len)
+
+    pub peaks4 : m4.peaks ≡ raise_over (outs plan a) m4.now.tokens m.peaks
+    peaks4 =
+        sym (peaks_here plan m2.now a v m4.now.tokens m.peaks (raise_over (outs plan a) m4.now.tokens m.peaks) good2.sound.fit good2.sound.peaked
+        good2.sound.high refl refl)
+
+    pub number4 : count m4.now a ≡ suc k
+    number4 = get_or-set_same m.now.counts a (suc k) 0 (let counted = good.sound.fit.counted in let there = h.there in omega (arith, counted, there))
+
+    -- the firing finds its tokens, and cells
+    pub enough4 : EnoughOver (take_at plan.channels k) (ins plan a) (tokens_in m.pool)
+    enough4 = subst (EnoughOver (take_at plan.channels k) (ins plan a)) (sym good.chains) (enough_here plan m1.now a k good1.sound.fit none2 refl)
+
+    pub cells4 : gift a k plan.channels ≤ length (after_read plan a k m.pool).free
+    cells4 = let c = cells_to_write plan m2.now a (length m2.pool.free) v good2.sound.fit none3 (all_told plan a m2 good2) in omega (arith, c, len)
+
+    -- no more is held than before, but for what it gave to others
+    held4 : held m4.now + need a k plan.channels ≡ held m.now + gift a k plan.channels
+    held4 =
+        let there : AreThere a k plan.channels m.now.tokens = are_there m1.now a plan.channels m.now.tokens at1 good1.sound.fit.ready in
+        let out = held-left a k plan.channels m.now.tokens good.sound.fit.queued there in
+        let put = held-joined a k plan.channels (left a k plan.channels m.now.tokens) v good2.sound.fit.queued len in
+        omega (arith, out, put)
+
+    pub finds4 : GoesOn plan m4.now a own (suc k) n
+    finds4 = record {
+      there = h.there;
+      number = number4;
+      idle = get_or-set_same m3.now.stages a Idle Idle lt3;
+      limit = (let l = h.limit in omega (arith, l));
+      opens = h.opens;
+      state = state_length plan a own keeps k n m.now.tokens v good.sound.fit.queued len h.state ∙ state_takes plan a own keeps k (suc k);
+      tokens = tokens_after plan a own keeps k n m.now.tokens v good.sound.fit.queued len h.state h.tokens;
+      room = room_after plan a own keeps k n m.now.tokens v good.sound.fit.queued len h.state
+          (outputs_after plan.channels a k m.now.tokens v good.sound.fit.queued) h.room;
+      firings = fewer plan.firings (begun_count m.now) (begun_count m4.now) n
+          (let x = good.sound.starts in let y = good4.sound.starts in omega (arith, x, y)) h.firings;
+      cells =
+          let c = h.cells in
+          let each : gift a (suc k) plan.channels - take_at plan.channels (suc k) own ≡ gift a k plan.channels - take_at plan.channels k own =
+          ap₂ (λ (x y : ℕ). x - y) (same_gift plan.channels a keeps.phases (suc k) k) (state_takes plan a own keeps (suc k) k) in
+          let all = ap (λ (x : ℕ). n * x) each in
+          let more = suc-mul n (gift a k plan.channels - take_at plan.channels k own) in
+          let low = state_needed plan a own keeps k in
+          let now4 = held4 in
+          let u = good.sound.keeps in
+          let w = good4.sound.keeps in
+          let kept = kept4 in
+          omega (arith, c, all, more, low, now4, u, w, kept);
+    }
+
+  pub loop_of : (n : ℕ) (v : List ℤ) (m : Machine) → IsGood plan m → GoesOn plan m.now a own (count m.now a) n
+      → length v ≡ gifts_of plan.channels a (count m.now a) n → AreFew plan a (count m.now a) n
+      → (new : Machine) × IsLoopBlock plan a (count m.now a) n v m new
+  loop_of zero (x ∷ v) m good h len few = absurd (omega arith)
+  loop_of zero [] m good h len few = (
+    m,
+    record {
+      counts = sym (ap (set m.now.counts a) (let e : count m.now a + 0 ≡ count m.now a = omega arith in e) ∙ set-get_or m.now.counts a 0);
+      stages = refl;
+      opens = refl;
+      sums = sym (ap (set m.sums a) (let e : get_or m.sums a 0 + 0 ≡ get_or m.sums a 0 = omega arith in e) ∙ set-get_or m.sums a 0);
+      started = omega arith;
+      kept = refl;
+      cells = refl;
+      peaks = refl;
+      enough = tt;
+      good = good;
+      accepted = tt;
+      plays = plays_none (view plan m);
+    },
+  )
+  loop_of (suc n) v m good h len few =
+      let k : ℕ = count m.now a in
+      let g : ℕ = gift a k plan.channels in
+      let v1 : List ℤ = take g v in
+      let w : List ℤ = drop g v in
+      let len1 : length v1 ≡ g = length-take-le g v (omega (arith, len)) in
+      let lenw : length w ≡ gifts_of plan.channels a (suc k) n = (let d = length-drop g v in omega (arith, d, len)) in
+      let few1 : g ≤ 8192 = (let f = few 0 (omega arith) in let e = ap (λ (x : ℕ). gift a x plan.channels) (let z : k + 0 ≡ k = omega arith in z) in
+      omega (arith, f, e)) in
+      let n1 : Machine = m_begun plan a m in
+      let n2 : Machine = m_fetched plan a n1 in
+      let n3 : Machine = m_written plan a n2 v1 in
+      let n4 : Machine = m_finished plan a n3 in
+      let g4 : IsGood plan n4 = good4 n m v1 good h len1 few1 in
+      let f4 : GoesOn plan n4.now a own (suc k) n = finds4 n m v1 good h len1 few1 in
+      let number : count n4.now a ≡ suc k = f4.number in
+      let h4 : GoesOn plan n4.now a own (count n4.now a) n = subst (λ (x : ℕ). GoesOn plan n4.now a own x n) (sym number) f4 in
+      let few4 : AreFew plan a (count n4.now a) n = λ i lt. (let f = few (suc i) (omega arith) in
+      let e = ap (λ (x : ℕ). gift a x plan.channels) (let z : count n4.now a + i ≡ k + suc i = omega (arith, number) in z) in omega (arith, f, e)) in
+      let rest : (new : Machine) × IsLoopBlock plan a (count n4.now a) n w n4 new = loop_of n w n4 g4 h4
+      (lenw ∙ ap (λ (x : ℕ). gifts_of plan.channels a x n) (sym number)) few4 in
+      let new : Machine = rest.0 in
+      let b : IsLoopBlock plan a (suc k) n w n4 new = subst (λ (x : ℕ). IsLoopBlock plan a x n w n4 new) number rest.1 in
+      (new, loop_step n v m new good h len len1 few1 b)
+    where
+      loop_step : (n : ℕ) (v : List ℤ) (m new : Machine) (good : IsGood plan m) (h : GoesOn plan m.now a own (count m.now a) (suc n))
+          → length v ≡ gifts_of plan.channels a (count m.now a) (suc n)
+          → (len1 : length (take (gift a (count m.now a) plan.channels) v) ≡ gift a (count m.now a) plan.channels)
+          → (few1 : gift a (count m.now a) plan.channels ≤ 8192)
+          → IsLoopBlock plan a (suc (count m.now a)) n (drop (gift a (count m.now a) plan.channels) v)
+          (m4 n m (take (gift a (count m.now a) plan.channels) v) good h len1 few1) new
+          → IsLoopBlock plan a (count m.now a) (suc n) v m new
+      loop_step n v m new good h len len1 few1 b =
+          let k : ℕ = count m.now a in
+          let g : ℕ = gift a k plan.channels in
+          let v1 : List ℤ = take g v in
+          let w : List ℤ = drop g v in
+          let n1 : Machine = m_begun plan a m in
+          let n2 : Machine = m_fetched plan a n1 in
+          let n3 : Machine = m_written plan a n2 v1 in
+          let n4 : Machine = m_finished plan a n3 in
+          let g4 : IsGood plan n4 = good4 n m v1 good h len1 few1 in
+          let summed : a < length m.sums = (let c = good.sound.tallied in let there = h.there in omega (arith, c, there)) in
+          record {
+            counts = b.counts ∙ set-set m.now.counts a (suc k) (suc k + n) ∙ ap (set m.now.counts a) (let e : suc k + n ≡ k + suc n = omega arith in e);
+            stages = b.stages ∙ stages4 n m v1 good h len1 few1;
+            opens = b.opens;
+            sums = b.sums ∙ set-set m.sums a (get_or m.sums a 0 + g) (get_or n4.sums a 0 + gifts_of plan.channels a (suc k) n)
+                ∙ ap (set m.sums a) (let e = get_or-set_same m.sums a (get_or m.sums a 0 + g) 0 summed in
+                let z : get_or n4.sums a 0 + gifts_of plan.channels a (suc k) n ≡ get_or m.sums a 0 + (g + gifts_of plan.channels a (suc k) n) =
+                omega (arith, e) in z);
+            started = (let e = b.started in omega (arith, e));
+            kept = b.kept ∙ kept4 n m v1 good h len1 few1;
+            cells = b.cells;
+            peaks = b.peaks ∙ ap (peaks_after plan a (suc k) n n4.pool w)
+                (peaks4 n m v1 good h len1 few1 ∙ ap (λ (ts : List (List ℤ)). raise_over (outs plan a) ts m.peaks) (sym g4.chains));
+            enough = (enough4 n m v1 good h len1 few1, cells4 n m v1 good h len1 few1, b.enough);
+            good = b.good;
+            accepted = (
+              none1 n m v1 good h len1 few1,
+              (none2 n m v1 good h len1 few1, (none3 n m v1 good h len1 few1, (none4 n m v1 good h len1 few1, b.accepted))),
+            );
+            plays = plays_first plan m n1 new (Begin a) _ _ _ (follows_begun plan a m good (none1 n m v1 good h len1 few1))
+                (plays_first plan n1 n2 new (Read a) _ _ _
+                (follows_fetched plan a n1 (good1 n m v1 good h len1 few1) (none2 n m v1 good h len1 few1))
+                (plays_first plan n2 n3 new (Write a v1) _ _ _
+                (follows_written plan a n2 (good2 n m v1 good h len1 few1) v1 (none3 n m v1 good h len1 few1))
+                (plays_first plan n3 n4 new (Finish a) _ _ _
+                (follows_finished plan a n3 (good3 n m v1 good h len1 few1) (none4 n m v1 good h len1 few1)) b.plays)));
+          }
+
+-- where the code lands
+pub loop_lands : (plan : Plan) (a k n : ℕ) (v : List ℤ) (m new : Machine) → IsLoopBlock plan a k n v m new → (counts sums peaks : List ℕ) (started : ℕ)
+    (pool : Shared) → counts ≡ set m.now.counts a (k + n) → sums ≡ set m.sums a (get_or m.sums a 0 + gifts_of plan.channels a k n)
+    → peaks ≡ peaks_after plan a k n m.pool v m.peaks → started ≡ m.started + n → pool ≡ pool_after plan a k n m.pool v
+    → new ≡ record {
+      now = record { counts = counts; stages = m.now.stages; opens = m.now.opens; tokens = tokens_in pool };
+      peaks = peaks;
+      sums = sums;
+      started = started;
+      kept = m.kept;
+      pool = pool;
+    }
+loop_lands plan a k n v m new b counts sums peaks started pool counts_is sums_is peaks_are started_is same =
+    machine_same new (record {
+      now = record { counts = counts; stages = m.now.stages; opens = m.now.opens; tokens = tokens_in pool };
+      peaks = peaks;
+      sums = sums;
+      started = started;
+      kept = m.kept;
+      pool = pool;
+    })
+    (present_same new.now (record { counts = counts; stages = m.now.stages; opens = m.now.opens; tokens = tokens_in pool })
+    (b.counts ∙ sym counts_is) b.stages b.opens (sym b.good.chains ∙ ap tokens_in (b.cells ∙ sym same)))
+    (b.peaks ∙ sym peaks_are) (b.sums ∙ sym sums_is) (b.started ∙ sym started_is) b.kept (b.cells ∙ sym same)

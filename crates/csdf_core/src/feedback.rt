@@ -1,0 +1,412 @@
+//! Several firings of an actor that keeps its state in a channel to itself.
+//!
+//! What such a firing reads is what the firing before it wrote, so that its values come one after the other: whoever
+//! computes them has the state and the other tokens at once ([`Core::peek_on`]), and then makes all moves in one
+//! call ([`Core::go_on`]).
+
+ghost use Rattle.std.specs.Prelude.{ℕ, ◌≡◌, ◌≢◌, ◌+◌, ◌-◌, ◌*◌, ◌<◌, ◌≤◌, ◌↔◌, IsTrue, IfSome, IfNone, length, List, ℤ, sum_by};
+ghost use Rattle.std.specs.List.{AllByRecursion};
+ghost use Rattle.csdf_core.specs.Blocks.{takes_at, gives_at, gifts_of, HoldAll, HaveRoomFor, AreAccepted, answers_to, firings_of, from_front};
+ghost use Rattle.csdf_core.specs.Feedback.{KeepsState, IsFeedback, CanGoOn, AreReadWith, asks_at, fills_at, before_of, in_order, loop_reads, others_of};
+ghost use Rattle.csdf_core.specs.Phases.{HasPhases, IsInPhase};
+ghost use Rattle.csdf_core.specs.Plan.{from_at, to_at};
+ghost use Rattle.csdf_core.specs.Ports.{inputs_at, outputs_at, take_at, give_at, tokens_at, tokens_in};
+ghost use Rattle.csdf_core.specs.Rows.{gift};
+ghost use Rattle.csdf_core.specs.Shows.{Plays};
+ghost use Rattle.csdf_core.specs.Step.{count, stage};
+
+use crate::blocks::{look_ahead, times};
+use crate::firing_core::Core;
+use crate::first_refusal::is_at;
+use crate::layout::Layout;
+use crate::readiness::first_closed;
+use crate::several::{fire_each, given_of, taken_of};
+use crate::stage::Stage;
+use crate::transfer::{gift_of, need_of};
+use crate::turn::Turn;
+use csdf_pool::Pool;
+
+/// The channel in which an actor keeps its state: it goes from the actor to itself, and each firing takes all that it
+/// holds and gives as many tokens back.
+#[derive(Clone, Copy, Debug, PartialEq, Eq)]
+pub struct Feedback {
+    /// The channel.
+    pub channel: u32,
+    /// How many tokens a firing takes of it.
+    pub taken: u32,
+    /// The actor's other input, where it has one.
+    pub other: Option<u32>,
+    /// How many tokens a firing takes of that one.
+    pub each: u32,
+    /// Whether the state is read before the other tokens.
+    pub is_first: bool,
+    /// How many of the tokens that a firing writes stand before those that go back.
+    pub before: u32,
+}
+
+/// The first channel from the actor to itself.
+fn first_loop(layout: &Layout, actor: u32) -> Option<u32>
+    requires { actor < length layout.now.sources }
+    ensures { IfSome result (λ c. (c < length layout.now.channels) × (from_at layout.now.channels c ≡ actor) × (to_at layout.now.channels c ≡ actor)) }
+{
+    let inputs = layout.inputs(actor);
+    for channel in inputs {
+        if layout.producer(*channel) == actor {
+            return Some(*channel);
+        }
+    }
+    None
+}
+
+/// Whether no other channel goes from the actor to itself.
+fn is_only_loop(layout: &Layout, actor: u32, own: u32) -> bool
+    requires { actor < length layout.now.sources }
+    ensures { IsTrue result → AllByRecursion (λ c. c ≢ own → from_at layout.now.channels c ≢ actor) (inputs_at layout.now.channels actor) }
+{
+    let inputs = layout.inputs(actor);
+    for channel in inputs {
+        if *channel != own && layout.producer(*channel) == actor {
+            return false;
+        }
+    }
+    true
+}
+
+/// The inputs of an actor of which one is this channel: the other one, and whether this one comes first. `None`
+/// where it has more.
+fn order_of(layout: &Layout, actor: u32, own: u32) -> Option<(Option<u32>, bool)>
+    requires { actor < length layout.now.sources }
+    ensures order { IfSome result (λ r. inputs_at layout.now.channels actor ≡ in_order r.1 own (others_of r.0)) }
+    ensures apart { IfSome result (λ r. IfSome r.0 (λ c. c ≢ own)) }
+{
+    match layout.inputs(actor) {
+        [only] if *only == own => Some((None, true)),
+        [first, last] if *first == own && *last != own => Some((Some(*last), true)),
+        [first, last] if *last == own && *first != own => Some((Some(*first), false)),
+        _ => None,
+    }
+}
+
+/// How many tokens a firing gives to the outputs that come before this one.
+fn given_before(layout: &Layout, actor: u32, own: u32, turn: Turn) -> u32
+    requires actor { actor < length layout.now.sources }
+    requires in_phase { IsInPhase layout.now.channels actor turn.firing turn.phase }
+    ensures value { result ≡ before_of (give_at layout.now.channels turn.firing) (outputs_at layout.now.channels actor) own }
+{
+    let outputs = layout.outputs(actor);
+    let mut sum = 0;
+    for channel in outputs {
+        if *channel == own {
+            return sum;
+        }
+        sum += layout.gives(*channel, turn);
+    }
+    sum
+}
+
+/// How many tokens a firing takes of the input, where there is one.
+fn taken_of_other(layout: &Layout, actor: u32, other: Option<u32>, turn: Turn) -> u32
+    requires actor { actor < length layout.now.sources }
+    requires in_phase { IsInPhase layout.now.channels actor turn.firing turn.phase }
+    requires own { IfSome other (λ c. (c < length layout.now.channels) × (to_at layout.now.channels c ≡ actor)) }
+    ensures value { result ≡ sum_by (take_at layout.now.channels turn.firing) (others_of other) }
+{
+    match other {
+        Some(channel) => layout.takes(channel, turn),
+        None => 0,
+    }
+}
+
+/// How many tokens n firings have to find in the input: in the channel to the actor itself those of one.
+fn asked_of(layout: &Layout, actor: u32, own: u32, channel: u32, turn: Turn, n: u32) -> u64
+    requires actor { actor < length layout.now.sources }
+    requires channel { channel < length layout.now.channels }
+    requires own { to_at layout.now.channels channel ≡ actor }
+    requires in_phase { IsInPhase layout.now.channels actor turn.firing turn.phase }
+    requires low { turn.phase < 16 }
+    requires few { turn.firing + n ≤ 16_384_000 }
+    ensures value { result ≡ asks_at layout.now.channels own turn.firing n channel }
+{
+    if channel == own {
+        return u64::from(layout.takes(channel, turn));
+    }
+    taken_of(layout, actor, channel, turn, n)
+}
+
+/// For how many tokens n firings have to find room in the output: in the channel to the actor itself for none.
+fn filled_of(layout: &Layout, actor: u32, own: u32, channel: u32, turn: Turn, n: u32) -> u64
+    requires actor { actor < length layout.now.sources }
+    requires channel { channel < length layout.now.channels }
+    requires own { from_at layout.now.channels channel ≡ actor }
+    requires in_phase { IsInPhase layout.now.channels actor turn.firing turn.phase }
+    requires low { turn.phase < 16 }
+    requires few { turn.firing + n ≤ 16_384_000 }
+    ensures value { result ≡ fills_at layout.now.channels own turn.firing n channel }
+    ensures small { result ≤ 64 * n }
+{
+    if channel == own {
+        return 0;
+    }
+    given_of(layout, actor, channel, turn, n)
+}
+
+/// Whether each input of the actor holds what its next n firings have to find there.
+fn hold_asked(layout: &Layout, pool: &Pool, actor: u32, own: u32, turn: Turn, n: u32) -> bool
+    requires actor { actor < length layout.now.sources }
+    requires same { length pool.now.chains ≡ length layout.now.channels }
+    requires in_phase { IsInPhase layout.now.channels actor turn.firing turn.phase }
+    requires low { turn.phase < 16 }
+    requires few { turn.firing + n ≤ 16_384_000 }
+    ensures { IsTrue result ↔ HoldAll (tokens_in pool.now) (asks_at layout.now.channels own turn.firing n) (inputs_at layout.now.channels actor) }
+{
+    let inputs = layout.inputs(actor);
+    for channel in inputs {
+        let needed = asked_of(layout, actor, own, *channel, turn, n);
+        if u64::from(pool.len(*channel)) < needed {
+            return false;
+        }
+    }
+    true
+}
+
+/// Whether each output of the actor has the room that its next n firings have to find there.
+fn have_asked(layout: &Layout, pool: &Pool, actor: u32, own: u32, turn: Turn, n: u32) -> bool
+    requires actor { actor < length layout.now.sources }
+    requires same { length pool.now.chains ≡ length layout.now.channels }
+    requires in_phase { IsInPhase layout.now.channels actor turn.firing turn.phase }
+    requires low { turn.phase < 16 }
+    requires few { turn.firing + n ≤ 16_384_000 }
+    ensures { IsTrue result ↔ HaveRoomFor layout.now.channels (tokens_in pool.now) (fills_at layout.now.channels own turn.firing n)
+        (outputs_at layout.now.channels actor) }
+{
+    let outputs = layout.outputs(actor);
+    for channel in outputs {
+        let given = filled_of(layout, actor, own, *channel, turn, n);
+        if u64::from(pool.len(*channel)) + given > u64::from(layout.capacity(*channel)) {
+            return false;
+        }
+    }
+    true
+}
+
+/// How many firings at most find their tokens in the inputs that are not this channel.
+fn held_beside(layout: &Layout, pool: &Pool, actor: u32, own: u32, turn: Turn, most: u32) -> u32
+    requires actor { actor < length layout.now.sources }
+    requires same { length pool.now.chains ≡ length layout.now.channels }
+    requires in_phase { IsInPhase layout.now.channels actor turn.firing turn.phase }
+    ensures { result ≤ most }
+{
+    let inputs = layout.inputs(actor);
+    let mut n = most;
+    for channel in inputs {
+        if *channel != own {
+            let each = u64::from(layout.takes(*channel, turn));
+            n = times(u64::from(pool.len(*channel)), each, n);
+        }
+    }
+    n
+}
+
+/// How many firings at most find room in the outputs that are not this channel.
+fn room_beside(layout: &Layout, pool: &Pool, actor: u32, own: u32, turn: Turn, most: u32) -> u32
+    requires actor { actor < length layout.now.sources }
+    requires same { length pool.now.chains ≡ length layout.now.channels }
+    requires in_phase { IsInPhase layout.now.channels actor turn.firing turn.phase }
+    ensures { result ≤ most }
+{
+    let outputs = layout.outputs(actor);
+    let mut n = most;
+    for channel in outputs {
+        if *channel != own {
+            let room = layout.capacity(*channel).saturating_sub(pool.len(*channel));
+            let each = u64::from(layout.gives(*channel, turn));
+            n = times(u64::from(room), each, n);
+        }
+    }
+    n
+}
+
+/// Copies the oldest tokens of the channel, where there is one, as many as the slice is long.
+fn copy_other(pool: &Pool, other: Option<u32>, into: &mut [i32])
+    requires enough { IfSome other (λ c. (c < length pool.now.chains) × (length into.old ≤ length (tokens_at (tokens_in pool.now) c))) }
+    requires none { IfNone other (length into.old ≡ 0) }
+    ensures { into.new ≡ from_front (others_of other) (length into.old) (tokens_in pool.now) }
+{
+    match other {
+        Some(channel) => pool.copy_front(channel, into),
+        None => {}
+    }
+}
+
+impl Core {
+    /// What the actor keeps its state in: `None` where it has no channel to itself or more than one, where its
+    /// firings take and give not as many tokens of it, for an actor of several phases, and for one with more than one
+    /// other input.
+    pub fn feedback(&self, actor: u32) -> Option<Feedback>
+        requires { actor < length self.now.plan.sources }
+        ensures { IfSome result (IsFeedback self.now.plan actor) }
+    {
+        let layout = &self.layout;
+        if layout.phases(actor) != 1 || layout.is_source(actor) {
+            return None;
+        }
+        let channel = first_loop(layout, actor)?;
+        if !is_only_loop(layout, actor, channel) {
+            return None;
+        }
+        let (other, is_first) = order_of(layout, actor, channel)?;
+        let turn = layout.first_turn();
+        let taken = layout.takes(channel, turn);
+        if layout.gives(channel, turn) != taken {
+            return None;
+        }
+        Some(Feedback {
+            channel,
+            taken,
+            other,
+            each: taken_of_other(layout, actor, other, turn),
+            is_first,
+            before: given_before(layout, actor, channel, turn),
+        })
+    }
+
+    /// Whether the actor can make its next n firings one after the other, with no other's move between them: each of
+    /// their moves is then accepted. The channel to itself has to hold just the tokens of one firing.
+    pub fn can_go_on(&self, actor: u32, feedback: Feedback, n: u32) -> bool
+        requires actor { actor < length self.now.plan.sources }
+        requires feedback { IsFeedback self.now.plan actor feedback }
+        ensures { IsTrue result ↔ CanGoOn self.now.plan self.now.now actor feedback.channel n }
+    {
+        let turn = self.turn(actor);
+        let own = feedback.channel;
+        if !is_at(self.stage(actor), Stage::Idle) {
+            return false;
+        }
+        if u64::from(turn.firing) + u64::from(n) > u64::from(self.layout.limit(actor)) {
+            return false;
+        }
+        if first_closed(&self.layout, &self.opens, actor).is_some() {
+            return false;
+        }
+        if self.pool.len(own) != feedback.taken {
+            return false;
+        }
+        if !hold_asked(&self.layout, &self.pool, actor, own, turn, n) {
+            return false;
+        }
+        if !have_asked(&self.layout, &self.pool, actor, own, turn, n) {
+            return false;
+        }
+        if !self.may_begin(n) {
+            return false;
+        }
+        let beside = (self.gives(actor) as u64).saturating_sub(u64::from(feedback.taken));
+        if !self.has_cells(u64::from(n) * beside) {
+            return false;
+        }
+        true
+    }
+
+    /// About how many firings the actor can make.
+    fn guess_on(&self, actor: u32, feedback: Feedback, most: u32) -> u32
+        requires { actor < length self.now.plan.sources }
+        ensures { result ≤ most }
+    {
+        let layout = &self.layout;
+        let turn = self.turn(actor);
+        let own = feedback.channel;
+        let left = layout.limit(actor).saturating_sub(turn.firing);
+        let mut n = most.min(left);
+        if let Some(firings) = layout.firings() {
+            n = times(u64::from(firings).saturating_sub(self.started), 1, n);
+        }
+        n = held_beside(layout, &self.pool, actor, own, turn, n);
+        n = room_beside(layout, &self.pool, actor, own, turn, n);
+        let beside = (self.gives(actor) as u64).saturating_sub(u64::from(feedback.taken));
+        times(
+            u64::from(layout.cells()).saturating_sub(self.used()),
+            beside,
+            n,
+        )
+    }
+
+    /// A number of next firings, at most so many, that the actor can make one after the other
+    /// (see [`can_go_on`](Core::can_go_on)): at least one where it can make one.
+    pub fn goes_on(&self, actor: u32, feedback: Feedback, most: u32) -> u32
+        requires actor { actor < length self.now.plan.sources }
+        requires feedback { IsFeedback self.now.plan actor feedback }
+        ensures most { result ≤ most }
+        ensures can { 0 < result → CanGoOn self.now.plan self.now.now actor feedback.channel result }
+        ensures some { 1 ≤ most → CanGoOn self.now.plan self.now.now actor feedback.channel 1 → 1 ≤ result }
+    {
+        if most == 0 {
+            return 0;
+        }
+        let n = self.guess_on(actor, feedback, most);
+        if n > 1 && self.can_go_on(actor, feedback, n) {
+            return n;
+        }
+        if self.can_go_on(actor, feedback, 1) {
+            return 1;
+        }
+        0
+    }
+
+    /// Copies what the channel to the actor itself holds, and the tokens of its other input that its next n firings
+    /// read; it changes nothing. What they read is told by these and by what they write.
+    pub fn peek_on(
+        &self,
+        actor: u32,
+        feedback: Feedback,
+        n: u32,
+        state: &mut [i32],
+        others: &mut [i32],
+    )
+        requires feedback { IsFeedback self.now.plan actor feedback }
+        requires can { CanGoOn self.now.plan self.now.now actor feedback.channel n }
+        requires state { length state.old ≡ feedback.taken }
+        requires others { length others.old ≡ n * feedback.each }
+        ensures read { (v : List ℤ) → length v ≡ gifts_of self.now.plan.channels actor (count self.now.now actor) n
+            → AreReadWith self.now.plan self.now.now actor (count self.now.now actor) n v (loop_reads feedback.is_first feedback.each feedback.before
+            (gift actor (count self.now.now actor) self.now.plan.channels) n state.new others.new v) }
+    {
+        self.layout.gives_few();
+        self.pool.copy_front(feedback.channel, state);
+        copy_other(&self.pool, feedback.other, others);
+    }
+
+    /// Makes the actor's next n firings, which write these tokens, one firing's after another's:
+    /// their 4n moves, in order.
+    pub fn go_on(&mut self, actor: u32, feedback: Feedback, n: u32, tokens: &[i32])
+        requires feedback { IsFeedback self.old.plan actor feedback }
+        requires can { CanGoOn self.old.plan self.old.now actor feedback.channel n }
+        requires all { length tokens.now ≡ gifts_of self.old.plan.channels actor (count self.old.now actor) n }
+        ensures accepted { AreAccepted self.old.plan self.old.now
+            (firings_of self.old.plan.channels actor (count self.old.now actor) n tokens.now) }
+        ensures plays { Plays self.old self.new (firings_of self.old.plan.channels actor (count self.old.now actor) n tokens.now)
+            (answers_to self.old.plan self.old.now (firings_of self.old.plan.channels actor (count self.old.now actor) n tokens.now)) }
+    {
+        let turn = self.turn(actor);
+        self.layout.gives_few();
+        let ahead = look_ahead(&self.layout, actor, turn, n);
+        let needed = need_of(&self.layout, actor, ahead.next);
+        let given = gift_of(&self.layout, actor, ahead.next);
+        let layout = &self.layout;
+        fire_each(
+            layout,
+            &mut self.pool,
+            &mut self.peaks,
+            actor,
+            turn,
+            n,
+            tokens,
+        );
+        let a = actor as usize;
+        self.started += u64::from(n);
+        self.sums[a] += ahead.given;
+        self.counts[a] = ahead.next.firing;
+        self.phases[a] = ahead.next.phase;
+        self.needs[a] = needed as u32;
+        self.gifts[a] = given as u32;
+    }
+}

@@ -1,0 +1,196 @@
+-- Firings that keep a state, as a floor makes them.
+use Rattle.std.proofs.Common.{◌≡◌, ℕ, zero, suc, ◌+◌, ◌*◌, ◌<◌, ◌≤◌, Bool, true, false, List, [], ◌∷◌, ◌++◌, length, get_or, take, drop}
+use Rattle.std.proofs.Common.{cond, refl, ap, ap₂, sym, subst, ◌∙◌, arith, suc-mul}
+use Rattle.std.specs.Prelude.{ℤ, sum, sum_by, slice_range}
+use Rattle.std.proofs.Math.Seq.{take-append_seam, drop-append_seam}
+use Rattle.std.proofs.lemmas.List.{length-append, length-drop, length-take-le}
+use Rattle.std.proofs.lemmas.List.Sums.{sum_by-cons, sum_by-append}
+use Rattle.csdf_model.specs.declared.parts.Kernel.{Kernel}
+use Rattle.csdf_model.specs.declared.parts.Kernel.TheVariants.{Sink}
+use Rattle.csdf_kernel.specs.Loop as kernel
+use Rattle.csdf_kernel.specs.Value.{value_of}
+use Rattle.csdf_kernel.proofs.ValueLemmas.{length_of_value}
+use Rattle.csdf_core.specs.declared.feedback.Feedback.{Feedback}
+use Rattle.csdf_core.specs.Blocks.{firings_of, answers_to, reads_among, parts_of, needs_of, gifts_of}
+use Rattle.csdf_core.specs.Feedback.{AreReadWith, IsFeedback, beside, in_order, loop_reads, others_of}
+use Rattle.csdf_core.specs.Moves.{Move}
+use Rattle.csdf_core.specs.Plan.{Channel, Plan}
+use Rattle.csdf_core.specs.Ports.{take_at}
+use Rattle.csdf_core.specs.Rows.{need, gift}
+use Rattle.csdf_core.specs.Shows.{View, PassesThrough, Plays}
+use Rattle.csdf_core.specs.Step.{count, given, is_source, stage}
+use Rattle.csdf_core.specs.declared.stage.Stage.TheVariants.{Idle}
+use Rattle.csdf_core.proofs.FeedbackTokens.{state_before, state_given}
+use Rattle.csdf_core.proofs.OnePhase.{same_gift, same_need}
+use Rattle.csdf_core.proofs.PortLemmas.{need_is}
+use Rattle.csdf_floor.specs.Inside.{IsBook}
+use Rattle.csdf_floor.specs.Journal.{Program, output_counts, value}
+use Rattle.csdf_floor.specs.Making.{AreOwnValues, made_value}
+use Rattle.csdf_floor.specs.Work.{Work, program}
+use Rattle.csdf_floor.proofs.Books.{floor_of}
+use Rattle.csdf_floor.proofs.Journals.{value_is}
+use Rattle.csdf_floor.proofs.Makings.{IsMade, length_made, made_book, same_outputs}
+use Rattle.csdf_floor.proofs.Sequential.{length_value}
+
+beside_same : (is_first : Bool) (x y : List ℤ) → beside is_first x y ≡ kernel.beside is_first x y
+beside_same true x y = refl
+beside_same false x y = refl
+
+beside_long : (is_first : Bool) (x y : List ℤ) → length (beside is_first x y) ≡ length x + length y
+beside_long true x y = length-append x y
+beside_long false x y = let a = length-append y x in omega (arith, a)
+
+module _ (w : Program) (a : ℕ) (k0 : Kernel) (counts : List ℕ) (is_first : Bool) (each before given needed : ℕ)
+    (alike : (k : ℕ) (xs : List ℤ) → value w a k xs ≡ value_of k0 counts xs) (needs : (k : ℕ) → need a k w.plan.channels ≡ needed)
+    (gifts : sum counts ≡ given) where
+  -- the values, and what the firings read that write them
+  abbrev pub values : ℕ → List ℤ → List ℤ → List ℤ
+  values n state others = kernel.loop_values k0 counts is_first each before n state others
+
+  abbrev pub read : ℕ → List ℤ → List ℤ → List ℤ
+  read n state others = loop_reads is_first each before given n state others (values n state others)
+
+  pub loop_made : (k n : ℕ) (state others : List ℤ) → length state + each ≡ needed → before + length state ≤ given → n * each ≤ length others
+      → (made_value w a k n (read n state others) ≡ values n state others) × (length (read n state others) ≡ needs_of w.plan.channels a k n)
+  loop_made k zero state others size part enough = (refl, refl)
+  loop_made k (suc n) state others size part enough =
+      let fresh : List ℤ = take each others in
+      let rest : List ℤ = drop each others in
+      let x : List ℤ = value_of k0 counts (kernel.beside is_first state fresh) in
+      let next : List ℤ = take (length state) (drop before x) in
+      let v : List ℤ = values n next rest in
+      let times = suc-mul n each in
+      let fresh_long : length fresh ≡ each = length-take-le each others (omega (arith, enough, times)) in
+      let rest_long = length-drop each others in
+      let long : length x ≡ given = length_of_value k0 counts (kernel.beside is_first state fresh) ∙ gifts in
+      let front : take given (x ++ v) ≡ x = ap (λ (i : ℕ). take i (x ++ v)) (sym long) ∙ take-append_seam x v in
+      let back : drop given (x ++ v) ≡ v = ap (λ (i : ℕ). drop i (x ++ v)) (sym long) ∙ drop-append_seam x v in
+      let chunk : List ℤ = beside is_first state fresh in
+      let tail : List ℤ = loop_reads is_first each before given n (take (length state) (drop before (take given (x ++ v)))) rest (drop given (x ++ v)) in
+      let tails : tail ≡ read n next rest =
+      ap₂ (λ (y z : List ℤ). loop_reads is_first each before given n (take (length state) (drop before y)) rest z) front back in
+      let chunk_long : length chunk ≡ needed = (let b = beside_long is_first state fresh in omega (arith, b, fresh_long, size)) in
+      let head : take needed (chunk ++ tail) ≡ chunk = ap (λ (i : ℕ). take i (chunk ++ tail)) (sym chunk_long) ∙ take-append_seam chunk tail in
+      let later : drop needed (chunk ++ tail) ≡ tail = ap (λ (i : ℕ). drop i (chunk ++ tail)) (sym chunk_long) ∙ drop-append_seam chunk tail in
+      let next_long : length next ≡ length state =
+      length-take-le (length state) (drop before x) (let d = length-drop before x in omega (arith, d, long, part)) in
+      let ih = loop_made (suc k) n next rest (omega (arith, next_long, size)) (omega (arith, next_long, part))
+      (omega (arith, rest_long, enough, times)) in
+      let one : value w a k (take (need a k w.plan.channels) (chunk ++ tail)) ≡ x =
+      alike k (take (need a k w.plan.channels) (chunk ++ tail))
+      ∙ ap (value_of k0 counts) (ap (λ (i : ℕ). take i (chunk ++ tail)) (needs k) ∙ head ∙ beside_same is_first state fresh) in
+      let more : made_value w a (suc k) n (drop (need a k w.plan.channels) (chunk ++ tail)) ≡ v =
+      ap (made_value w a (suc k) n) (ap (λ (i : ℕ). drop i (chunk ++ tail)) (needs k) ∙ later ∙ tails) ∙ ih.0 in
+      let all = length-append chunk tail in
+      let tail_long = ap length tails ∙ ih.1 in
+      let need_now = needs k in (
+        ap₂ (λ (xs ys : List ℤ). xs ++ ys) one more,
+        (let r : length (chunk ++ tail) ≡ need a k w.plan.channels + needs_of w.plan.channels a (suc k) n =
+            omega (arith, all, tail_long, chunk_long, need_now) in r),
+      )
+
+sum_in_order : (f : ℕ → ℕ) (is_first : Bool) (own : ℕ) (others : List ℕ) → sum_by f (in_order is_first own others) ≡ f own + sum_by f others
+sum_in_order f true own others = let s = sum_by-cons f own others in omega (arith, s)
+sum_in_order f false own others =
+    let s = sum_by-append f others (own ∷ []) in
+    let o = sum_by-cons f own [] in
+    omega (arith, s, o)
+
+-- a firing reads the state and the other tokens
+pub needs_two : (plan : Plan) (a : ℕ) (f : Feedback) → IsFeedback plan a f → (k : ℕ) → need a k plan.channels ≡ f.taken + f.each
+needs_two plan a f told k =
+    let all : need a 0 plan.channels ≡ take_at plan.channels 0 f.channel + sum_by (take_at plan.channels 0) (others_of f.other) =
+    sym (need_is a 0 plan.channels) ∙ ap (sum_by (take_at plan.channels 0)) told.order
+    ∙ sum_in_order (take_at plan.channels 0) f.is_first f.channel (others_of f.other) in
+    let taken = told.taken in
+    let each = told.each in
+    let same = same_need plan.channels a told.keeps.phases k 0 in
+    omega (arith, all, taken, each, same)
+
+-- of what is told of the channel to itself
+module _ (w : Program) (a : ℕ) (f : Feedback) (told : IsFeedback w.plan a f) where
+  abbrev cs : List Channel
+  cs = w.plan.channels
+
+  pub needs_both : (k : ℕ) → need a k cs ≡ f.taken + f.each
+  needs_both k = needs_two w.plan a f told k
+
+  pub part_of_gift : (k : ℕ) → f.before + f.taken ≤ gift a k cs
+  part_of_gift k =
+      let g = state_given w.plan a f.channel told.keeps 0 in
+      let b = told.before ∙ state_before w.plan a f.channel told.keeps 0 in
+      let t = told.taken in
+      let s = same_gift cs a told.keeps.phases k 0 in
+      omega (arith, g, b, t, s)
+
+  pub sum_counts : (k : ℕ) → sum (output_counts w a k) ≡ gift a k cs
+  sum_counts k = sym (length_of_value (get_or w.kernels a Sink) (output_counts w a k) []) ∙ length_any (get_or w.kernels a Sink) k
+    where
+      length_any : (k0 : Kernel) (k : ℕ) → length (value_of (get_or w.kernels a Sink) (output_counts w a k) []) ≡ gift a k cs
+      length_any k0 k = length_of_value (get_or w.kernels a Sink) (output_counts w a k) []
+          ∙ sym (length_of_value (get_or w.kernels a Sink) (output_counts w a k) (inputs_of k)) ∙ ap length (sym (value_is w a k [])) ∙ length_value w a k []
+        where
+          inputs_of : ℕ → List ℤ
+          inputs_of k = cond (is_source w.plan a) (slice_range (get_or w.feeds a []) (given w.plan a k) (given w.plan a (suc k))) []
+
+  -- a firing's value is that of the counts of the first
+  pub value_alike : (j k : ℕ) (xs : List ℤ) → value w a k xs ≡ value_of (get_or w.kernels a Sink) (output_counts w a j) xs
+  value_alike j k xs =
+      value_is w a k xs
+      ∙ ap (λ (b : Bool). value_of (get_or w.kernels a Sink) (output_counts w a k)
+      (cond b (slice_range (get_or w.feeds a []) (given w.plan a k) (given w.plan a (suc k))) xs)) told.keeps.no_source
+      ∙ ap (λ (ns : List ℕ). value_of (get_or w.kernels a Sink) ns xs) (same_outputs w a k j told.keeps.phases)
+
+pub own_values : (keeps : Bool) (w : Work) (core : View) (journal : List Move) (sinks reads : List (List ℤ)) (a n : ℕ) (f : Feedback) (state others v : List ℤ)
+    → IsBook (floor_of keeps w core journal sinks) reads → IsFeedback core.plan a f → length state ≡ f.taken → length others ≡ n * f.each
+    → ((u : List ℤ) → length u ≡ gifts_of core.plan.channels a (count core.now a) n → AreReadWith core.plan core.now a (count core.now a) n u
+    (loop_reads f.is_first f.each f.before (gift a (count core.now a) core.plan.channels) n state others u))
+    → v ≡ kernel.loop_values (get_or (program w).kernels a Sink) (output_counts (program w) a (count core.now a)) f.is_first f.each f.before n state others
+    → AreOwnValues (floor_of keeps w core journal sinks) a n v
+own_values keeps w core journal sinks reads a n f state others v b told0 state_long others_long read_as is =
+    let p : Program = program w in
+    let k : ℕ = count core.now a in
+    let same : core.plan ≡ p.plan = b.kept.plan in
+    let told : IsFeedback p.plan a f = subst (λ (u : Plan). IsFeedback u a f) same told0 in
+    let g : ℕ = gift a k core.plan.channels in
+    let gives : sum (output_counts p a k) ≡ g = sum_counts p a f told k ∙ ap (λ (u : Plan). gift a k u.channels) (sym same) in
+    let part = part_of_gift p a f told k in
+    let gift_same : gift a k p.plan.channels ≡ g = ap (λ (u : Plan). gift a k u.channels) (sym same) in
+    let made = loop_made p a (get_or p.kernels a Sink) (output_counts p a k) f.is_first f.each f.before g (f.taken + f.each)
+    (value_alike p a f told k) (needs_both p a f told) gives k n state others (omega (arith, state_long)) (omega (arith, part, state_long, gift_same))
+    (omega (arith, others_long)) in
+    let tokens : List ℤ = loop_reads f.is_first f.each f.before g n state others v in
+    let v_made : v ≡ made_value p a k n tokens =
+    is ∙ sym made.0 ∙ ap (λ (u : List ℤ). made_value p a k n (loop_reads f.is_first f.each f.before g n state others u)) (sym is) in
+    let v_long : length v ≡ gifts_of core.plan.channels a k n = ap length v_made ∙ length_made p a k n tokens
+    ∙ ap (λ (u : Plan). gifts_of u.channels a k n) (sym same) in
+    record {
+      tokens = tokens;
+      long = ap (λ (u : List ℤ). length (loop_reads f.is_first f.each f.before g n state others u)) is ∙ made.1
+          ∙ ap (λ (u : Plan). needs_of u.channels a k n) (sym same);
+      read = read_as v v_long;
+      just = v_made;
+    }
+
+pub fired_on_book : (keeps : Bool) (w : Work) (core new : View) (journal : List Move) (sinks reads : List (List ℤ)) (a n : ℕ) (v : List ℤ)
+    → IsBook (floor_of keeps w core journal sinks) reads → a < length core.plan.sources → stage core.now a ≡ Idle
+    → (own : AreOwnValues (floor_of keeps w core journal sinks) a n v)
+    → Plays core new (firings_of core.plan.channels a (count core.now a) n v)
+    (answers_to core.plan core.now (firings_of core.plan.channels a (count core.now a) n v))
+    → IsMade keeps w core new journal sinks reads a (count core.now a) n own.tokens v
+fired_on_book keeps w core new journal sinks reads a n v b there idle own plays =
+    let p : Program = program w in
+    let k : ℕ = count core.now a in
+    let tokens : List ℤ = own.tokens in
+    let same : core.plan ≡ p.plan = b.kept.plan in
+    let len : length tokens ≡ needs_of p.plan.channels a k n = own.long ∙ ap (λ (u : Plan). needs_of u.channels a k n) same in
+    let through : PassesThrough core new (firings_of p.plan.channels a k n (made_value p a k n tokens))
+    (answers_to p.plan core.now (firings_of p.plan.channels a k n (made_value p a k n tokens))) =
+    subst (λ (x : List ℤ). PassesThrough core new (firings_of p.plan.channels a k n x) (answers_to p.plan core.now (firings_of p.plan.channels a k n x)))
+    own.just
+    (subst (λ (u : Plan). PassesThrough core new (firings_of u.channels a k n v) (answers_to u core.now (firings_of u.channels a k n v))) same plays.through) in
+    let read : reads_among p.plan core.now (firings_of p.plan.channels a k n (made_value p a k n tokens)) ≡ parts_of p.plan.channels a k n tokens =
+    subst (λ (x : List ℤ). reads_among p.plan core.now (firings_of p.plan.channels a k n x) ≡ parts_of p.plan.channels a k n tokens) own.just
+    (subst (λ (u : Plan). reads_among u core.now (firings_of u.channels a k n v) ≡ parts_of u.channels a k n tokens) same own.read) in
+    subst (λ (x : List ℤ). IsMade keeps w core new journal sinks reads a k n tokens x) (sym own.just)
+    (made_book {keeps = keeps} w n core new journal sinks reads a k tokens b there idle refl len through read)

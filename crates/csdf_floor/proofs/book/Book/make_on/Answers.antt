@@ -1,0 +1,21 @@
+use Rattle.std.proofs.Common.{ℕ, ap, subst, ◌∙◌, arith}
+use Rattle.std.proofs.lemmas.Nat.{mul-le}
+use Rattle.csdf_core.specs.Feedback.{IsFeedback}
+use Rattle.csdf_core.specs.Plan.{Plan}
+use Rattle.csdf_core.specs.Rows.{need}
+use Rattle.csdf_core.specs.Step.{count}
+use Rattle.csdf_floor.specs.Work.{program}
+use Rattle.csdf_floor.proofs.LoopMakings.{needs_both}
+use Rattle.csdf_floor.proofs.book.Book.make_on.Goals as goal
+
+pub overflow_add-long-2 : goal.overflow_add-long-2
+overflow_add-long-2 c =
+    let k : ℕ = count c.self.inside.core.now c.args.actor in
+    let told : IsFeedback (program c.self.inside.work).plan c.args.actor c.args.feedback =
+    subst (λ (u : Plan). IsFeedback u c.args.actor c.args.feedback) c.self.invariant.kept.plan (rw (← c.self.view_is) at c.requires.feedback) in
+    let needed = c.need.ensures.value ∙ ap (λ (u : Plan). need c.args.actor k u.channels) c.self.invariant.kept.plan
+    ∙ needs_both (program c.self.inside.work) c.args.actor c.args.feedback told k in
+    let few = c.need.ensures.small in
+    let n = c.ranges.n.fits in
+    let most = mul-le c.args.n c.args.feedback.each 4294967296 8192 (omega (arith, n)) (omega (arith, needed, few)) in
+    omega (arith, most, needed, few)

@@ -1,0 +1,162 @@
+//! Several firings of an actor that keeps its state in a channel to itself, made at once.
+//!
+//! Their values are computed one after the other: the actor's buffer has the state, a window as long as what a firing
+//! reads, and behind it the tokens of the other input.
+
+ghost use Rattle.std.specs.Prelude.{◌≡◌, ◌+◌, ◌*◌, ◌<◌, ◌≤◌, [], false, All, IfSome, OnOk, OnErr, length, slice_index_or, sum};
+ghost use Rattle.csdf_model.specs.declared.parts.Kernel.TheVariants.{Sink};
+ghost use Rattle.csdf_core.specs.Feedback.{CanGoOn, IsFeedback};
+ghost use Rattle.csdf_core.specs.Ports.{outputs_at};
+ghost use Rattle.csdf_core.specs.Rows.{gift, need};
+ghost use Rattle.csdf_core.specs.Step.{count};
+ghost use Rattle.csdf_kernel.specs.Value.{HasFilterInRange};
+ghost use Rattle.csdf_floor.specs.Making.{HasMade, AreLoopValues, AreOwnValues, made_moves};
+ghost use Rattle.csdf_floor.specs.Work.{program, is_sink_kernel};
+
+use crate::book::Book;
+use crate::making::note_firings;
+use csdf_core::{Core, Feedback};
+use csdf_kernel::{Counts, Outputs, eval_loop};
+use csdf_model::Kernel;
+use std::alloc::AllocError;
+
+/// The kernel's values of the actor's next n firings, in the place of what the outputs hold, worked out in the buffer.
+fn own_values(
+    core: &Core,
+    kernel: &Kernel,
+    counts: &[u32],
+    actor: u32,
+    feedback: Feedback,
+    n: u32,
+    buffer: &mut [i32],
+    outputs: &mut Outputs,
+) -> Result<(), AllocError>
+    requires feedback { IsFeedback core.now.plan actor feedback }
+    requires can { CanGoOn core.now.plan core.now.now actor feedback.channel n }
+    requires few_counts { length counts.now ≤ 128 }
+    requires small_counts { All (λ count. count ≤ 64) counts.now }
+    requires filter_in_range { HasFilterInRange kernel.now }
+    requires part { feedback.before + feedback.taken ≤ sum counts.now }
+    requires buffer { length buffer.old ≡ feedback.taken + need actor (count core.now.now actor) core.now.plan.channels + n * feedback.each }
+    ensures values { OnOk result (AreLoopValues core.now kernel.now counts.now actor n feedback outputs.new.items) }
+{
+    let need = core.need(actor);
+    let (state, rest) = buffer.split_at_mut(feedback.taken as usize);
+    let (window, others) = rest.split_at_mut(need);
+    core.peek_on(actor, feedback, n, state, others);
+    eval_loop(
+        kernel,
+        counts,
+        feedback.is_first,
+        feedback.before as usize,
+        n,
+        state,
+        others,
+        window,
+        outputs,
+    )
+}
+
+impl Book {
+    /// How many of its next firings an actor that keeps its state in a channel to itself can make at once, at most so
+    /// many and at least one, and that channel. `None` where it can't, for a sink, and where the journal is kept.
+    pub(crate) fn goes_on(&self, actor: u32, most: u32) -> Option<(Feedback, u32)>
+        requires { actor < length self.now.shown.core.plan.sources }
+        ensures most { IfSome result (λ r. r.1 ≤ most) }
+        ensures some { IfSome result (λ r. 0 < r.1) }
+        ensures feedback { IfSome result (λ r. IsFeedback self.now.shown.core.plan actor r.0) }
+        ensures can { IfSome result (λ r. CanGoOn self.now.shown.core.plan self.now.shown.core.now actor r.0.channel r.1) }
+        ensures keeps { IfSome result (λ r. self.now.shown.keeps ≡ false) }
+        ensures other { IfSome result (λ r. is_sink_kernel (slice_index_or (program self.now.shown.work).kernels actor Sink) ≡ false) }
+    {
+        if self.journal.keeps() || self.work.is_sink(actor) {
+            return None;
+        }
+        let feedback = self.core.feedback(actor)?;
+        let n = self.core.goes_on(actor, feedback, most);
+        if n == 0 {
+            return None;
+        }
+        Some((feedback, n))
+    }
+
+    /// The kernel's values of the actor's next n firings, in the place of what the outputs hold. The buffer is long
+    /// enough.
+    fn own_values_into(
+        &mut self,
+        actor: u32,
+        feedback: Feedback,
+        n: u32,
+        counts: &mut Counts,
+        outputs: &mut Outputs,
+    ) -> Result<(), AllocError>
+        requires feedback { IsFeedback self.old.shown.core.plan actor feedback }
+        requires can { CanGoOn self.old.shown.core.plan self.old.shown.core.now actor feedback.channel n }
+        requires buffer { length (slice_index_or self.old.reads actor [])
+            ≡ feedback.taken + need actor (count self.old.shown.core.now actor) self.old.shown.core.plan.channels + n * feedback.each }
+        ensures shown { self.new.shown ≡ self.old.shown }
+        ensures rooms { self.new.rooms ≡ self.old.rooms }
+        ensures room { self.new.room ≡ self.old.room }
+        ensures width { self.new.width ≡ self.old.width }
+        ensures values { OnOk result (AreOwnValues self.old.shown actor n outputs.new.items) }
+    {
+        self.work
+            .counts_into(actor, self.core.fired(actor), counts)?;
+        let kernel = self.work.kernel(actor);
+        let buffer = &mut self.reads[actor as usize];
+        own_values(
+            &self.core,
+            kernel,
+            counts.as_slice(),
+            actor,
+            feedback,
+            n,
+            buffer.as_mut_slice(),
+            outputs,
+        )
+    }
+
+    /// Makes the actor's next n firings, each of which writes so many tokens: the kernel's values.
+    fn fire_on(&mut self, actor: u32, feedback: Feedback, n: u32, each: usize, tokens: &[i32])
+        requires feedback { IsFeedback self.old.shown.core.plan actor feedback }
+        requires can { CanGoOn self.old.shown.core.plan self.old.shown.core.now actor feedback.channel n }
+        requires each { each ≡ gift actor (count self.old.shown.core.now actor) self.old.shown.core.plan.channels }
+        requires keeps { self.old.shown.keeps ≡ false }
+        requires other { is_sink_kernel (slice_index_or (program self.old.shown.work).kernels actor Sink) ≡ false }
+        requires room { 4 * n ≤ self.old.room }
+        requires width { each ≤ self.old.width }
+        requires values { AreOwnValues self.old.shown actor n tokens.now }
+        ensures made { HasMade self.old.shown self.new.shown actor n (made_moves self.old.shown actor n) }
+        ensures room { self.old.room ≤ self.new.room + 4 * n }
+    {
+        self.core.go_on(actor, feedback, n, tokens);
+        note_firings(&mut self.journal, actor, n, each, tokens);
+    }
+
+    /// Makes the actor's next n firings at once.
+    pub(crate) fn make_on(
+        &mut self,
+        actor: u32,
+        feedback: Feedback,
+        n: u32,
+        counts: &mut Counts,
+        outputs: &mut Outputs,
+    ) -> Result<(), AllocError>
+        requires feedback { IsFeedback self.old.shown.core.plan actor feedback }
+        requires can { CanGoOn self.old.shown.core.plan self.old.shown.core.now actor feedback.channel n }
+        requires keeps { self.old.shown.keeps ≡ false }
+        requires other { is_sink_kernel (slice_index_or (program self.old.shown.work).kernels actor Sink) ≡ false }
+        ensures made { OnOk result (HasMade self.old.shown self.new.shown actor n (made_moves self.old.shown actor n)) }
+        ensures room { OnOk result (length (outputs_at self.old.shown.core.plan.channels actor) ≤ self.new.room) }
+        ensures unchanged { OnErr result (self.new.shown ≡ self.old.shown) }
+    {
+        let taken = feedback.taken as usize;
+        let each = feedback.each as usize;
+        let long = taken + self.core.need(actor) + n as usize * each;
+        self.make_room_for(*outputs.allocator(), actor, n, long)?;
+        self.own_values_into(actor, feedback, n, counts, outputs)?;
+        let gives = self.core.gives(actor);
+        self.fire_on(actor, feedback, n, gives, outputs.as_slice());
+        Ok(())
+    }
+}
