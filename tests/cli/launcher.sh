@@ -5,11 +5,11 @@
 launched="$room/launched"
 mkdir -p "$launched/crates/csdf/src" "$launched/crates/csdf/must-fail" \
   "$launched/with_rt" "$launched/without_rt"
-cp "$top/csdf" "$launched/csdf"
+cp "$top/csdf" "$top/HANDLES" "$launched"
 echo "csdf:" > "$launched/crates.txt"
 echo "fn main() {}" > "$launched/crates/csdf/src/main.rt"
 : > "$launched/crates/csdf/stdin"
-for tool in bash cat chmod dirname env find install mkdir mktemp mv nproc readlink rm sed sha256sum sleep sort tail touch xargs; do
+for tool in bash cat chmod cp dirname env find install mkdir mktemp mv nice nproc readlink rm sed sha256sum sleep sort tail touch xargs; do
   ln -s "$(command -v "$tool")" "$launched/without_rt/$tool"
 done
 # stand_in TOOLS SYSTEM MEMORY DISK: for what tells the system, and the kilobytes that are free.
@@ -32,6 +32,12 @@ if [[ "$1" == try ]]; then
   exit 5
 fi
 if [[ -e src/bad.rt ]]; then exit 1; fi
+if [[ "$1" == lib ]]; then
+  mkdir -p out/rlib out/incremental
+  echo "$* of ${PWD##*/}, over: $(cat ../*/out/rlib/made 2> /dev/null)" > out/rlib/made
+  cat ../../crates.txt >> out/rlib/made
+  exit
+fi
 if [[ -e edit ]]; then mv edit src/main.rt; fi
 mkdir -p out
 printf '#!/bin/sh\necho "$@"\nexit 7\n' > out/csdf
@@ -149,13 +155,44 @@ launch "a source in place of one of its time" 7 9 "$room/words_told" "$room/buil
 echo > "$launched/crates/csdf/src/bad.rt"
 launch "a build that fails" 3 9 /dev/null "$room/begun" with_rt
 rm "$launched/crates/csdf/src/bad.rt"
+
+# Where memory is free the libraries are made first, several side by side: here of four, one stands on
+# another, and one is not below the program.
+printf '%s\n' "high may_wait=2: low kit" "low:" "other: low" "csdf: high" > "$launched/crates.txt"
+for each in high low other; do
+  mkdir -p "$launched/crates/$each/src"
+  echo "//! $each" > "$launched/crates/$each/src/lib.rt"
+done
+stand_in with_rt "Linux x86_64" 19000000 9000000
+printf '#!/bin/sh\necho 4\n' > "$launched/with_rt/nproc"
+chmod +x "$launched/with_rt/nproc"
+launch "libraries" 7 10 "$room/words_told" "$room/built" with_rt
+(cd "$launched/crates" && cat ./*/out/rlib/made && ls csdf/out) > "$room/out"
+: > "$room/err"
+cat > "$room/wanted_launch" << 'EOF'
+lib --jobs 3 of high, over: lib --jobs 3 of low, over: 
+low:
+low:
+high may_wait=2: low kit
+lib --jobs 3 of low, over: 
+low:
+csdf
+csdf.made
+EOF
+compare "the launcher: what libraries are made of" 0 "$room/wanted_launch" /dev/null 0
+echo "//! low, edited" > "$launched/crates/low/src/lib.rt"
+launch "a library is edited" 7 11 "$room/words_told" "$room/built" with_rt
+echo > "$launched/crates/low/src/bad.rt"
+launch "a library that fails" 3 11 /dev/null "$room/begun" with_rt
+rm "$launched/crates/low/src/bad.rt"
+launch "a library that is mended" 7 11 "$room/words_told" /dev/null with_rt
 mkdir -p "$launched/completions" "$launched/docs"
 cp "$top"/completions/* "$launched/completions/"
 cp "$top/docs/csdf.1" "$launched/docs/"
 echo "csdf: installed under $room/prefix" > "$room/installed"
-launch "install" 0 9 /dev/null "$room/installed" with_rt --install "$room/prefix"
+launch "install" 0 11 /dev/null "$room/installed" with_rt --install "$room/prefix"
 echo "csdf: usage: ./csdf --install PREFIX" > "$room/usage"
-launch "install, and not where" 2 9 /dev/null "$room/usage" with_rt --install
+launch "install, and not where" 2 11 /dev/null "$room/usage" with_rt --install
 (cd "$room/prefix" && find . -type f | LC_ALL=C sort) > "$room/out"
 "$room/prefix/bin/csdf" three >> "$room/out"
 status="$?"
