@@ -109,14 +109,14 @@ pub channel_within_fits : (d : ChannelDraft) (r : RangedChannel) → channel_wit
     × IsRanged r
 unfolding channel_within
 channel_within_fits d r e =
-    let p = bind_some (rates_within d.produce) _ r e in
+    let k = bind_some (capacity_within (length d.initial) d.capacity) _ r e in
+    let p = bind_some (rates_within d.produce) _ r k.2 in
     let q = bind_some (rates_within d.consume) _ r p.2 in
     let t = bind_some (tokens_within d.initial) _ r q.2 in
-    let k = bind_some (capacity_within (length d.initial) d.capacity) _ r t.2 in
     let f = tokens_within_facts d.initial t.0 t.1 in
     let cap = capacity_within_fits (length d.initial) d.capacity k.0 k.1 in
     let same : record { name = d.name; from = d.from; to = d.to; produce = p.0; consume = q.0; initial = t.0; capacity = k.0 } ≡ r =
-    some_is (record { name = d.name; from = d.from; to = d.to; produce = p.0; consume = q.0; initial = t.0; capacity = k.0 }) r k.2 in
+    some_is (record { name = d.name; from = d.from; to = d.to; produce = p.0; consume = q.0; initial = t.0; capacity = k.0 }) r t.2 in
     subst (λ x. (x.name ≡ d.name) × (length x.initial ≡ length d.initial) × IsRanged x) same (
       refl,
       f.0,

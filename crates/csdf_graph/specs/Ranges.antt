@@ -82,10 +82,10 @@ capacity_within held (Some z) = option_map Some (number_within (max 1 held) 6553
 
 unfoldable pub channel_within : ChannelDraft → Option RangedChannel
 channel_within d = do
+  capacity ← capacity_within (length d.initial) d.capacity
   produce ← rates_within d.produce
   consume ← rates_within d.consume
   initial ← tokens_within d.initial
-  capacity ← capacity_within (length d.initial) d.capacity
   Some (record { name = d.name; from = d.from; to = d.to; produce = produce; consume = consume; initial = initial; capacity = capacity })
 
 abbrev pub ranged_actor : ℕ → ActorDraft → Result Actor GraphFault

@@ -97,10 +97,10 @@ channel_of ms = if has_only channel_keys ms then (do
   name ← text_at (codes "name") ms
   from ← text_at (codes "from") ms
   to ← text_at (codes "to") ms
+  capacity ← optional_integer_at (codes "capacity") ms
   produce ← integers_at (codes "produce") ms
   consume ← integers_at (codes "consume") ms
   initial ← integers_or_none (codes "initial") ms
-  capacity ← optional_integer_at (codes "capacity") ms
   Some (record { name = name; from = from; to = to; produce = produce; consume = consume; initial = initial; capacity = capacity })) else None
 
 abbrev pub actor_at : ℕ → Members → Result ActorDraft GraphFault

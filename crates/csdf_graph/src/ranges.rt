@@ -188,10 +188,10 @@ fn capacity_within(held: usize, capacity: Option<i64>) -> Option<Option<u32>>
 fn channel_within<'a>(alloc: Global, draft: &ChannelDraft<'a>) -> Result<RangedChannel<'a>, Misfit>
     ensures { Reads ranged_view result (channel_within (draft_of_channel draft.now)) }
 {
+    let capacity = capacity_within(draft.initial.len(), draft.capacity).ok_or(Misfit::Fault)?;
     let produce = numbers_within(alloc, 0, 64, &draft.produce)?.ok_or(Misfit::Fault)?;
     let consume = numbers_within(alloc, 0, 64, &draft.consume)?.ok_or(Misfit::Fault)?;
     let initial = tokens_within(alloc, &draft.initial)?.ok_or(Misfit::Fault)?;
-    let capacity = capacity_within(draft.initial.len(), draft.capacity).ok_or(Misfit::Fault)?;
     Ok(RangedChannel {
         name: draft.name,
         from: draft.from,

@@ -67,7 +67,7 @@ fn optional_within(high: u32, number: Option<i64>) -> Option<Option<u32>>
     ensures { result ≡ optional_within high number }
 {
     match number {
-        Some(number) => number_within(0, high, number).map(Some),
+        Some(number) => Some(Some(number_within(0, high, number)?)),
         None => Some(None),
     }
 }

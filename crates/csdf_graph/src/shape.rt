@@ -140,10 +140,10 @@ fn channel_of(alloc: Global, table: &Table) -> Result<ChannelDraft<'_>, Misfit>
     let name = text_at(table, "name").ok_or(Misfit::Fault)?;
     let from = text_at(table, "from").ok_or(Misfit::Fault)?;
     let to = text_at(table, "to").ok_or(Misfit::Fault)?;
+    let capacity = optional_integer_at(table, "capacity").ok_or(Misfit::Fault)?;
     let produce = integers_at(alloc, table, "produce")?.ok_or(Misfit::Fault)?;
     let consume = integers_at(alloc, table, "consume")?.ok_or(Misfit::Fault)?;
     let initial = integers_or_none(alloc, table, "initial")?.ok_or(Misfit::Fault)?;
-    let capacity = optional_integer_at(table, "capacity").ok_or(Misfit::Fault)?;
     Ok(ChannelDraft {
         name,
         from,

@@ -65,7 +65,7 @@ pub(crate) fn optional_integer_at(table: &Table, key: &str) -> Option<Option<i64
     ensures { result ≡ optional_integer_at key.now (table_view table.now) }
 {
     match value_at(table, key) {
-        Some(value) => value.as_integer().map(Some),
+        Some(value) => Some(Some(value.as_integer()?)),
         None => Some(None),
     }
 }
