@@ -82,21 +82,23 @@ fn expect_vector(
     Ok(())
 }
 
+/// Graphs and their vectors.
+const VECTORS: [(&str, &[u32], &[u32]); 5] = [
+    (CHAIN, &[3, 2, 1], &[3, 2, 1]),
+    (TWO_PHASES, &[1, 1], &[2, 2]),
+    (TWO_TOKENS, &[1, 1], &[1, 1]),
+    (UNEVEN_PHASES, &[1, 1], &[3, 2]),
+    (
+        CONVERTER,
+        &[147, 147, 98, 28, 32, 160],
+        &[147, 147, 98, 28, 32, 160],
+    ),
+];
+
 #[test]
 fn finds_the_least_vector(rt: HostRuntime) -> Result<(), Fail> {
-    let rows = [
-        (CHAIN, [3, 2, 1].as_slice(), [3, 2, 1].as_slice()),
-        (TWO_PHASES, [1, 1].as_slice(), [2, 2].as_slice()),
-        (TWO_TOKENS, [1, 1].as_slice(), [1, 1].as_slice()),
-        (UNEVEN_PHASES, [1, 1].as_slice(), [3, 2].as_slice()),
-        (
-            CONVERTER,
-            [147, 147, 98, 28, 32, 160].as_slice(),
-            [147, 147, 98, 28, 32, 160].as_slice(),
-        ),
-    ];
-    for (text, r, q) in rows {
-        expect_vector(&rt, text, r, q)?;
+    for (text, r, q) in &VECTORS {
+        expect_vector(&rt, *text, *r, *q)?;
     }
     Ok(())
 }
@@ -107,14 +109,16 @@ fn refusal_of(rt: &impl AllocGlobal, text: &str) -> Result<Option<AcceptFault>, 
     Ok(repetition(rt.alloc(), &graph).err())
 }
 
+const REFUSED: [(&str, AcceptFault); 3] = [
+    (DISAGREEING, AcceptFault::Unbalanced(1)),
+    (STEEP, AcceptFault::Unbalanced(1)),
+    (WIDE, AcceptFault::TooLarge(0)),
+];
+
 #[test]
 fn names_the_channel_that_is_refused(rt: HostRuntime) -> Result<(), Fail> {
-    for (text, want) in [
-        (DISAGREEING, AcceptFault::Unbalanced(1)),
-        (STEEP, AcceptFault::Unbalanced(1)),
-        (WIDE, AcceptFault::TooLarge(0)),
-    ] {
-        expect_eq_of(&rt, refusal_of(&rt, text)?, Some(want), text);
+    for (text, want) in &REFUSED {
+        expect_eq_of(&rt, refusal_of(&rt, *text)?, Some(*want), *text);
     }
     Ok(())
 }

@@ -1,7 +1,7 @@
 //! Blocks of firings beside the same firings made move by move.
 
 use crate::core_tests::{AMPLE, PAIR, opening_core, shown, state_after};
-use crate::shared::{accepted_in, expect_eq};
+use crate::shared::{accepted_in, expect_eq, expect_eq_of};
 use csdf_analysis::Accepted;
 use csdf_core::Core;
 use std::alloc::Global;
@@ -150,6 +150,18 @@ fn check_shown(rt: &impl Abort, alloc: Global, core: &Core, want: &str) -> Resul
     Ok(())
 }
 
+/// Makes the blocks, and asserts what the core shows then.
+fn play_blocks(
+    rt: &impl Abort,
+    alloc: Global,
+    core: &mut Core,
+    steps: &[Step],
+    want: &str,
+) -> Result<(), Fail> {
+    make_all(rt, alloc, core, steps)?;
+    check_shown(rt, alloc, core, want)
+}
+
 /// Makes the blocks on a new core, and asserts what it shows then.
 fn check_blocks(
     rt: &impl Abort,
@@ -159,8 +171,19 @@ fn check_blocks(
     want: &str,
 ) -> Result<(), Fail> {
     let mut core = opening_core(alloc, accepted)?;
-    make_all(rt, alloc, &mut core, steps)?;
-    check_shown(rt, alloc, &core, want)
+    play_blocks(rt, alloc, &mut core, steps, want)
+}
+
+/// Makes the blocks on a new core of the graph.
+fn check_graph(
+    rt: &impl Abort,
+    alloc: Global,
+    graph: &str,
+    steps: &[Step],
+    want: &str,
+) -> Result<(), Fail> {
+    let accepted = accepted_in(alloc, graph)?;
+    check_blocks(rt, alloc, &accepted, steps, want)
 }
 
 const PIPELINE_BLOCKS: [Step; 3] = [
@@ -187,19 +210,6 @@ const PIPELINE_BLOCKS: [Step; 3] = [
     },
 ];
 
-#[test]
-fn a_pipeline_in_blocks(rt: HostRuntime) -> Result<(), Fail> {
-    let accepted = accepted_in(rt.alloc(), PIPELINE)?;
-    check_blocks(&rt, rt.alloc(), &accepted, &PIPELINE_BLOCKS, PIPELINE_STATE)
-}
-
-#[test]
-fn a_pipeline_move_by_move(rt: HostRuntime) -> Result<(), Fail> {
-    let state = state_after(rt.alloc(), PIPELINE, &AMPLE, PIPELINE_MOVES)?;
-    expect_eq(&rt, state.as_str(), PIPELINE_STATE);
-    Ok(())
-}
-
 const PAIR_BLOCKS: [Step; 2] = [
     Step {
         actor: 0,
@@ -216,19 +226,6 @@ const PAIR_BLOCKS: [Step; 2] = [
         read: &[5, 6, 7],
     },
 ];
-
-#[test]
-fn two_phases_in_a_block(rt: HostRuntime) -> Result<(), Fail> {
-    let accepted = accepted_in(rt.alloc(), PAIR)?;
-    check_blocks(&rt, rt.alloc(), &accepted, &PAIR_BLOCKS, PAIR_STATE)
-}
-
-#[test]
-fn two_phases_move_by_move(rt: HostRuntime) -> Result<(), Fail> {
-    let state = state_after(rt.alloc(), PAIR, &AMPLE, PAIR_MOVES)?;
-    expect_eq(&rt, state.as_str(), PAIR_STATE);
-    Ok(())
-}
 
 /// The sum's first block, of one firing, is looked at and not made.
 const JOIN_BLOCKS: [Step; 5] = [
@@ -269,29 +266,53 @@ const JOIN_BLOCKS: [Step; 5] = [
     },
 ];
 
-#[test]
-fn several_inputs_and_outputs_in_a_block(rt: HostRuntime) -> Result<(), Fail> {
-    let accepted = accepted_in(rt.alloc(), JOIN)?;
-    check_blocks(&rt, rt.alloc(), &accepted, &JOIN_BLOCKS, JOIN_STATE)
-}
+/// A graph, some blocks, the same firings move by move, and what the core then shows.
+const GRAPHS: [(&str, &[Step], &str, &str); 3] = [
+    (PIPELINE, &PIPELINE_BLOCKS, PIPELINE_MOVES, PIPELINE_STATE),
+    (PAIR, &PAIR_BLOCKS, PAIR_MOVES, PAIR_STATE),
+    (JOIN, &JOIN_BLOCKS, JOIN_MOVES, JOIN_STATE),
+];
 
 #[test]
-fn several_inputs_and_outputs_move_by_move(rt: HostRuntime) -> Result<(), Fail> {
-    let state = state_after(rt.alloc(), JOIN, &AMPLE, JOIN_MOVES)?;
-    expect_eq(&rt, state.as_str(), JOIN_STATE);
+fn firings_in_blocks(rt: HostRuntime) -> Result<(), Fail> {
+    for (graph, blocks, _, want) in &GRAPHS {
+        check_graph(&rt, rt.alloc(), *graph, *blocks, *want)?;
+    }
     Ok(())
 }
 
-fn check_lengths(rt: &impl Abort, core: &Core) {
-    expect_block(rt, core, 0, 8, (2, 0, 3));
-    expect_block(rt, core, 0, 1, (1, 0, 2));
-    expect_block(rt, core, 1, 8, (0, 0, 0));
+/// Asserts what the graph's core shows after the moves.
+fn check_moves(
+    rt: &impl Abort,
+    alloc: Global,
+    graph: &str,
+    moves: &str,
+    want: &str,
+) -> Result<(), Fail> {
+    let state = state_after(alloc, graph, &AMPLE, moves)?;
+    expect_eq_of(rt, state.as_str(), want, moves);
+    Ok(())
+}
+
+#[test]
+fn firings_move_by_move(rt: HostRuntime) -> Result<(), Fail> {
+    for (graph, _, moves, want) in &GRAPHS {
+        check_moves(&rt, rt.alloc(), *graph, *moves, *want)?;
+    }
+    Ok(())
+}
+
+/// Asserts the first blocks of the pair.
+fn check_lengths(rt: &impl Abort, alloc: Global, accepted: &Accepted) -> Result<(), Fail> {
+    let core = opening_core(alloc, accepted)?;
+    expect_block(rt, &core, 0, 8, (2, 0, 3));
+    expect_block(rt, &core, 0, 1, (1, 0, 2));
+    expect_block(rt, &core, 1, 8, (0, 0, 0));
+    Ok(())
 }
 
 #[test]
 fn a_block_is_as_long_as_room_and_tokens_last(rt: HostRuntime) -> Result<(), Fail> {
     let accepted = accepted_in(rt.alloc(), PAIR)?;
-    let core = opening_core(rt.alloc(), &accepted)?;
-    check_lengths(&rt, &core);
-    Ok(())
+    check_lengths(&rt, rt.alloc(), &accepted)
 }

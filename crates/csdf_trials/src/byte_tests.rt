@@ -10,44 +10,54 @@ use std::io::{ErrorKind, Read, Write};
 use std::process::Abort;
 use std::test::Fail;
 
-#[test]
-fn well_formed_texts_give_their_tokens(rt: HostRuntime) -> Result<(), Fail> {
-    let table: [(&[u8], &[i32]); 8] = [
-        (b"", &[]),
-        (b"7\n8", &[7, 8]),
-        (b"1\n\n2\n", &[1, 2]),
-        (b"+1\r\n -5\t\n007\n", &[1, -5, 7]),
-        (b"2147483647\n-2147483648\n", &[2147483647, -2147483648]),
-        (b"-0\n", &[0]),
-        (b"5 \r", &[5]),
-        (b" \t-12 \r", &[-12]),
-    ];
-    for (text, want) in table {
-        let tokens = read_tokens(rt.alloc(), &mut Slice::new(text))?;
-        expect_eq(&rt, tokens.as_slice(), want);
-    }
+/// Texts and their tokens.
+const WELL_FORMED: [(&[u8], &[i32]); 8] = [
+    (b"", &[]),
+    (b"7\n8", &[7, 8]),
+    (b"1\n\n2\n", &[1, 2]),
+    (b"+1\r\n -5\t\n007\n", &[1, -5, 7]),
+    (b"2147483647\n-2147483648\n", &[2147483647, -2147483648]),
+    (b"-0\n", &[0]),
+    (b"5 \r", &[5]),
+    (b" \t-12 \r", &[-12]),
+];
+
+/// Asserts the tokens of a text.
+fn expect_tokens(rt: &(impl Abort + AllocGlobal), text: &[u8], want: &[i32]) -> Result<(), Fail> {
+    let tokens = read_tokens(rt.alloc(), &mut Slice::new(text))?;
+    expect_eq(rt, tokens.as_slice(), want);
     Ok(())
 }
 
 #[test]
+fn well_formed_texts_give_their_tokens(rt: HostRuntime) -> Result<(), Fail> {
+    for (text, want) in &WELL_FORMED {
+        expect_tokens(&rt, *text, *want)?;
+    }
+    Ok(())
+}
+
+/// Texts, and why they are refused.
+const FAULTY: [(&[u8], TokenFault); 13] = [
+    (b"1\n2147483648\n", TokenFault::Range(2)),
+    (b"1\n-2147483649\n", TokenFault::Range(2)),
+    (b"1x\n", TokenFault::Syntax(1)),
+    (b"-\n", TokenFault::Syntax(1)),
+    (b"1 2\n", TokenFault::Syntax(1)),
+    (b"1\n\xff\n", TokenFault::Syntax(2)),
+    (b"--1\n", TokenFault::Syntax(1)),
+    (b"99999999999999999999\n", TokenFault::Range(1)),
+    (b"99999999999999999999x\n", TokenFault::Syntax(1)),
+    (b"5\r \n", TokenFault::Syntax(1)),
+    (b"5\r\r\n", TokenFault::Syntax(1)),
+    (b"\x0c5\n", TokenFault::Syntax(1)),
+    (b"\xef\xbb\xbf5\n", TokenFault::Syntax(1)),
+];
+
+#[test]
 fn the_first_faulty_line_is_told(rt: HostRuntime) {
-    let table: [(&[u8], TokenFault); 13] = [
-        (b"1\n2147483648\n", TokenFault::Range(2)),
-        (b"1\n-2147483649\n", TokenFault::Range(2)),
-        (b"1x\n", TokenFault::Syntax(1)),
-        (b"-\n", TokenFault::Syntax(1)),
-        (b"1 2\n", TokenFault::Syntax(1)),
-        (b"1\n\xff\n", TokenFault::Syntax(2)),
-        (b"--1\n", TokenFault::Syntax(1)),
-        (b"99999999999999999999\n", TokenFault::Range(1)),
-        (b"99999999999999999999x\n", TokenFault::Syntax(1)),
-        (b"5\r \n", TokenFault::Syntax(1)),
-        (b"5\r\r\n", TokenFault::Syntax(1)),
-        (b"\x0c5\n", TokenFault::Syntax(1)),
-        (b"\xef\xbb\xbf5\n", TokenFault::Syntax(1)),
-    ];
-    for (text, want) in table {
-        expect_no_tokens(&rt, &mut Slice::new(text), want);
+    for (text, want) in &FAULTY {
+        expect_no_tokens(&rt, &mut Slice::new(*text), *want);
     }
 }
 
@@ -71,24 +81,31 @@ fn repeated(rt: &impl AllocGlobal, line: &[u8], count: usize, end: &[u8]) -> Res
     Ok(text)
 }
 
-#[test]
-fn tokens_up_to_the_limit_are_read(rt: HostRuntime) -> Result<(), Fail> {
-    let most = repeated(&rt, b"0\n", 1_000_000, b"")?;
-    let tokens = read_tokens(rt.alloc(), &mut Slice::new(&most))?;
-    expect_eq(&rt, tokens.len(), 1_000_000);
+/// Asserts how many tokens a text has.
+fn expect_count(rt: &(impl Abort + AllocGlobal), text: &[u8], count: usize) -> Result<(), Fail> {
+    let tokens = read_tokens(rt.alloc(), &mut Slice::new(text))?;
+    expect_eq(rt, tokens.len(), count);
     Ok(())
 }
 
 #[test]
+fn tokens_up_to_the_limit_are_read(rt: HostRuntime) -> Result<(), Fail> {
+    let most = repeated(&rt, b"0\n", 1_000_000, b"")?;
+    expect_count(&rt, &most, 1_000_000)
+}
+
+/// What follows a million tokens, and why the text is refused.
+const TOO_MANY: [(&[u8], TokenFault); 3] = [
+    (b"0\n", TokenFault::TooMany),
+    (b"x\n", TokenFault::Syntax(1_000_001)),
+    (b"2147483648\n", TokenFault::Range(1_000_001)),
+];
+
+#[test]
 fn tokens_have_a_limit(rt: HostRuntime) -> Result<(), Fail> {
-    let table: [(&[u8], TokenFault); 3] = [
-        (b"0\n", TokenFault::TooMany),
-        (b"x\n", TokenFault::Syntax(1_000_001)),
-        (b"2147483648\n", TokenFault::Range(1_000_001)),
-    ];
-    for (end, want) in table {
-        let text = repeated(&rt, b"0\n", 1_000_000, end)?;
-        expect_no_tokens(&rt, &mut Slice::new(&text), want);
+    for (end, want) in &TOO_MANY {
+        let text = repeated(&rt, b"0\n", 1_000_000, *end)?;
+        expect_no_tokens(&rt, &mut Slice::new(&text), *want);
     }
     Ok(())
 }
@@ -104,17 +121,19 @@ fn expect_read(
     Ok(())
 }
 
+/// Asserts that all the empty lines of a text are read.
+fn expect_lines(rt: &(impl Abort + AllocGlobal), text: &[u8]) -> Result<(), Fail> {
+    expect_read(rt, &mut Slice::new(text), 16_777_216)?;
+    // 256 pieces and the end: the reader is not asked byte by byte.
+    expect_read(rt, &mut Fused::new(Slice::new(text), 257), 16_777_216)?;
+    // Each of them ends an empty line.
+    expect_count(rt, text, 0)
+}
+
 #[test]
 fn bytes_up_to_the_limit_are_read(rt: HostRuntime) -> Result<(), Fail> {
     let text = vec![in rt.alloc(); b'\n'; 16_777_216]?;
-    expect_read(&rt, &mut Slice::new(&text), 16_777_216)?;
-    // 256 pieces and the end: the reader is not asked byte by byte.
-    let mut reader = Fused::new(Slice::new(&text), 257);
-    expect_read(&rt, &mut reader, 16_777_216)?;
-    // Each of them ends an empty line.
-    let tokens = read_tokens(rt.alloc(), &mut Slice::new(&text))?;
-    expect_eq(&rt, tokens.len(), 0);
-    Ok(())
+    expect_lines(&rt, &text)
 }
 
 #[test]

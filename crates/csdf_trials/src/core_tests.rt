@@ -140,17 +140,6 @@ pub(crate) fn opening_core(alloc: Global, accepted: &Accepted) -> Result<Core, F
     Ok(Core::new(alloc, setup)?)
 }
 
-/// Plays the moves from the start.
-fn played_by(
-    alloc: Global,
-    accepted: &Accepted,
-    limits: &Limits,
-    moves: &[Move],
-) -> Result<Played, Fail> {
-    let setup = setup_of(alloc, accepted, limits)?;
-    Ok(play(alloc, setup, moves)?)
-}
-
 /// Plays the script from the start.
 fn played(
     alloc: Global,
@@ -159,7 +148,8 @@ fn played(
     script: &str,
 ) -> Result<Played, Fail> {
     let moves = moves_in(alloc, script)?;
-    played_by(alloc, accepted, limits, &moves)
+    let setup = setup_of(alloc, accepted, limits)?;
+    Ok(play(alloc, setup, &moves)?)
 }
 
 /// The reply, with the tokens that a read handed out.
@@ -188,21 +178,11 @@ pub(crate) fn text_of(alloc: Global, replies: &[Reply]) -> Result<String, Fail> 
     Ok(text)
 }
 
-/// What the graph answers to the script.
-fn answers_of(
-    alloc: Global,
-    accepted: &Accepted,
-    limits: &Limits,
-    script: &str,
-) -> Result<String, Fail> {
-    let played = played(alloc, accepted, limits, script)?;
-    text_of(alloc, &played.replies)
-}
-
 /// What the graph of the file answers to the script.
 fn answers(alloc: Global, text: &str, limits: &Limits, script: &str) -> Result<String, Fail> {
     let accepted = accepted_in(alloc, text)?;
-    answers_of(alloc, &accepted, limits, script)
+    let played = played(alloc, &accepted, limits, script)?;
+    text_of(alloc, &played.replies)
 }
 
 /// Asserts that the script is answered by these replies.
@@ -281,17 +261,6 @@ pub(crate) fn shown(alloc: Global, core: &Core) -> Result<String, Fail> {
     Ok(text)
 }
 
-/// What the core of the graph shows after the script.
-fn state_of(
-    alloc: Global,
-    accepted: &Accepted,
-    limits: &Limits,
-    script: &str,
-) -> Result<String, Fail> {
-    let played = played(alloc, accepted, limits, script)?;
-    shown(alloc, &played.core)
-}
-
 /// What the core of the file's graph shows after the script.
 pub(crate) fn state_after(
     alloc: Global,
@@ -300,7 +269,8 @@ pub(crate) fn state_after(
     script: &str,
 ) -> Result<String, Fail> {
     let accepted = accepted_in(alloc, text)?;
-    state_of(alloc, &accepted, limits, script)
+    let played = played(alloc, &accepted, limits, script)?;
+    shown(alloc, &played.core)
 }
 
 const WHOLE_SCRIPTS: [(&str, &str); 3] = [
@@ -326,41 +296,42 @@ fn answers_whole_scripts(rt: HostRuntime) -> Result<(), Fail> {
     Ok(())
 }
 
+/// Limits, a script of the pair, and the replies.
+const LIMITED: [(Limits, &str, &str); 3] = [
+    (
+        Limits {
+            limit: 1,
+            supply: 2,
+            firings: None,
+        },
+        "begin 64 / read 0 / begin 1 / begin 0 / begin 0 / write 0 5 6 / finish 0 / read 0 / write 0 5 / write 0 5 6 / finish 0 / begin 0",
+        "Unknown / NotBegun / Short(0) / ok / Busy / NotRead / NotWritten / ok / WrongCount / ok / ok / Spent",
+    ),
+    (
+        Limits {
+            limit: 1_000_000,
+            supply: 2,
+            firings: None,
+        },
+        "begin 0 / read 0 / write 0 5 6 / finish 0 / begin 0",
+        "ok / ok / ok / ok / Dry",
+    ),
+    (
+        Limits {
+            limit: 1_000_000,
+            supply: 1_000_000,
+            firings: Some(1),
+        },
+        "begin 0 / begin 1 / read 0 / write 0 5 6 / finish 0 / begin 0",
+        "ok / Short(0) / ok / ok / ok / Stopped",
+    ),
+];
+
 #[test]
 fn keeps_to_the_limits(rt: HostRuntime) -> Result<(), Fail> {
-    let alloc = rt.alloc();
-    let one_each = Limits {
-        limit: 1,
-        supply: 2,
-        firings: None,
-    };
-    let script =
-        "begin 64 / read 0 / begin 1 / begin 0 / begin 0 / write 0 5 6 / finish 0 / read 0 / write 0 5 / write 0 5 6 / finish 0 / begin 0";
-    let replies =
-        "Unknown / NotBegun / Short(0) / ok / Busy / NotRead / NotWritten / ok / WrongCount / ok / ok / Spent";
-    expect(&rt, alloc, PAIR, &one_each, script, replies)?;
-    let two_tokens = Limits {
-        limit: AMPLE.limit,
-        supply: 2,
-        firings: None,
-    };
-    let script = "begin 0 / read 0 / write 0 5 6 / finish 0 / begin 0";
-    expect(
-        &rt,
-        alloc,
-        PAIR,
-        &two_tokens,
-        script,
-        "ok / ok / ok / ok / Dry",
-    )?;
-    let one_firing = Limits {
-        limit: AMPLE.limit,
-        supply: AMPLE.supply,
-        firings: Some(1),
-    };
-    let script = "begin 0 / begin 1 / read 0 / write 0 5 6 / finish 0 / begin 0";
-    let replies = "ok / Short(0) / ok / ok / ok / Stopped";
-    expect(&rt, alloc, PAIR, &one_firing, script, replies)?;
+    for (limits, script, replies) in &LIMITED {
+        expect(&rt, rt.alloc(), PAIR, limits, *script, *replies)?;
+    }
     Ok(())
 }
 
@@ -377,22 +348,32 @@ fn expect_with_cells(
     expect(rt, alloc, text.as_str(), &AMPLE, script, replies)
 }
 
-#[test]
-fn reserves_cells(rt: HostRuntime) -> Result<(), Fail> {
-    let alloc = rt.alloc();
-    let script = "begin 0 / read 0 / write 0 1 2 / finish 0 / begin 0";
-    let replies = "ok / ok / ok / ok / NoCells";
-    expect_with_cells(&rt, alloc, "cells = 3\n", CHAIN, script, replies)?;
-    let script =
+/// A number of cells, a graph, a script, and the replies.
+const WITH_CELLS: [(&str, &str, &str, &str); 3] = [
+    (
+        "cells = 3\n",
+        CHAIN,
+        "begin 0 / read 0 / write 0 1 2 / finish 0 / begin 0",
+        "ok / ok / ok / ok / NoCells",
+    ),
+    (
+        "cells = 4\n",
+        CHAIN,
         "begin 0 / read 0 / write 0 1 2 / finish 0 / begin 0 / read 0 / write 0 3 4 / finish 0 / \
         begin 1 / read 1 / write 1 9 / finish 1 / begin 0 / read 0 / write 0 5 6 / finish 0 / \
         begin 1 / read 1 / write 1 8 / finish 1 / begin 2 / begin 0 / read 0 / write 0 7 7 / \
-        finish 0 / begin 0 / read 2 / begin 0";
-    let replies =
+        finish 0 / begin 0 / read 2 / begin 0",
         "ok / ok / ok / ok / ok / ok / ok / ok / ok / ok 1 2 3 / ok / ok / ok / ok / ok / ok / \
-        ok / ok 4 5 6 / ok / ok / ok / ok / ok / ok / ok / NoCells / ok 9 8 / ok";
-    expect_with_cells(&rt, alloc, "cells = 4\n", CHAIN, script, replies)?;
-    expect_with_cells(&rt, alloc, "cells = 1\n", LOOP, "begin 0", "ok")?;
+        ok / ok 4 5 6 / ok / ok / ok / ok / ok / ok / ok / NoCells / ok 9 8 / ok",
+    ),
+    ("cells = 1\n", LOOP, "begin 0", "ok"),
+];
+
+#[test]
+fn reserves_cells(rt: HostRuntime) -> Result<(), Fail> {
+    for (cells, graph, script, replies) in &WITH_CELLS {
+        expect_with_cells(&rt, rt.alloc(), *cells, *graph, *script, *replies)?;
+    }
     Ok(())
 }
 

@@ -251,16 +251,19 @@ fn cells_of(rt: &impl AllocGlobal, text: &str) -> Result<Option<u32>, GraphFault
     }
 }
 
+/// What stands before the loop, and the number of cells.
+const CELLS: [(&str, Result<Option<u32>, GraphFault>); 4] = [
+    ("cells = 1\n", Ok(Some(1))),
+    ("cells = 8388480\n", Ok(Some(8_388_480))),
+    ("cells = 0\n", Err(GraphFault::Range(At::File))),
+    ("cells = 8388481\n", Err(GraphFault::Range(At::File))),
+];
+
 #[test]
 fn reads_cells(rt: HostRuntime) -> Result<(), Fail> {
-    for (cells, want) in [
-        ("cells = 1\n", Ok(Some(1))),
-        ("cells = 8388480\n", Ok(Some(8_388_480))),
-        ("cells = 0\n", Err(GraphFault::Range(At::File))),
-        ("cells = 8388481\n", Err(GraphFault::Range(At::File))),
-    ] {
+    for (cells, want) in &CELLS {
         let text = format!(in rt.alloc(); "{cells}{LOOP}")?;
-        expect_eq(&rt, cells_of(&rt, text.as_str()), want);
+        expect_eq(&rt, cells_of(&rt, text.as_str()), *want);
     }
     Ok(())
 }
@@ -281,7 +284,7 @@ fn expect_script_fault(
 fn check_script(rt: &impl Abort, script: &Script) {
     expect_eq(rt, (script.limit, script.supply), (1_000_000, 1_000_000));
     expect_eq(rt, script.firings, None);
-    assert_eq!(rt; script.lines.len(), 12);
+    assert!(rt; script.lines.len() == 12);
     expect_eq(rt, script.lines[2].as_str(), "write src 5 6");
 }
 
@@ -338,19 +341,20 @@ fn reads_graphs_with_scripts(rt: HostRuntime) -> Result<(), Fail> {
     Ok(())
 }
 
+const REFUSED_WITH_SCRIPTS: [(&str, GraphFault); 3] = [
+    ("x", GraphFault::NotToml),
+    (
+        "actor = []\n[script]\nlimit = -1\n",
+        GraphFault::Range(At::File),
+    ),
+    ("script = 1\nactor = []\n", GraphFault::Shape(At::File)),
+];
+
 #[test]
 fn refuses_graphs_with_scripts(rt: HostRuntime) {
-    let table = [
-        ("x", GraphFault::NotToml),
-        (
-            "actor = []\n[script]\nlimit = -1\n",
-            GraphFault::Range(At::File),
-        ),
-        ("script = 1\nactor = []\n", GraphFault::Shape(At::File)),
-    ];
-    for (text, fault) in table {
+    for (text, fault) in &REFUSED_WITH_SCRIPTS {
         let answer = read_graph_and_script(rt.alloc(), text.as_bytes());
-        expect_eq(&rt, answer.err(), Some(fault));
+        expect_eq(&rt, answer.err(), Some(*fault));
     }
 }
 

@@ -1,5 +1,6 @@
 //! A journal that keeps its moves beside one that does not.
 
+use crate::shared::expect_eq;
 use csdf_journal::{Journal, Keeping};
 use std::alloc::{AllocError, Global};
 use std::test::Fail;
@@ -21,16 +22,16 @@ fn may_cross<T: Send + Sync>(_value: &T) {}
 fn moves_are_told_where_they_are_kept(rt: HostRuntime) -> Result<(), Fail> {
     let journal = journal_of(rt.alloc(), Keeping::Kept)?;
     may_cross(&journal);
-    assert_eq!(rt; journal.moves().len(), 2);
+    expect_eq(&rt, journal.moves().len(), 2);
     let text = format!(in rt.alloc(); "{:?}", journal.into_moves())?;
-    assert_eq!(rt; text.as_str(), "[Begin(3), Write(3, [5, -6])]");
+    expect_eq(&rt, text.as_str(), "[Begin(3), Write(3, [5, -6])]");
     Ok(())
 }
 
 #[test]
 fn none_are_told_where_none_are_kept(rt: HostRuntime) -> Result<(), Fail> {
     let journal = journal_of(rt.alloc(), Keeping::NotKept)?;
-    assert_eq!(rt; journal.moves().len(), 0);
-    assert_eq!(rt; journal.into_moves().len(), 0);
+    expect_eq(&rt, journal.moves().len(), 0);
+    expect_eq(&rt, journal.into_moves().len(), 0);
     Ok(())
 }

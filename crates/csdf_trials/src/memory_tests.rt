@@ -92,9 +92,19 @@ fn play_front(
     moves: &[Move],
 ) -> Result<(), Fail> {
     let mut core = opening_core(alloc, accepted)?;
-    match play_on(&mut core, alloc, moves) {
+    play_front_on(rt, alloc, accepted, &mut core, moves)
+}
+
+fn play_front_on(
+    rt: &impl Abort,
+    alloc: Global,
+    accepted: &Accepted,
+    core: &mut Core,
+    moves: &[Move],
+) -> Result<(), Fail> {
+    match play_on(core, alloc, moves) {
         Ok(replies) => check_replies(rt, alloc, &replies),
-        Err(_) => check_front(rt, alloc, accepted, &core, moves),
+        Err(_) => check_front(rt, alloc, accepted, core, moves),
     }
 }
 

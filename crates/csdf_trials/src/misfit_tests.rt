@@ -115,11 +115,6 @@ const KEYS_OF_ACTORS: [Row; 9] = [
     ),
 ];
 
-#[test]
-fn explains_keys_of_actors(rt: HostRuntime) -> Result<(), Fail> {
-    check_rows(&rt, &KEYS_OF_ACTORS)
-}
-
 const KEYS_OF_CHANNELS: [Row; 9] = [
     (
         "name = \"x\"",
@@ -167,11 +162,6 @@ const KEYS_OF_CHANNELS: [Row; 9] = [
         "channel 0 is x\ncells: found a key that this table has not, wanted it at the top of the file, above all tables\n",
     ),
 ];
-
-#[test]
-fn explains_keys_of_channels(rt: HostRuntime) -> Result<(), Fail> {
-    check_rows(&rt, &KEYS_OF_CHANNELS)
-}
 
 const NUMBERS: [Row; 13] = [
     (
@@ -241,11 +231,6 @@ const NUMBERS: [Row; 13] = [
     ),
 ];
 
-#[test]
-fn explains_numbers(rt: HostRuntime) -> Result<(), Fail> {
-    check_rows(&rt, &NUMBERS)
-}
-
 /// A text with so many entries, each with its number: what stands before them, before and behind the
 /// number of each, and behind them.
 fn with_many(
@@ -306,11 +291,15 @@ const LISTS: [List; 4] = [
     },
 ];
 
+fn check_list(rt: &(impl Abort + AllocGlobal), list: &List) -> Result<(), Fail> {
+    let text = with_many(rt.alloc(), list.front, list.entry, list.count, list.end)?;
+    expect_explained(rt, text.as_str(), list.told, list.told)
+}
+
 #[test]
 fn explains_long_lists(rt: HostRuntime) -> Result<(), Fail> {
     for list in &LISTS {
-        let text = with_many(rt.alloc(), list.front, list.entry, list.count, list.end)?;
-        expect_explained(&rt, text.as_str(), list.told, list.told)?;
+        check_list(&rt, list)?;
     }
     Ok(())
 }
@@ -343,11 +332,6 @@ const NAMES: [Row; 5] = [
     ),
 ];
 
-#[test]
-fn explains_names(rt: HostRuntime) -> Result<(), Fail> {
-    check_rows(&rt, &NAMES)
-}
-
 const RATES: [Row; 4] = [
     (
         "[3]",
@@ -370,11 +354,6 @@ const RATES: [Row; 4] = [
         "channel 0 is x\nproduce: found zeros alone, wanted a rate above 0 in some phase\n",
     ),
 ];
-
-#[test]
-fn explains_rates(rt: HostRuntime) -> Result<(), Fail> {
-    check_rows(&rt, &RATES)
-}
 
 const KERNELS: [Row; 5] = [
     (
@@ -404,9 +383,21 @@ const KERNELS: [Row; 5] = [
     ),
 ];
 
+const TABLES: [&[Row]; 6] = [
+    &KEYS_OF_ACTORS,
+    &KEYS_OF_CHANNELS,
+    &NUMBERS,
+    &NAMES,
+    &RATES,
+    &KERNELS,
+];
+
 #[test]
-fn explains_kernels(rt: HostRuntime) -> Result<(), Fail> {
-    check_rows(&rt, &KERNELS)
+fn explains_changes_of_the_pair(rt: HostRuntime) -> Result<(), Fail> {
+    for rows in &TABLES {
+        check_rows(&rt, *rows)?;
+    }
+    Ok(())
 }
 
 /// A script's table, and the explanation.

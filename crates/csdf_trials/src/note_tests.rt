@@ -57,8 +57,8 @@ const NOTES: [(&[u8], &str); 9] = [
 
 #[test]
 fn lines_of_token_files_are_told(rt: HostRuntime) -> Result<(), Fail> {
-    for (bytes, want) in NOTES {
-        expect_note(&rt, bytes, want)?;
+    for (bytes, want) in &NOTES {
+        expect_note(&rt, *bytes, *want)?;
     }
     Ok(())
 }

@@ -150,10 +150,21 @@ fn play_three(
     Ok(())
 }
 
+/// Plays the firings of a period three times over on a new core.
+fn play_on_new(
+    rt: &impl Abort,
+    alloc: Global,
+    accepted: &Accepted,
+    firings: &[u32],
+) -> Result<(), Fail> {
+    let mut core = opening_core(alloc, accepted)?;
+    play_three(rt, alloc, &mut core, firings)
+}
+
 /// Plays the printed schedule of the graph three times over.
 fn play_schedule(rt: &impl Abort, alloc: Global, accepted: &Accepted) -> Result<(), Fail> {
     let firings = schedule(alloc, accepted)?;
-    play_three(rt, alloc, &mut opening_core(alloc, accepted)?, &firings)
+    play_on_new(rt, alloc, accepted, &firings)
 }
 
 #[test]

@@ -90,7 +90,6 @@ impl Two {
 }
 
 // One call on a pool of two chains, and what it is to answer.
-#[derive(Drop)]
 enum Call {
     Put(u32, i32, Result<(), NoCell>),
     Take(u32, Option<i32>),
@@ -99,7 +98,6 @@ enum Call {
 }
 
 // A call, and what the pool is to show after it.
-#[derive(Drop)]
 struct Step(Call, &'static str);
 
 fn check_taken(
@@ -145,39 +143,41 @@ fn plays(rt: &impl Abort, alloc: Global, cells: u32, steps: &[Step]) -> Result<(
     Ok(())
 }
 
+const SINGLE_CALLS: [Step; 10] = [
+    Step(Call::Put(0, 7, Ok(())), "0=7 | | 1 2 3 "),
+    Step(Call::Put(0, 8, Ok(())), "0=7 1=8 | | 2 3 "),
+    Step(Call::Take(0, Some(7)), "1=8 | | 2 3 0 "),
+    Step(Call::Put(1, 9, Ok(())), "1=8 | 2=9 | 3 0 "),
+    Step(Call::Put(1, 5, Ok(())), "1=8 | 2=9 3=5 | 0 "),
+    Step(Call::Put(0, 6, Ok(())), "1=8 0=6 | 2=9 3=5 | "),
+    Step(Call::Put(1, 4, Err(NoCell)), "1=8 0=6 | 2=9 3=5 | "),
+    Step(Call::Take(0, Some(8)), "0=6 | 2=9 3=5 | 1 "),
+    Step(Call::Take(0, Some(6)), "| 2=9 3=5 | 1 0 "),
+    Step(Call::Take(0, None), "| 2=9 3=5 | 1 0 "),
+];
+
 #[test]
 fn single_calls(rt: HostRuntime) -> Result<(), Fail> {
-    let steps = [
-        Step(Call::Put(0, 7, Ok(())), "0=7 | | 1 2 3 "),
-        Step(Call::Put(0, 8, Ok(())), "0=7 1=8 | | 2 3 "),
-        Step(Call::Take(0, Some(7)), "1=8 | | 2 3 0 "),
-        Step(Call::Put(1, 9, Ok(())), "1=8 | 2=9 | 3 0 "),
-        Step(Call::Put(1, 5, Ok(())), "1=8 | 2=9 3=5 | 0 "),
-        Step(Call::Put(0, 6, Ok(())), "1=8 0=6 | 2=9 3=5 | "),
-        Step(Call::Put(1, 4, Err(NoCell)), "1=8 0=6 | 2=9 3=5 | "),
-        Step(Call::Take(0, Some(8)), "0=6 | 2=9 3=5 | 1 "),
-        Step(Call::Take(0, Some(6)), "| 2=9 3=5 | 1 0 "),
-        Step(Call::Take(0, None), "| 2=9 3=5 | 1 0 "),
-    ];
-    plays(&rt, rt.alloc(), 4, &steps)
+    plays(&rt, rt.alloc(), 4, &SINGLE_CALLS)
 }
+
+const WHOLE_SEGMENTS: [Step; 8] = [
+    Step(Call::PutAll(0, &[1, 2, 3, 4]), "0=1 1=2 2=3 3=4 | | 4 5 "),
+    Step(Call::TakeInto(0, &[1, 2]), "2=3 3=4 | | 4 5 0 1 "),
+    Step(Call::PutAll(1, &[5, 6, 7]), "2=3 3=4 | 4=5 5=6 0=7 | 1 "),
+    Step(Call::TakeInto(0, &[3, 4]), "| 4=5 5=6 0=7 | 1 2 3 "),
+    Step(Call::Put(0, 8, Ok(())), "1=8 | 4=5 5=6 0=7 | 2 3 "),
+    Step(Call::PutAll(1, &[9, 10]), "1=8 | 4=5 5=6 0=7 2=9 3=10 | "),
+    Step(
+        Call::Put(0, 11, Err(NoCell)),
+        "1=8 | 4=5 5=6 0=7 2=9 3=10 | ",
+    ),
+    Step(Call::PutAll(1, &[]), "1=8 | 4=5 5=6 0=7 2=9 3=10 | "),
+];
 
 #[test]
 fn whole_segments(rt: HostRuntime) -> Result<(), Fail> {
-    let steps = [
-        Step(Call::PutAll(0, &[1, 2, 3, 4]), "0=1 1=2 2=3 3=4 | | 4 5 "),
-        Step(Call::TakeInto(0, &[1, 2]), "2=3 3=4 | | 4 5 0 1 "),
-        Step(Call::PutAll(1, &[5, 6, 7]), "2=3 3=4 | 4=5 5=6 0=7 | 1 "),
-        Step(Call::TakeInto(0, &[3, 4]), "| 4=5 5=6 0=7 | 1 2 3 "),
-        Step(Call::Put(0, 8, Ok(())), "1=8 | 4=5 5=6 0=7 | 2 3 "),
-        Step(Call::PutAll(1, &[9, 10]), "1=8 | 4=5 5=6 0=7 2=9 3=10 | "),
-        Step(
-            Call::Put(0, 11, Err(NoCell)),
-            "1=8 | 4=5 5=6 0=7 2=9 3=10 | ",
-        ),
-        Step(Call::PutAll(1, &[]), "1=8 | 4=5 5=6 0=7 2=9 3=10 | "),
-    ];
-    plays(&rt, rt.alloc(), 6, &steps)
+    plays(&rt, rt.alloc(), 6, &WHOLE_SEGMENTS)
 }
 
 fn check_no_chains(rt: &impl Abort, alloc: Global) -> Result<(), Fail> {

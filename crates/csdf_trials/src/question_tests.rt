@@ -1,6 +1,6 @@
 //! Worked examples of questions.
 
-use crate::shared::{CHAIN, DISAGREEING, STUCK_CYCLE, expect_eq, line_of};
+use crate::shared::{CHAIN, DISAGREEING, STUCK_CYCLE, expect_eq, written_or_line};
 use csdf_analysis::Room;
 use csdf_answers::{
     Form, Name, Question, Stream, ToolFault, describe, describe_as, describe_with_room, fault_line,
@@ -18,13 +18,8 @@ fn answer_to(
 ) -> Result<String, Fail> {
     let mut written = Vec::new(rt.alloc());
     let mut writer = ToWriter::new(&mut written);
-    match describe(rt.alloc(), question, graph.as_bytes(), &mut writer) {
-        Ok(()) => Ok(String::from_utf8(written)?),
-        Err(fault) => {
-            expect_eq(rt, written.len(), 0);
-            line_of(rt, &fault)
-        }
-    }
+    let answer = describe(rt.alloc(), question, graph.as_bytes(), &mut writer);
+    written_or_line(rt, written, answer)
 }
 
 /// Asserts the answer to a question.
@@ -71,10 +66,8 @@ fn room_is_told(rt: HostRuntime) -> Result<(), Fail> {
     let mut written = Vec::new(rt.alloc());
     let mut writer = ToWriter::new(&mut written);
     let (question, room) = (Question::Capacity, Room::Periods(2));
-    let text = match describe_with_room(rt.alloc(), question, CHAIN.as_bytes(), room, &mut writer) {
-        Ok(()) => String::from_utf8(written)?,
-        Err(fault) => line_of(&rt, &fault)?,
-    };
+    let answer = describe_with_room(rt.alloc(), question, CHAIN.as_bytes(), room, &mut writer);
+    let text = written_or_line(&rt, written, answer)?;
     expect_eq(&rt, text.as_str(), "x 12\ny 4\ncells 16\n");
     Ok(())
 }
@@ -94,6 +87,18 @@ fn fewer_cells_are_told(rt: HostRuntime) -> Result<(), Fail> {
 fn told_in(rt: &impl AllocGlobal, form: Form, fault: &ToolFault) -> Result<String, Fail> {
     let line = fault_line(rt.alloc(), form, fault)?;
     Ok(String::from_utf8(line)?)
+}
+
+/// Asserts how a fault is told in a form.
+fn expect_told(
+    rt: &(impl Abort + AllocGlobal),
+    form: Form,
+    fault: &ToolFault,
+    want: &str,
+) -> Result<(), Fail> {
+    let told = told_in(rt, form, fault)?;
+    expect_eq(rt, told.as_str(), want);
+    Ok(())
 }
 
 /// The answer to a question as JSON, or the object of the fault, for which nothing is written.
@@ -162,16 +167,14 @@ const UNREAD_OBJECT: &str = r#"{"fault":"device: a \"b\\c\"\t\u001fé","status":
 #[test]
 fn texts_are_escaped(rt: HostRuntime) -> Result<(), Fail> {
     let name = Name::new(rt.alloc(), "a \"b\\c\"\t\u{1f}é")?;
-    let told = told_in(&rt, Form::Json, &ToolFault::Device(Stream::File(name)))?;
-    expect_eq(&rt, told.as_str(), UNREAD_OBJECT);
-    Ok(())
+    let fault = ToolFault::Device(Stream::File(name));
+    expect_told(&rt, Form::Json, &fault, UNREAD_OBJECT)
 }
 
 #[test]
 fn want_of_memory_is_told_without_memory(rt: HostRuntime) -> Result<(), Fail> {
     for form in [Form::Text, Form::Json] {
-        let told = told_in(&rt, form, &ToolFault::Memory)?;
-        expect_eq(&rt, told.as_str(), memory_line(form));
+        expect_told(&rt, form, &ToolFault::Memory, memory_line(form))?;
     }
     Ok(())
 }

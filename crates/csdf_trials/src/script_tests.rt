@@ -1,7 +1,7 @@
 //! Worked examples of scripts.
 
 use crate::core_tests::LOOP;
-use crate::shared::{CHAIN, DISAGREEING, STUCK_CYCLE, expect_eq, line_of};
+use crate::shared::{CHAIN, DISAGREEING, STUCK_CYCLE, expect_eq, line_of, written_or_line};
 use csdf_answers::{Name, Stream, ToolFault, play_script};
 use csdf_bytes::{Fused, ToWriter};
 use csdf_graph::{At, GraphFault};
@@ -56,13 +56,8 @@ channel = [
 fn answer_of(rt: &(impl Abort + AllocGlobal), file: &str) -> Result<String, Fail> {
     let mut written = Vec::new(rt.alloc());
     let mut writer = ToWriter::new(&mut written);
-    match play_script(rt.alloc(), file.as_bytes(), &mut writer) {
-        Ok(()) => Ok(String::from_utf8(written)?),
-        Err(fault) => {
-            expect_eq(rt, written.len(), 0);
-            line_of(rt, &fault)
-        }
-    }
+    let answer = play_script(rt.alloc(), file.as_bytes(), &mut writer);
+    written_or_line(rt, written, answer)
 }
 
 /// The answer to the graph's and the script's file.

@@ -68,3 +68,18 @@ pub(crate) fn expect_eq_of<T: PartialEq + Debug + Drop>(
 pub(crate) fn line_of(rt: &impl AllocGlobal, fault: &ToolFault) -> Result<String, Fail> {
     Ok(format!(in rt.alloc(); "{fault}")?)
 }
+
+/// What was written for an answer, or the line of the fault, for which nothing was.
+pub(crate) fn written_or_line(
+    rt: &(impl Abort + AllocGlobal),
+    written: Vec<u8>,
+    answer: Result<(), ToolFault>,
+) -> Result<String, Fail> {
+    match answer {
+        Ok(()) => Ok(String::from_utf8(written)?),
+        Err(fault) => {
+            expect_eq(rt, written.len(), 0);
+            line_of(rt, &fault)
+        }
+    }
+}
