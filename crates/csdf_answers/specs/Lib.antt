@@ -2,6 +2,7 @@ pub mod Circle
 pub mod Described
 pub mod Drawing
 pub mod Explained
+pub mod FaultParts
 pub mod Faults
 pub mod Lines
 pub mod Objects

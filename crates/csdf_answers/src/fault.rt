@@ -1,11 +1,13 @@
 //! Why a command gave no answer.
 
-ghost use Rattle.std.specs.Prelude.{◌≡◌, ◌++◌, IfOk};
-ghost use Rattle.csdf_answers.specs.Faults.{status_of, unread};
+ghost use Rattle.std.specs.Prelude.{◌≡◌, ◌++◌, None, codes, IfOk, IfSome};
+ghost use Rattle.csdf_answers.specs.Faults.{graph_text, reason_text, status_of, stream_text, unread};
+ghost use Rattle.csdf_answers.specs.FaultParts.{detail_text};
+ghost use Rattle.csdf_graph.specs.FaultPlace.{place_text};
 ghost use Rattle.csdf_answers.specs.declared.fault.ToolFault.TheVariants.{Memory};
 
 use csdf_bytes::InputFault;
-use csdf_graph::GraphFault;
+use csdf_graph::{At, GraphFault};
 use std::alloc::{AllocError, AllocFailed, Global};
 use std::fmt;
 use std::marker::Model;
@@ -68,6 +70,19 @@ pub enum Stream {
     File(Name),
 }
 
+impl Stream {
+    /// Its text.
+    fn as_str(&self) -> &str
+        ensures { result.now ≡ stream_text self.now }
+    {
+        match self {
+            Stream::Input => "standard input",
+            Stream::Output => "standard output",
+            Stream::File(file) => file.as_str(),
+        }
+    }
+}
+
 impl fmt::Display for Stream {
     ghost use Rattle.std.specs.Prelude.{Some};
     ghost use Rattle.csdf_answers.specs.Faults.{stream_text};
@@ -75,16 +90,33 @@ impl fmt::Display for Stream {
     ghost output = { λ stream. Some (stream_text stream) };
 
     fn fmt<W: fmt::Write>(&self, f: &mut fmt::Formatter<W>) -> fmt::Result {
-        match self {
-            Stream::Input => write!(f, "standard input"),
-            Stream::Output => write!(f, "standard output"),
-            Stream::File(file) => write!(f, "{file}"),
-        }
+        let text = self.as_str();
+        write!(f, "{text}")
+    }
+}
+
+/// What the line of a fault of a graph file begins with, and the place that it ends with, where it
+/// has one.
+fn graph_parts(fault: GraphFault) -> (&'static str, Option<At>)
+    ensures placed { IfSome result.1 (λ at. graph_text fault ≡ result.0.now ++ place_text at) }
+    ensures alone { result.1 ≡ None → graph_text fault ≡ result.0.now }
+{
+    match fault {
+        GraphFault::NotToml => ("not TOML", None),
+        GraphFault::Shape(at) => ("shape at ", Some(at)),
+        GraphFault::Name(at) => ("name at ", Some(at)),
+        GraphFault::Range(at) => ("range at ", Some(at)),
+        GraphFault::UnknownActor(channel) => ("unknown actor at ", Some(At::Channel(channel))),
+        GraphFault::PhaseLength(channel) => ("phase length at ", Some(At::Channel(channel))),
+        GraphFault::ZeroRate(channel) => ("zero rate at ", Some(At::Channel(channel))),
+        GraphFault::KernelPorts(actor) => ("kernel ports at ", Some(At::Actor(actor))),
+        GraphFault::NotConnected => ("not connected", None),
+        GraphFault::Memory => ("out of memory", None),
     }
 }
 
 /// A fault of a graph file, in the words of the line that tells it.
-#[derive(Drop)]
+#[derive(Clone, Copy)]
 struct InWords(GraphFault);
 
 impl fmt::Display for InWords {
@@ -94,23 +126,16 @@ impl fmt::Display for InWords {
     ghost output = { λ words. Some (graph_text words.0) };
 
     fn fmt<W: fmt::Write>(&self, f: &mut fmt::Formatter<W>) -> fmt::Result {
-        match self.0 {
-            GraphFault::NotToml => write!(f, "not TOML"),
-            GraphFault::Shape(at) => write!(f, "shape at {at}"),
-            GraphFault::Name(at) => write!(f, "name at {at}"),
-            GraphFault::Range(at) => write!(f, "range at {at}"),
-            GraphFault::UnknownActor(channel) => write!(f, "unknown actor at channel {channel}"),
-            GraphFault::PhaseLength(channel) => write!(f, "phase length at channel {channel}"),
-            GraphFault::ZeroRate(channel) => write!(f, "zero rate at channel {channel}"),
-            GraphFault::KernelPorts(actor) => write!(f, "kernel ports at actor {actor}"),
-            GraphFault::NotConnected => write!(f, "not connected"),
-            GraphFault::Memory => write!(f, "out of memory"),
+        let (words, place) = graph_parts(self.0);
+        match place {
+            Some(at) => write!(f, "{words}{at}"),
+            None => write!(f, "{words}"),
         }
     }
 }
 
 /// What a fault of a line of a token file ends with.
-#[derive(Drop)]
+#[derive(Clone, Copy)]
 enum LineEnd {
     Syntax(u32),
     Range(u32),
@@ -163,6 +188,95 @@ pub enum ToolFault {
     Memory,
 }
 
+/// What a reason ends with.
+#[derive(Clone, Copy)]
+enum Detail {
+    /// These words.
+    Words(&'static str),
+    Graph(InWords),
+    Number(usize),
+    End(LineEnd),
+}
+
+impl fmt::Display for Detail {
+    ghost use Rattle.std.specs.Prelude.{Some};
+    ghost use Rattle.csdf_answers.specs.FaultParts.{detail_text};
+
+    ghost output = { λ detail. Some (detail_text detail) };
+
+    fn fmt<W: fmt::Write>(&self, f: &mut fmt::Formatter<W>) -> fmt::Result {
+        match self {
+            Detail::Words(words) => write!(f, "{words}"),
+            Detail::Graph(words) => write!(f, "{words}"),
+            Detail::Number(number) => write!(f, "{number}"),
+            Detail::End(end) => write!(f, "{end}"),
+        }
+    }
+}
+
+/// A reason in parts: what it begins with, a name or the empty text, and what it ends with.
+#[derive(Clone, Copy)]
+struct Parts<'a> {
+    words: &'static str,
+    name: &'a str,
+    detail: Detail,
+}
+
+/// Parts that end with the name, if not before it.
+fn named<'a>(words: &'static str, name: &'a str) -> Parts<'a>
+    ensures { result.words.now ++ (result.name.now ++ detail_text result.detail) ≡ words.entry.now ++ name.entry.now }
+{
+    Parts {
+        words,
+        name,
+        detail: Detail::Words(""),
+    }
+}
+
+/// Parts with no name.
+fn nameless<'a>(words: &'static str, detail: Detail) -> Parts<'a>
+    ensures { result.words.now ++ (result.name.now ++ detail_text result.detail) ≡ words.entry.now ++ detail_text detail }
+{
+    Parts {
+        words,
+        name: "",
+        detail,
+    }
+}
+
+/// Parts of the reason of a fault in a token file.
+fn of_tokens<'a>(name: &'a Name, detail: Detail) -> Parts<'a>
+    ensures { result.words.now ++ (result.name.now ++ detail_text result.detail) ≡ codes "tokens " ++ (name.entry.now ++ detail_text detail) }
+{
+    Parts {
+        words: "tokens ",
+        name: name.as_str(),
+        detail,
+    }
+}
+
+/// The parts of the reason of a fault.
+fn parts_of<'a>(fault: &'a ToolFault) -> Parts<'a>
+    ensures { result.words.now ++ (result.name.now ++ detail_text result.detail) ≡ reason_text fault.entry.now }
+{
+    match fault {
+        ToolFault::Graph(fault) => nameless("graph: ", Detail::Graph(InWords(*fault))),
+        ToolFault::Line(number) => nameless("script: line ", Detail::Number(*number)),
+        ToolFault::Unbalanced(name) => named("graph: unbalanced at channel ", name.as_str()),
+        ToolFault::TooLarge(name) => named("graph: too large at channel ", name.as_str()),
+        ToolFault::Deadlock => named("graph: deadlock", ""),
+        ToolFault::TooTight => named("graph: too tight", ""),
+        ToolFault::TooLong => named("input too long", ""),
+        ToolFault::TokenSyntax(name, line) => of_tokens(name, Detail::End(LineEnd::Syntax(*line))),
+        ToolFault::TokenRange(name, line) => of_tokens(name, Detail::End(LineEnd::Range(*line))),
+        ToolFault::TooManyTokens(name) => of_tokens(name, Detail::Words(": too many")),
+        ToolFault::Mixed => named("run: mixed", ""),
+        ToolFault::Worker => named("run: worker", ""),
+        ToolFault::Device(stream) => named("device: ", stream.as_str()),
+        ToolFault::Memory => named("memory", ""),
+    }
+}
+
 /// The reason of a fault: its line without the name of the program.
 #[derive(Drop)]
 pub(crate) struct Reason<'a>(pub(crate) &'a ToolFault);
@@ -174,31 +288,11 @@ impl fmt::Display for Reason<'_> {
     ghost output = { λ reason. Some (reason_text reason.0.now) };
 
     fn fmt<W: fmt::Write>(&self, f: &mut fmt::Formatter<W>) -> fmt::Result {
-        match self.0 {
-            ToolFault::Graph(fault) => {
-                let words = InWords(*fault);
-                write!(f, "graph: {words}")
-            }
-            ToolFault::Line(number) => write!(f, "script: line {number}"),
-            ToolFault::Unbalanced(name) => write!(f, "graph: unbalanced at channel {name}"),
-            ToolFault::TooLarge(name) => write!(f, "graph: too large at channel {name}"),
-            ToolFault::Deadlock => write!(f, "graph: deadlock"),
-            ToolFault::TooTight => write!(f, "graph: too tight"),
-            ToolFault::TooLong => write!(f, "input too long"),
-            ToolFault::TokenSyntax(name, line) => {
-                let end = LineEnd::Syntax(*line);
-                write!(f, "tokens {name}{end}")
-            }
-            ToolFault::TokenRange(name, line) => {
-                let end = LineEnd::Range(*line);
-                write!(f, "tokens {name}{end}")
-            }
-            ToolFault::TooManyTokens(name) => write!(f, "tokens {name}: too many"),
-            ToolFault::Mixed => write!(f, "run: mixed"),
-            ToolFault::Worker => write!(f, "run: worker"),
-            ToolFault::Device(stream) => write!(f, "device: {stream}"),
-            ToolFault::Memory => write!(f, "memory"),
-        }
+        let parts = parts_of(self.0);
+        let words = parts.words;
+        let name = parts.name;
+        let detail = parts.detail;
+        write!(f, "{words}{name}{detail}")
     }
 }
 

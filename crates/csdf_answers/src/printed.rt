@@ -1,6 +1,6 @@
 //! Printed text: the replies to the moves of a script, and the cells.
 
-ghost use Rattle.std.specs.Prelude.{◌≡◌, ◌<◌, ◌≤◌, ◌++◌, length, map, string_bytes, OnOk};
+ghost use Rattle.std.specs.Prelude.{◌≡◌, ◌<◌, ◌≤◌, ◌++◌, ℕ, List, None, length, map, string_bytes, IfSome, OnOk};
 ghost use Rattle.std.specs.List.{enumerate_from};
 ghost use Rattle.csdf_model.specs.Graph.{channel_view};
 ghost use Rattle.csdf_pool.specs.Pool.{chain_of};
@@ -42,24 +42,36 @@ fn push_channel(
     push(text, name_at(channels, number))
 }
 
+/// A refusal's name, and the channel that it speaks of, where it does.
+fn refusal_parts(refusal: Refusal) -> (&'static str, Option<u32>)
+    ensures channel { IfSome result.1 (λ number. (names : List (List ℕ)) → refusal_text names refusal ≡ result.0.now ++ name_at names number) }
+    ensures alone { result.1 ≡ None → (names : List (List ℕ)) → refusal_text names refusal ≡ result.0.now }
+{
+    match refusal {
+        Refusal::Unknown => ("Unknown", None),
+        Refusal::Busy => ("Busy", None),
+        Refusal::Spent => ("Spent", None),
+        Refusal::Closed(number) => ("Closed ", Some(number)),
+        Refusal::Dry => ("Dry", None),
+        Refusal::Short(number) => ("Short ", Some(number)),
+        Refusal::Full(number) => ("Full ", Some(number)),
+        Refusal::Stopped => ("Stopped", None),
+        Refusal::NoCells => ("NoCells", None),
+        Refusal::NotBegun => ("NotBegun", None),
+        Refusal::NotRead => ("NotRead", None),
+        Refusal::WrongCount => ("WrongCount", None),
+        Refusal::NotWritten => ("NotWritten", None),
+    }
+}
+
 /// Appends a refusal.
 fn push_refusal(text: &mut String, channels: &[Channel], refusal: Refusal) -> Result<(), AllocError>
     ensures { OnOk result (string_bytes text.new ≡ string_bytes text.old ++ refusal_text (names_of (map channel_view channels.now)) refusal) }
 {
-    match refusal {
-        Refusal::Unknown => push(text, "Unknown"),
-        Refusal::Busy => push(text, "Busy"),
-        Refusal::Spent => push(text, "Spent"),
-        Refusal::Closed(number) => push_channel(text, channels, "Closed ", number),
-        Refusal::Dry => push(text, "Dry"),
-        Refusal::Short(number) => push_channel(text, channels, "Short ", number),
-        Refusal::Full(number) => push_channel(text, channels, "Full ", number),
-        Refusal::Stopped => push(text, "Stopped"),
-        Refusal::NoCells => push(text, "NoCells"),
-        Refusal::NotBegun => push(text, "NotBegun"),
-        Refusal::NotRead => push(text, "NotRead"),
-        Refusal::WrongCount => push(text, "WrongCount"),
-        Refusal::NotWritten => push(text, "NotWritten"),
+    let (word, channel) = refusal_parts(refusal);
+    match channel {
+        Some(number) => push_channel(text, channels, word, number),
+        None => push(text, word),
     }
 }
 
