@@ -1,7 +1,7 @@
 //! The command line.
 
 ghost use Rattle.std.specs.Prelude.{◌≡◌, ◌≤◌, [], true, false, map, string_bytes, Some, None, Ok, IfErr, IfOk, IfSome, MatchResult, option_map};
-ghost use Rattle.clap.specs.Words.{App, app_of, fault_of, first_of, found_of, kind_of, rows_of, rule_of, subcommand_of, subcommand_rows_of, takes, with_rule, FailsBy};
+ghost use Rattle.clap.specs.Words.{App, app_of, fault_of, first_of, found_of, kind_of, rows_of, rule_of, subcommand_of, subcommand_rows_of, takes, with_rule, with_subcommand, FailsBy};
 ghost use Rattle.clap.specs.declared.builder.command.Command.TheViews.{out-Command as fields_of};
 ghost use Rattle.csdf_words.specs.CommandLine.{on_graph, on_files, run_command, flag, number_option, text_option};
 ghost use Rattle.csdf_words.specs.CommandLine.{explain_command, no_commands, with_command, with_explain, with_json, with_question, with_questions, with_room, with_roomy_command, with_roomy_question, program};
@@ -214,6 +214,20 @@ fn no_commands<'a>(alloc: Global) -> Result<Command<'a>, AllocError>
         .bin_name("csdf")
 }
 
+/// The program with one more command, where that is made yet.
+fn with_made<'a>(
+    program: Command<'a>,
+    command: Result<Command<'a>, AllocError>,
+) -> Result<Command<'a>, AllocError>
+    ensures { (more : App) → IfOk command.entry (λ c. app_of c ≡ more) → IfOk command.entry (λ c. (fields_of c).has_globals ≡ false)
+        → IfOk result (λ r. app_of r ≡ with_subcommand (app_of program.entry) more.top) }
+{
+    match command {
+        Ok(command) => program.subcommand(command),
+        Err(error) => Err(error),
+    }
+}
+
 /// The program with one more command on a graph file.
 fn with_command<'a>(
     alloc: Global,
@@ -224,7 +238,7 @@ fn with_command<'a>(
 ) -> Result<Command<'a>, AllocError>
     ensures { IfOk result (λ r. app_of r ≡ with_command (app_of program.entry) name.entry.now) }
 {
-    program.subcommand(on_graph(alloc, name, about, more)?)
+    with_made(program, on_graph(alloc, name, about, more))
 }
 
 /// A command with a graph file and the option for JSON.
@@ -251,7 +265,7 @@ fn with_question<'a>(
 ) -> Result<Command<'a>, AllocError>
     ensures { IfOk result (λ r. app_of r ≡ with_question (app_of program.entry) name.entry.now) }
 {
-    program.subcommand(on_question(alloc, name, about, more)?)
+    with_made(program, on_question(alloc, name, about, more))
 }
 
 /// The same, where there is a program yet.
@@ -294,7 +308,7 @@ fn with_roomy_command<'a>(
 ) -> Result<Command<'a>, AllocError>
     ensures { IfOk result (λ r. app_of r ≡ with_roomy_command (app_of program.entry) name.entry.now) }
 {
-    program.subcommand(on_roomy_graph(alloc, name, about, more)?)
+    with_made(program, on_roomy_graph(alloc, name, about, more))
 }
 
 /// The same, where there is a program yet.
@@ -337,7 +351,7 @@ fn with_roomy_question<'a>(
 ) -> Result<Command<'a>, AllocError>
     ensures { IfOk result (λ r. app_of r ≡ with_roomy_question (app_of program.entry) name.entry.now) }
 {
-    program.subcommand(on_roomy_question(alloc, name, about, more)?)
+    with_made(program, on_roomy_question(alloc, name, about, more))
 }
 
 /// The same, where there is a program yet.
@@ -371,7 +385,7 @@ fn explain_command<'a>(alloc: Global) -> Result<Command<'a>, AllocError>
 fn with_explain<'a>(alloc: Global, program: Command<'a>) -> Result<Command<'a>, AllocError>
     ensures { IfOk result (λ r. app_of r ≡ with_explain (app_of program.entry)) }
 {
-    program.subcommand(explain_command(alloc)?)
+    with_made(program, explain_command(alloc))
 }
 
 /// The same, where there is a program yet.
@@ -410,7 +424,7 @@ fn with_questions<'a>(alloc: Global, program: Command<'a>) -> Result<Command<'a>
 fn program<'a>(alloc: Global) -> Result<Command<'a>, AllocError>
     ensures { IfOk result (λ command. app_of command ≡ program) }
 {
-    let program = no_commands(alloc)?.subcommand(run_command(alloc)?)?;
+    let program = with_made(no_commands(alloc)?, run_command(alloc))?;
     with_questions(alloc, program)
 }
 
