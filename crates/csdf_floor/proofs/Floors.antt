@@ -95,20 +95,22 @@ pub record MayStart (f : FloorView) (a k : ℕ) : Type 0 where
   pub firing : count f.core.now a ≡ k
   pub accepted : refusal f.core.plan f.core.now (Begin a) ≡ None
 
+-- nothing is refused only where no test of the refusals fails
+none_fails : (b e : Bool) (o : Option Refusal) (moved : StartFault) → cond (not b) (Some Unknown) (cond (not e) (Some moved) (option_map Refused o)) ≡ None
+    → (b ≡ true) × (e ≡ true) × (o ≡ None)
+none_fails true true None moved is = (refl, refl, refl)
+none_fails true true (Some why) moved is = absurd (cc)
+none_fails true false o moved is = absurd (cc)
+none_fails false e o moved is = absurd (cc)
+
 pub may_start : (f : FloorView) (a k : ℕ) → start_refusal f a k ≡ None → MayStart f a k
-may_start f a k none = by (exists f.core.plan a) refl (count f.core.now a == k) refl (refusal f.core.plan f.core.now (Begin a)) refl none
-  where
-    by : (b : Bool) → exists f.core.plan a ≡ b → (e : Bool) → (count f.core.now a == k) ≡ e → (o : Option Refusal)
-        → refusal f.core.plan f.core.now (Begin a) ≡ o
-        → cond (not b) (Some Unknown) (cond (not e) (Some (Moved (count f.core.now a))) (option_map Refused o)) ≡ None → MayStart f a k
-    by true there true same None free is = record {
-      there = ltb-true a (length f.core.plan.sources) there;
-      firing = eqb-true (count f.core.now a) k same;
-      accepted = free;
+may_start f a k none =
+    let all = none_fails (exists f.core.plan a) (count f.core.now a == k) (refusal f.core.plan f.core.now (Begin a)) (Moved (count f.core.now a)) none in
+    record {
+      there = ltb-true a (length f.core.plan.sources) all.0;
+      firing = eqb-true (count f.core.now a) k all.1;
+      accepted = all.2;
     }
-    by true there true same (Some why) free is = absurd (cc)
-    by true there false same o free is = absurd (cc)
-    by false there e same o free is = absurd (cc)
 
 -- the mark of a channel of another actor, whose stage and counts stay
 other_mark : (plan plan2 : Plan) (p q : Present) (c : ℕ) → plan2 ≡ plan → q.counts ≡ p.counts → is_open q c ≡ is_open p c

@@ -1,3 +1,4 @@
+use Rattle.std.proofs.lemmas.Grind.{common_steps}
 use Rattle.std.proofs.Common.{◌≡◌, ◌+◌, ◌-◌, ◌*◌, ℕ, length, ap, ◌∙◌, arith}
 use Rattle.csdf_kernel.specs.Loop.{loop_values}
 use Rattle.csdf_core.specs.Step.{count}
@@ -60,3 +61,6 @@ returns c =
             c.peek_on.new.state c.peek_on.new.others) (fresh at);
       }) c.eval_loop.ensures.values;
     }
+
+pub eval_loop-requires-clause-small_counts : goal.eval_loop-requires-clause-small_counts
+eval_loop-requires-clause-small_counts c = grind (arith, common_steps)

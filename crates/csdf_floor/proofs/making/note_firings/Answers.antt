@@ -1,3 +1,4 @@
+use Rattle.std.proofs.lemmas.Grind.{common_steps}
 use Rattle.std.proofs.Common.{◌+◌, ◌-◌, take, drop, ◌++◌, [], ◌∷◌, List, ap, ◌∙◌, arith}
 use Rattle.csdf_core.specs.Moves.{Move}
 use Rattle.csdf_core.specs.Moves.{Read, Write, Finish}
@@ -27,3 +28,6 @@ loop-firing-preserved c = record {
       ∙ c.loop-firing.invariant.keeps ∙ c.requires.keeps) ∙ c.note_read.ensures.width ∙ c.note_begin.ensures.width ∙ c.loop-firing.invariant.width;
   whole = room_less c.args.each c.args.n c.loop-firing._firing c.loop-firing.at _ c.loop-firing-test.true c.loop-firing.invariant.whole;
 }
+
+pub overflow_add-at-in-loop-firing : goal.overflow_add-at-in-loop-firing
+overflow_add-at-in-loop-firing c = grind (arith, common_steps)

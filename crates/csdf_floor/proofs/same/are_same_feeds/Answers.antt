@@ -1,3 +1,4 @@
+use Rattle.std.proofs.lemmas.Grind.{common_steps}
 use Rattle.std.proofs.Common.{◌≡◌, ◌<◌, ◌∙◌, length, refl, sym, arith}
 use Rattle.std.specs.Prelude.{ℤ}
 use Rattle.std.specs.Global.{Vec}
@@ -19,3 +20,9 @@ loop-i-preserved c =
     same_more (λ (v : Vec ℤ). v.items) c.args.left.now c.args.right.now c.loop-i.i c.index-left-i.result c.index-right-i.result c.loop-i-test.true each
     c.index-left-i.is c.index-right-i.is c.loop-i.invariant (sym c.deref.ensures.value ∙ c.if-not-are_same_tokens.ensures.0 refl
     ∙ c.deref-in-loop-i.ensures.value)
+
+pub returns : goal.returns
+returns c = grind (arith, common_steps)
+
+pub returns-then-left-right : goal.returns-then-left-right
+returns-then-left-right c = grind (arith, common_steps)

@@ -1,4 +1,5 @@
-use Rattle.std.proofs.Common.{ℕ, List, subst, refl}
+use Rattle.std.proofs.lemmas.Grind.{common_steps}
+use Rattle.std.proofs.Common.{ℕ, List, subst, refl, arith}
 use Rattle.csdf_floor.specs.Outcome.{HasTotals, IsEndOf, IsOutcome}
 use Rattle.csdf_floor.specs.Work.{Work, feeds_in, program}
 use Rattle.csdf_floor.proofs.settling.settle.Goals as goal
@@ -49,3 +50,12 @@ returns-clause-totals c =
     let at : In_ok-into_outcome = (goal.at.returns-clause-totals c).In_ok-into_outcome in
     subst (λ (ns : List ℕ). HasTotals (program (asked at)) c.in_ok-into_outcome.field-0 ns) (end at).counted
     (subst (λ (w : Work). HasTotals (program w) c.in_ok-into_outcome.field-0 c.args.floor.core.now.counts) (end at).work c.in_ok-into_outcome.ensures.totals)
+
+pub returns-clause-honest : goal.returns-clause-honest
+returns-clause-honest c = grind (arith, common_steps)
+
+pub returns-clause-answer : goal.returns-clause-answer
+returns-clause-answer c = grind (arith, common_steps)
+
+pub into_outcome-requires : goal.into_outcome-requires
+into_outcome-requires c = grind (arith, common_steps)

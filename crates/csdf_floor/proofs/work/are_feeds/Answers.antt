@@ -22,3 +22,9 @@ returns-then-not-is_feed c = grind (arith, common_steps)
 
 pub returns-then-feeds-actors : goal.returns-then-feeds-actors
 returns-then-feeds-actors c = grind (arith, common_steps)
+
+pub is_feed-requires : goal.is_feed-requires
+is_feed-requires c = grind (arith, common_steps)
+
+pub overflow_cast-actor : goal.overflow_cast-actor
+overflow_cast-actor c = grind (arith, common_steps)

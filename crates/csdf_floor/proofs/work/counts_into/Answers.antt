@@ -1,4 +1,5 @@
-use Rattle.std.proofs.Common.{map, ap, ◌∙◌}
+use Rattle.std.proofs.lemmas.Grind.{common_steps}
+use Rattle.std.proofs.Common.{map, ap, ◌∙◌, arith}
 use Rattle.csdf_floor.specs.Inside.{production_at}
 use Rattle.csdf_floor.proofs.Loops.{all_done}
 use Rattle.csdf_floor.proofs.Works.{productions}
@@ -10,3 +11,6 @@ returns-clause-value c =
     c.loop-channel-test.false c.loop-channel.invariant.counts
     ∙ ap (map (production_at c.args.graph.now.channels c.args.firing)) c.outputs-channel-items.ensures.value
     ∙ productions c.args.actor c.args.firing c.args.graph.now.channels
+
+pub loop-channel-preserved : goal.loop-channel-preserved
+loop-channel-preserved c = grind (arith, common_steps)

@@ -1,4 +1,5 @@
-use Rattle.std.proofs.Common.{◌≡◌, get_or, ap, subst, sym, ◌∙◌, map}
+use Rattle.std.proofs.lemmas.Grind.{common_steps}
+use Rattle.std.proofs.Common.{◌≡◌, get_or, ap, subst, sym, ◌∙◌, map, arith}
 use Rattle.csdf_model.specs.declared.parts.Kernel.TheVariants.{Sink}
 use Rattle.csdf_model.specs.declared.parts.Actor.{Actor as ActorCode}
 use Rattle.csdf_model.specs.Graph.{Actor}
@@ -17,3 +18,6 @@ returns-clause-in_range c =
     kernel_at c.actors.result.now c.args.graph.now.actors c.args.actor c.index-actors-actor.result c.actors.ensures.value c.requires c.index-actors-actor.is in
     subst (λ (x : ActorCode). HasFilterInRange x.kernel) c.index-actors-actor.is
     (in_range c.args.graph.now c.args.actor c.index-actors-actor.result.kernel c.actors.ensures.well_formed c.requires is)
+
+pub bounds-actors-actor : goal.bounds-actors-actor
+bounds-actors-actor c = grind (arith, common_steps)

@@ -1,3 +1,4 @@
+use Rattle.std.proofs.lemmas.Grind.{common_steps}
 use Rattle.std.proofs.Common.{◌≡◌, ◌≤◌, ◌*◌, ◌+◌, ◌++◌, [], ◌∷◌, List, ℕ, get_or, drop, map, subst, sym, ◌∙◌, arith}
 use Rattle.std.specs.Prelude.{All}
 use Rattle.std.proofs.lemmas.List.Elements.{All-get_or, All-push}
@@ -25,3 +26,6 @@ loop-actor-preserved c =
           (All-push (λ n. n ≤ 16384000) c.loop-actor.limits.items _ c.loop-actor.invariant.few
           (All-get_or (λ q. c.args.periods * q ≤ 16384000) qs c.loop-actor.actor 0 c.loop-actor-test.true few));
     }
+
+pub returns-clause-value : goal.returns-clause-value
+returns-clause-value c = grind (arith, common_steps)

@@ -1,3 +1,4 @@
+use Rattle.std.proofs.lemmas.Grind.{common_steps}
 use Rattle.std.proofs.Common.{◌≡◌, ◌<◌, ◌≤◌, ◌*◌, length, ap, ◌∙◌, arith}
 use Rattle.std.proofs.lemmas.List.{length-map}
 use Rattle.csdf_model.specs.Graph.{channel_view}
@@ -30,3 +31,6 @@ returns c =
     ∙ seen_at channel_view (λ (g : graph.Channel). produced g c.args.firings) c.channels.result.now c.args.graph.now.channels c.channels.ensures.value
     c.args.channel c.index-channels-channel.result 0 lt c.index-channels-channel.is in
     is
+
+pub bounds-channels-channel : goal.bounds-channels-channel
+bounds-channels-channel c = grind (arith, common_steps)

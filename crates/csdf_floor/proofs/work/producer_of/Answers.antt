@@ -1,3 +1,4 @@
+use Rattle.std.proofs.lemmas.Grind.{common_steps}
 use Rattle.std.proofs.Common.{◌<◌, length, ap, sym, ◌∙◌, arith}
 use Rattle.std.proofs.lemmas.List.{length-map}
 use Rattle.csdf_model.specs.Graph.{Channel, channel_view}
@@ -12,3 +13,9 @@ returns c =
     ap (λ (x : ChannelCode). x.from) (sym c.index-channels-channel.is)
     ∙ seen_at channel_view (λ (g : Channel). g.from) c.channels.result.now c.args.graph.now.channels c.channels.ensures.value c.args.channel
     c.index-channels-channel.result 0 lt c.index-channels-channel.is
+
+pub bounds-channels-channel-2 : goal.bounds-channels-channel-2
+bounds-channels-channel-2 c = grind (arith, common_steps)
+
+pub bounds-channels-channel : goal.bounds-channels-channel
+bounds-channels-channel c = grind (arith, common_steps)

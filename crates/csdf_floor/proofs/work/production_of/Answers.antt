@@ -1,3 +1,4 @@
+use Rattle.std.proofs.lemmas.Grind.{common_steps}
 use Rattle.std.proofs.Common.{◌≡◌, ◌<◌, ◌≤◌, length, ap, subst, sym, ◌∙◌, arith}
 use Rattle.std.proofs.lemmas.List.{length-map}
 use Rattle.csdf_model.specs.Graph.{channel_view}
@@ -24,3 +25,6 @@ returns-clause-small c =
     c.args.channel c.index-channels-channel.result 0 lt c.index-channels-channel.is in
     subst (λ n. n ≤ 64) (sym is) (production_small c.args.graph.now.channels c.args.graph.now.actors c.args.firing c.args.channel
     c.channels.ensures.well_formed.fitting.channels c.requires)
+
+pub bounds-channels-channel : goal.bounds-channels-channel
+bounds-channels-channel c = grind (arith, common_steps)

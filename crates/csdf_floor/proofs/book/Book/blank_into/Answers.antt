@@ -7,3 +7,9 @@ returns-then-not-is_source-clause-value c = grind (arith, common_steps)
 
 pub returns-clause-value : goal.returns-clause-value
 returns-clause-value c = grind (arith, common_steps)
+
+pub returns-then-not-is_source-clause-few : goal.returns-then-not-is_source-clause-few
+returns-then-not-is_source-clause-few c = grind (arith, common_steps)
+
+pub is_source-requires : goal.is_source-requires
+is_source-requires c = grind (arith, common_steps)

@@ -1,3 +1,4 @@
+use Rattle.std.proofs.lemmas.Grind.{common_steps}
 use Rattle.std.proofs.Common.{rules, ◌<◌, length, ap, subst, arith}
 use Rattle.csdf_core.specs.Plan.{Plan}
 use Rattle.csdf_core.proofs.LayoutLemmas.{length-capacities}
@@ -29,3 +30,6 @@ is_over-requires c =
 
 pub returns-else-is_open-clause-due : goal.returns-else-is_open-clause-due
 returns-else-is_open-clause-due c = search rules
+
+pub returns-then-is_over-clause-other : goal.returns-then-is_over-clause-other
+returns-then-is_over-clause-other c = grind (arith, common_steps)

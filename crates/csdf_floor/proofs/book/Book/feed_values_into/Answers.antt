@@ -1,3 +1,4 @@
+use Rattle.std.proofs.lemmas.Grind.{common_steps}
 use Rattle.std.proofs.Common.{◌≡◌, ◌+◌, ◌-◌, ◌*◌, ℕ, List, [], length, get_or, take, drop, ap, ap₂, subst, ◌∙◌, arith, true}
 use Rattle.std.specs.Prelude.{ℤ}
 use Rattle.csdf_model.specs.declared.parts.Kernel.{Kernel}
@@ -73,3 +74,15 @@ returns c =
     ∙ ap (values_of (get_or w.kernels c.args.actor Sink) (output_counts w c.args.actor (k at)) (gift c.args.actor (k at) w.plan.channels) c.args.n) (feed at)
     ∙ made_source w c.args.actor (k at) c.args.n tokens (has at) (src at) in
     rw (← c.self.view_is) (on_ok c.eval_block.result _ _ (λ e. e ∙ whole) c.eval_block.ensures.values)
+
+pub kernel-kernel-requires : goal.kernel-kernel-requires
+kernel-kernel-requires c = grind (arith, common_steps)
+
+pub counts_into-requires : goal.counts_into-requires
+counts_into-requires c = grind (arith, common_steps)
+
+pub written-used-requires : goal.written-used-requires
+written-used-requires c = grind (arith, common_steps)
+
+pub eval_block-requires-clause-few_counts : goal.eval_block-requires-clause-few_counts
+eval_block-requires-clause-few_counts c = grind (arith, common_steps)

@@ -7,3 +7,15 @@ returns-then-not-is_source-clause-value c = grind (arith, common_steps)
 
 pub returns-else-not-is_source-clause-value : goal.returns-else-not-is_source-clause-value
 returns-else-not-is_source-clause-value c = grind (arith, common_steps)
+
+pub refill-requires : goal.refill-requires
+refill-requires c = grind (arith, common_steps)
+
+pub returns-then-not-is_source-clause-count : goal.returns-then-not-is_source-clause-count
+returns-then-not-is_source-clause-count c = grind (arith, common_steps)
+
+pub index-requires : goal.index-requires
+index-requires c = grind (arith, common_steps)
+
+pub is_source-requires : goal.is_source-requires
+is_source-requires c = grind (arith, common_steps)

@@ -1,3 +1,4 @@
+use Rattle.std.proofs.lemmas.Grind.{common_steps}
 use Rattle.std.proofs.Common.{◌≡◌, ◌<◌, ◌*◌, ◌++◌, ℕ, List, [], length, get_or, set, cond, ap, sym, subst, ◌∙◌, arith, Bool}
 use Rattle.std.specs.Prelude.{ℤ}
 use Rattle.std.proofs.lemmas.List.{length-map}
@@ -104,3 +105,24 @@ returns-clause-made c =
     c.note_firings.new.journal c.self.inside.sinks c.append_where.new.self (feeds_in c.self.inside.reads.items)
     c.args.actor c.args.n c.args.each (tokens at) c.args.tokens.now c.self.invariant.kept.plan (has at) (each at) (made at) c.note_firings.ensures.moves
     c.note_firings.ensures.keeps)
+
+pub append_where-requires-clause-room : goal.append_where-requires-clause-room
+append_where-requires-clause-room c = grind (arith, common_steps)
+
+pub is_sink-is_sink-requires : goal.is_sink-is_sink-requires
+is_sink-is_sink-requires c = grind (arith, common_steps)
+
+pub index-taken-requires : goal.index-taken-requires
+index-taken-requires c = grind (arith, common_steps)
+
+pub fire-requires-clause-can : goal.fire-requires-clause-can
+fire-requires-clause-can c = grind (arith, common_steps)
+
+pub note_firings-requires-clause-width : goal.note_firings-requires-clause-width
+note_firings-requires-clause-width c = grind (arith, common_steps)
+
+pub note_firings-requires-clause-room : goal.note_firings-requires-clause-room
+note_firings-requires-clause-room c = grind (arith, common_steps)
+
+pub returns-clause-room : goal.returns-clause-room
+returns-clause-room c = grind (arith, common_steps)

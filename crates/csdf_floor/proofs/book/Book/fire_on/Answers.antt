@@ -1,3 +1,4 @@
+use Rattle.std.proofs.lemmas.Grind.{common_steps}
 use Rattle.std.proofs.Common.{◌≡◌, ◌*◌, ◌++◌, ℕ, List, [], length, get_or, set, cond, ap, sym, subst, ◌∙◌, arith, Bool, false}
 use Rattle.std.specs.Prelude.{ℤ}
 use Rattle.csdf_core.specs.Blocks.{gifts_of}
@@ -90,3 +91,9 @@ returns-clause-made c =
     c.note_firings.new.journal c.self.inside.sinks c.self.inside.sinks (feeds_in c.self.inside.reads.items)
     c.args.actor c.args.n c.args.each (own at).tokens c.args.tokens.now c.self.invariant.kept.plan (has at) (each at) (made at) c.note_firings.ensures.moves
     c.note_firings.ensures.keeps)
+
+pub go_on-requires-clause-can : goal.go_on-requires-clause-can
+go_on-requires-clause-can c = grind (arith, common_steps)
+
+pub go_on-requires-clause-feedback : goal.go_on-requires-clause-feedback
+go_on-requires-clause-feedback c = grind (arith, common_steps)

@@ -1,3 +1,4 @@
+use Rattle.std.proofs.lemmas.Grind.{common_steps}
 use Rattle.std.proofs.Common.{ℕ, ap, subst, ◌∙◌, arith}
 use Rattle.std.proofs.lemmas.Nat.{mul-le}
 use Rattle.csdf_core.specs.Feedback.{IsFeedback}
@@ -19,3 +20,27 @@ overflow_add-long-2 c =
     let n = c.ranges.n.fits in
     let most = mul-le c.args.n c.args.feedback.each 4294967296 8192 (omega (arith, n)) (omega (arith, needed, few)) in
     omega (arith, most, needed, few)
+
+pub own_values_into-requires-clause-can : goal.own_values_into-requires-clause-can
+own_values_into-requires-clause-can c = grind (arith, common_steps)
+
+pub fire_on-requires-clause-can : goal.fire_on-requires-clause-can
+fire_on-requires-clause-can c = grind (arith, common_steps)
+
+pub fire_on-requires-clause-feedback : goal.fire_on-requires-clause-feedback
+fire_on-requires-clause-feedback c = grind (arith, common_steps)
+
+pub fire_on-requires-clause-values : goal.fire_on-requires-clause-values
+fire_on-requires-clause-values c = grind (arith, common_steps)
+
+pub own_values_into-requires-clause-feedback : goal.own_values_into-requires-clause-feedback
+own_values_into-requires-clause-feedback c = grind (arith, common_steps)
+
+pub own_values_into-requires-clause-buffer : goal.own_values_into-requires-clause-buffer
+own_values_into-requires-clause-buffer c = grind (arith, common_steps)
+
+pub fire_on-requires-clause-width : goal.fire_on-requires-clause-width
+fire_on-requires-clause-width c = grind (arith, common_steps)
+
+pub fire_on-requires-clause-each : goal.fire_on-requires-clause-each
+fire_on-requires-clause-each c = grind (arith, common_steps)

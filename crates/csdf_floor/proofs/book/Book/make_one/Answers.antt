@@ -1,3 +1,4 @@
+use Rattle.std.proofs.lemmas.Grind.{common_steps}
 use Rattle.std.proofs.Common.{◌≡◌, ℕ, List, [], length, get_or, ap, sym, subst, ◌∙◌, arith, None}
 use Rattle.csdf_core.specs.Moves.{Begin}
 use Rattle.csdf_core.specs.Plan.{Plan}
@@ -45,3 +46,12 @@ returns-clause-made c =
     c.as_slice.ensures ∙ c.value_into.ensures ∙ ap (value (program g.work) a (count g.core.now a)) c.take.ensures.taken.tokens in
     subst (λ (h : FloorView). HasMade h c.give.new.self.shown a 1 (made_moves h a 1)) shown
     (made_one c.prepare_one.new.self c.take.new.self c.give.new.self a c.as_slice.result.now kept free c.take.ensures.taken c.give.ensures is)
+
+pub value_into-requires-clause-small_counts : goal.value_into-requires-clause-small_counts
+value_into-requires-clause-small_counts c = grind (arith, common_steps)
+
+pub value_into-requires-clause-room : goal.value_into-requires-clause-room
+value_into-requires-clause-room c = grind (arith, common_steps)
+
+pub take-requires-clause-room : goal.take-requires-clause-room
+take-requires-clause-room c = grind (arith, common_steps)

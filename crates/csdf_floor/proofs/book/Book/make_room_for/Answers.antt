@@ -25,3 +25,6 @@ returns-clause-room c = grind (arith, common_steps)
 
 pub returns-clause-greater : goal.returns-clause-greater
 returns-clause-greater c = grind (arith, common_steps)
+
+pub output_count-closes-requires : goal.output_count-closes-requires
+output_count-closes-requires c = grind (arith, common_steps)

@@ -1,3 +1,4 @@
+use Rattle.std.proofs.lemmas.Grind.{common_steps}
 use Rattle.std.proofs.Common.{◌≡◌, ◌≤◌, ◌+◌, ℕ, subst, arith, length}
 use Rattle.csdf_core.specs.Plan.{Plan}
 use Rattle.csdf_core.specs.Ports.{outputs_at}
@@ -32,3 +33,9 @@ returns-then-more-eq0-clause-made c =
     subst (λ (n : ℕ). HasMade f c.make_more-more.new.self.shown a n (made_moves f a n)) e
     (made_more f mid c.make_more-more.new.self.shown a c.loop-firing.made c.make_more-more.result book.kept c.make_more-more.ensures.before
     c.requires.exists c.loop-firing.invariant.made c.make_more-more.ensures.made)
+
+pub make_more-more-requires-clause-exists : goal.make_more-more-requires-clause-exists
+make_more-more-requires-clause-exists c = grind (arith, common_steps)
+
+pub returns-then-more-eq0-clause-room : goal.returns-then-more-eq0-clause-room
+returns-then-more-eq0-clause-room c = grind (arith, common_steps)

@@ -1,3 +1,4 @@
+use Rattle.std.proofs.lemmas.Grind.{common_steps}
 use Rattle.std.proofs.Common.{◌≡◌, ◌<◌, ◌-◌, ◌==◌, List, ℕ, length, get_or, ap, sym, subst, ◌∙◌, arith}
 use Rattle.std.proofs.lemmas.List.Elements.{All-get_or}
 use Rattle.csdf_core.specs.Plan.{Channel, Plan}
@@ -44,3 +45,6 @@ returns-clause-producer c =
     rw (← c.self.view_is) (subst (λ (ns : List ℕ). producer plan (get_or ns c.args.place 0) ≡ c.args.actor) (sym same)
     (ap (producer plan) (let e : get_or (outputs_at plan.channels c.args.actor) c.args.place 0 ≡ get_or (outputs_at plan.channels c.args.actor) c.args.place
     0 - 0 = omega arith in e) ∙ whole))
+
+pub outputs-requires : goal.outputs-requires
+outputs-requires c = grind (arith, common_steps)

@@ -1,3 +1,4 @@
+use Rattle.std.proofs.lemmas.Grind.{common_steps}
 use Rattle.std.proofs.Common.{◌≡◌, ◌+◌, ◌≤◌, ℕ, List, ap, ap₂, subst, ◌∙◌, arith}
 use Rattle.std.specs.Prelude.{sum}
 use Rattle.csdf_model.specs.declared.parts.Kernel.{Kernel}
@@ -54,3 +55,39 @@ returns-clause-values c =
     (e.values
     ∙ ap₂ (λ (x : Kernel) (ns : List ℕ). loop_values x ns c.args.feedback.is_first c.args.feedback.each c.args.feedback.before c.args.n e.state e.others)
     c.kernel-kernel.ensures.value (counts at))) c.own_values.ensures.values)
+
+pub counts_into-requires : goal.counts_into-requires
+counts_into-requires c = grind (arith, common_steps)
+
+pub kernel-kernel-requires : goal.kernel-kernel-requires
+kernel-kernel-requires c = grind (arith, common_steps)
+
+pub index_mut-buffer-requires : goal.index_mut-buffer-requires
+index_mut-buffer-requires c = grind (arith, common_steps)
+
+pub own_values-requires-clause-feedback : goal.own_values-requires-clause-feedback
+own_values-requires-clause-feedback c = grind (arith, common_steps)
+
+pub own_values-requires-clause-can : goal.own_values-requires-clause-can
+own_values-requires-clause-can c = grind (arith, common_steps)
+
+pub own_values-requires-clause-filter_in_range : goal.own_values-requires-clause-filter_in_range
+own_values-requires-clause-filter_in_range c = grind (arith, common_steps)
+
+pub own_values-requires-clause-buffer : goal.own_values-requires-clause-buffer
+own_values-requires-clause-buffer c = grind (arith, common_steps)
+
+pub returns-clause-shown : goal.returns-clause-shown
+returns-clause-shown c = grind (arith, common_steps)
+
+pub returns-clause-rooms : goal.returns-clause-rooms
+returns-clause-rooms c = grind (arith, common_steps)
+
+pub returns-clause-room : goal.returns-clause-room
+returns-clause-room c = grind (arith, common_steps)
+
+pub returns-clause-width : goal.returns-clause-width
+returns-clause-width c = grind (arith, common_steps)
+
+pub own_values-requires-clause-few_counts : goal.own_values-requires-clause-few_counts
+own_values-requires-clause-few_counts c = grind (arith, common_steps)

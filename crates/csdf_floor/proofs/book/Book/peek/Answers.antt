@@ -1,3 +1,4 @@
+use Rattle.std.proofs.lemmas.Grind.{common_steps}
 use Rattle.std.proofs.Common.{◌≡◌, ◌<◌, List, [], length, set, get_or, ap, sym, subst, ◌∙◌, arith}
 use Rattle.std.specs.Prelude.{ℤ}
 use Rattle.std.specs.Vec.{with_items}
@@ -40,3 +41,15 @@ returns-clause-read c =
     (with_items c.index_mut-buffer.result.now c.peek.new.into) low)) in
     rw (← c.self.view_is) (subst (λ (ts : List ℤ). AreReadEach c.self.inside.core.plan c.self.inside.core.now c.args.actor
     (count c.self.inside.core.now c.args.actor) c.args.n ts) held c.peek.ensures.each)
+
+pub peek-requires-clause-all : goal.peek-requires-clause-all
+peek-requires-clause-all c = grind (arith, common_steps)
+
+pub peek-requires-clause-can : goal.peek-requires-clause-can
+peek-requires-clause-can c = grind (arith, common_steps)
+
+pub index_mut-buffer-requires : goal.index_mut-buffer-requires
+index_mut-buffer-requires c = grind (arith, common_steps)
+
+pub returns-clause-shown : goal.returns-clause-shown
+returns-clause-shown c = grind (arith, common_steps)

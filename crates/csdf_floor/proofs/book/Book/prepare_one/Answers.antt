@@ -22,3 +22,9 @@ returns-clause-counts c = grind (arith, common_steps)
 
 pub returns-clause-outputs : goal.returns-clause-outputs
 returns-clause-outputs c = grind (arith, common_steps)
+
+pub returns-clause-few_counts : goal.returns-clause-few_counts
+returns-clause-few_counts c = grind (arith, common_steps)
+
+pub returns-clause-small_counts : goal.returns-clause-small_counts
+returns-clause-small_counts c = grind (arith, common_steps)

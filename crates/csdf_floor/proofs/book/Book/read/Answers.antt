@@ -1,3 +1,4 @@
+use Rattle.std.proofs.lemmas.Grind.{common_steps}
 use Rattle.std.proofs.Common.{◌≡◌, ◌<◌, ◌++◌, [], length, get_or, set, cond, ap, ◌∙◌, arith, Bool}
 use Rattle.std.proofs.lemmas.List.{length-map}
 use Rattle.csdf_core.specs.Moves.{Read}
@@ -44,3 +45,21 @@ returns c =
           (rw (← c.self.view_is) at c.requires.accepted) c.self.invariant c.read.ensures.step c.note_read.ensures.moves
           (took (goal.at.returns c).After-append_where);
     }
+
+pub index_mut-buffer-requires : goal.index_mut-buffer-requires
+index_mut-buffer-requires c = grind (arith, common_steps)
+
+pub read-requires-clause-accepted : goal.read-requires-clause-accepted
+read-requires-clause-accepted c = grind (arith, common_steps)
+
+pub read-requires-clause-whole : goal.read-requires-clause-whole
+read-requires-clause-whole c = grind (arith, common_steps)
+
+pub is_sink-is_sink-requires : goal.is_sink-is_sink-requires
+is_sink-is_sink-requires c = grind (arith, common_steps)
+
+pub append_where-requires-clause-room : goal.append_where-requires-clause-room
+append_where-requires-clause-room c = grind (arith, common_steps)
+
+pub note_read-requires : goal.note_read-requires
+note_read-requires c = grind (arith, common_steps)

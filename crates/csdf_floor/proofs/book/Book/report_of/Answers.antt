@@ -1,3 +1,4 @@
+use Rattle.std.proofs.lemmas.Grind.{common_steps}
 use Rattle.std.proofs.Common.{◌<◌, length, ap, subst, ◌∙◌, arith}
 use Rattle.csdf_core.specs.Plan.{Plan}
 use Rattle.csdf_core.specs.Step.{count}
@@ -58,3 +59,12 @@ returns c =
     (c.consumed.ensures ∙ ap (λ n. taken_out_of (program c.self.inside.work).plan n c.args.channel) (c.fired-taken.ensures.value
     ∙ ap (count c.self.inside.core.now) c.consumer.ensures))
     c.len.ensures c.peak.ensures c.capacity.ensures c.is_open.ensures)
+
+pub is_open-requires : goal.is_open-requires
+is_open-requires c = grind (arith, common_steps)
+
+pub peak-requires : goal.peak-requires
+peak-requires c = grind (arith, common_steps)
+
+pub len-requires : goal.len-requires
+len-requires c = grind (arith, common_steps)

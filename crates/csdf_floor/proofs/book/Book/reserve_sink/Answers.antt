@@ -17,3 +17,12 @@ returns-clause-room c = grind (arith, common_steps)
 
 pub returns-clause-sink : goal.returns-clause-sink
 returns-clause-sink c = grind (arith, common_steps)
+
+pub is_sink-requires : goal.is_sink-requires
+is_sink-requires c = grind (arith, common_steps)
+
+pub invariant_of-self : goal.invariant_of-self
+invariant_of-self c = grind (arith, common_steps)
+
+pub returns-then-not-is_sink-clause-sink : goal.returns-then-not-is_sink-clause-sink
+returns-then-not-is_sink-clause-sink c = grind (arith, common_steps)

@@ -1,3 +1,4 @@
+use Rattle.std.proofs.lemmas.Grind.{common_steps}
 use Rattle.std.proofs.Common.{false, true, ◌≡◌, ◌≤◌, ℕ, List, [], length, get_or, ap, ap₂, ◌∙◌, arith}
 use Rattle.std.specs.Prelude.{ℤ, sum}
 use Rattle.csdf_model.specs.declared.parts.Kernel.{Kernel}
@@ -36,3 +37,6 @@ returns c =
     c.kernel-kernel.ensures.value
     ∙ ap₂ (λ (ns : List ℕ) (ys : List ℤ). values_of (get_or w.kernels c.args.actor Sink) ns (length ys) 1 ys) (c.as_slice.ensures ∙ counts) xs
     ∙ one_value w c.args.actor k read)
+
+pub kernel-kernel-requires : goal.kernel-kernel-requires
+kernel-kernel-requires c = grind (arith, common_steps)

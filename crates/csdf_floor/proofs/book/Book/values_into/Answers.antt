@@ -1,3 +1,4 @@
+use Rattle.std.proofs.lemmas.Grind.{common_steps}
 use Rattle.std.proofs.Common.{◌≡◌, ◌<◌, ◌*◌, ℕ, List, [], length, get_or, ap, ap₂, subst, ◌∙◌, arith, false}
 use Rattle.std.specs.Prelude.{ℤ}
 use Rattle.std.proofs.lemmas.List.{length-map}
@@ -61,3 +62,15 @@ returns c =
     (need c.args.actor k (program c.self.inside.work).plan.channels) c.args.n) (held at)
     ∙ made_is (program c.self.inside.work) c.args.actor k c.args.n tokens phases other in
     rw (← c.self.view_is) (on_ok c.eval_block.result _ _ (λ e. e ∙ whole) c.eval_block.ensures.values)
+
+pub kernel-kernel-requires : goal.kernel-kernel-requires
+kernel-kernel-requires c = grind (arith, common_steps)
+
+pub index-buffer-requires : goal.index-buffer-requires
+index-buffer-requires c = grind (arith, common_steps)
+
+pub counts_into-requires : goal.counts_into-requires
+counts_into-requires c = grind (arith, common_steps)
+
+pub eval_block-requires-clause-few_counts : goal.eval_block-requires-clause-few_counts
+eval_block-requires-clause-few_counts c = grind (arith, common_steps)

@@ -1,4 +1,5 @@
-use Rattle.std.proofs.Common.{◌∙◌, sym, subst, refl}
+use Rattle.std.proofs.lemmas.Grind.{common_steps}
+use Rattle.std.proofs.Common.{◌∙◌, sym, subst, refl, arith}
 use Rattle.csdf_floor.specs.Floor.{FloorView, IsBetween, IsUnderWay, Task, task_of}
 use Rattle.csdf_floor.proofs.Floors.{between_delivered, gift_just, has_delivered}
 use Rattle.csdf_floor.proofs.floor.Floor.deliver_value.Goals as goal
@@ -27,3 +28,15 @@ pub returns-clause-gone : goal.returns-clause-gone
 returns-clause-gone c =
     has_delivered c.args.self.now c.make_room_to_give.new.self c.give.new.self c.close_outputs.new.self (task_of c.args.job.now) c.args.tokens.now
     (c.in_ok-make_room_to_give.ensures.shown ∙ c.self.view_is) c.requires c.give.ensures c.close_outputs.ensures.closed c.close_outputs.ensures.before
+
+pub invariant_of-self : goal.invariant_of-self
+invariant_of-self c = grind (arith, common_steps)
+
+pub close_outputs-requires-clause-exists : goal.close_outputs-requires-clause-exists
+close_outputs-requires-clause-exists c = grind (arith, common_steps)
+
+pub give-requires-clause-exists : goal.give-requires-clause-exists
+give-requires-clause-exists c = grind (arith, common_steps)
+
+pub close_outputs-requires-clause-room : goal.close_outputs-requires-clause-room
+close_outputs-requires-clause-room c = grind (arith, common_steps)

@@ -1,4 +1,5 @@
-use Rattle.std.proofs.Common.{◌≡◌, None, sym, subst, ◌∙◌}
+use Rattle.std.proofs.lemmas.Grind.{common_steps}
+use Rattle.std.proofs.Common.{◌≡◌, None, sym, subst, ◌∙◌, arith}
 use Rattle.csdf_core.proofs.Booked.{can_begin}
 use Rattle.csdf_floor.specs.Floor.{FloorView, start_refusal}
 use Rattle.csdf_floor.proofs.Floors.{MayStart, may_start}
@@ -14,3 +15,24 @@ invariant_of-self-2 c =
     between_made c.self.inside.book.shown c.make_many.new.self.shown c.close_outputs.new.self.shown c.args.actor c.in_ok-n.n _
     c.self.invariant can.idle (not_over c.self.inside.book.shown.core.plan c.self.inside.book.shown.core.now c.args.actor may.accepted)
     c.in_ok-n.ensures.made c.close_outputs.ensures.closed
+
+pub returns-clause-gone : goal.returns-clause-gone
+returns-clause-gone c = grind (arith, common_steps)
+
+pub invariant_of-self : goal.invariant_of-self
+invariant_of-self c = grind (arith, common_steps)
+
+pub close_outputs-requires-clause-exists : goal.close_outputs-requires-clause-exists
+close_outputs-requires-clause-exists c = grind (arith, common_steps)
+
+pub returns-clause-none : goal.returns-clause-none
+returns-clause-none c = grind (arith, common_steps)
+
+pub close_outputs-requires-clause-room : goal.close_outputs-requires-clause-room
+close_outputs-requires-clause-room c = grind (arith, common_steps)
+
+pub make_many-requires-clause-exists : goal.make_many-requires-clause-exists
+make_many-requires-clause-exists c = grind (arith, common_steps)
+
+pub returns-clause-answer : goal.returns-clause-answer
+returns-clause-answer c = grind (arith, common_steps)

@@ -1,3 +1,4 @@
+use Rattle.std.proofs.lemmas.Grind.{common_steps}
 use Rattle.std.proofs.Common.{rules, ◌≡◌, None, sym, subst, ◌∙◌, arith}
 use Rattle.csdf_floor.specs.Floor.{FloorView, IsBetween, start_refusal}
 use Rattle.csdf_floor.proofs.Floors.{MayStart, may_start, between_taken}
@@ -36,3 +37,18 @@ returns-clause-job c = search rules
 
 pub returns-in-Some-clause-job_stays : goal.returns-in-Some-clause-job_stays
 returns-in-Some-clause-job_stays c = search rules
+
+pub invariant_of-self : goal.invariant_of-self
+invariant_of-self c = grind (arith, common_steps)
+
+pub make_room-requires-clause-exists : goal.make_room-requires-clause-exists
+make_room-requires-clause-exists c = grind (arith, common_steps)
+
+pub returns-clause-job_stays : goal.returns-clause-job_stays
+returns-clause-job_stays c = grind (arith, common_steps)
+
+pub blank_into-requires : goal.blank_into-requires
+blank_into-requires c = grind (arith, common_steps)
+
+pub returns-clause-answer : goal.returns-clause-answer
+returns-clause-answer c = grind (arith, common_steps)

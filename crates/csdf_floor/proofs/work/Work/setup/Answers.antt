@@ -13,3 +13,9 @@ returns-clause-supply c = grind (arith, common_steps)
 
 pub returns-clause-few : goal.returns-clause-few
 returns-clause-few c = c.in_ok-limits.ensures.few
+
+pub returns-clause-work : goal.returns-clause-work
+returns-clause-work c = grind (arith, common_steps)
+
+pub supplies_of-requires : goal.supplies_of-requires
+supplies_of-requires c = grind (arith, common_steps)
