@@ -10,3 +10,9 @@ returns-clause-masks c = grind (arith, common_steps)
 
 pub returns-clause-count : goal.returns-clause-count
 returns-clause-count c = grind (arith, common_steps)
+
+pub consumers_of-requires : goal.consumers_of-requires
+consumers_of-requires c = grind (arith, common_steps)
+
+pub overflow_cast-actor-end : goal.overflow_cast-actor-end
+overflow_cast-actor-end c = grind (arith, common_steps)

@@ -10,3 +10,6 @@ returns-in_err-push_feed-2-clause-refused c = grind (arith, common_steps)
 
 pub returns-clause-feeds : goal.returns-clause-feeds
 returns-clause-feeds c = grind (arith, common_steps)
+
+pub loop-number-preserved : goal.loop-number-preserved
+loop-number-preserved c = grind (arith, common_steps)

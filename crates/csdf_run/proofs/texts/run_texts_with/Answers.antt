@@ -1,4 +1,5 @@
-use Rattle.std.proofs.Common.{List, ap, sym, subst, ◌∙◌}
+use Rattle.std.proofs.lemmas.Grind.{common_steps}
+use Rattle.std.proofs.Common.{List, ap, sym, subst, ◌∙◌, arith}
 use Rattle.std.specs.Prelude.{ℤ}
 use Rattle.std.specs.Global.{Vec}
 use Rattle.csdf_floor.specs.Work.{AreFeeds, Work, feeds_in}
@@ -46,3 +47,6 @@ pub returns-in-Ok-clause-rooms : goal.returns-in-Ok-clause-rooms
 returns-in-Ok-clause-rooms g c =
     same_in_any_room c.args.options.room c.args.graph.now (texts_in c.args.feeds.now) c.args.options.how_long c.args.options.firings c.in-Ok.texts c.requires.goes_on
     (returns-in-Ok-clause-run g c)
+
+pub returns-in-Ok-clause-kept : goal.returns-in-Ok-clause-kept
+returns-in-Ok-clause-kept g c = grind (arith, common_steps)

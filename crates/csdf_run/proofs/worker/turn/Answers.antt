@@ -1,4 +1,5 @@
-use Rattle.std.proofs.Common.{rules}
+use Rattle.std.proofs.lemmas.Grind.{common_steps}
+use Rattle.std.proofs.Common.{rules, arith}
 use Rattle.csdf_run.proofs.worker.turn.Goals as goal
 
 pub settle_start-answer-requires-clause-holds : goal.settle_start-answer-requires-clause-holds
@@ -9,3 +10,9 @@ returns-then-wakes-clause-made g c = search rules
 
 pub returns-else-wakes-clause-made : goal.returns-else-wakes-clause-made
 returns-else-wakes-clause-made g c = search rules
+
+pub finish-requires-clause-holds : goal.finish-requires-clause-holds
+finish-requires-clause-holds g c = grind (arith, common_steps)
+
+pub finish-requires-clause-actor : goal.finish-requires-clause-actor
+finish-requires-clause-actor g c = grind (arith, common_steps)

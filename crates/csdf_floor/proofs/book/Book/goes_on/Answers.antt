@@ -2,9 +2,6 @@ use Rattle.std.proofs.Common.{arith}
 use Rattle.std.proofs.lemmas.Grind.{common_steps}
 use Rattle.csdf_floor.proofs.book.Book.goes_on.Goals as goal
 
-pub is_sink-requires : goal.is_sink-requires
-is_sink-requires c = grind (arith, common_steps)
-
 pub returns-then-keeps-clause-most : goal.returns-then-keeps-clause-most
 returns-then-keeps-clause-most c = grind (arith, common_steps)
 

@@ -1,5 +1,3 @@
-use Rattle.std.proofs.Common.{arith}
-use Rattle.std.proofs.lemmas.Grind.{common_steps}
 use Rattle.csdf_floor.specs.Floor.{start_refusal}
 use Rattle.csdf_floor.proofs.Floors.{handed_on}
 use Rattle.csdf_floor.proofs.floor.Floor.start.Goals as goal

@@ -1,3 +1,5 @@
+use Rattle.std.proofs.Common.{arith}
+use Rattle.std.proofs.lemmas.Grind.{common_steps}
 use Rattle.csdf_run.proofs.request.Request.settle.Goals as goal
 
 pub returns-clause-outcome : goal.returns-clause-outcome
@@ -14,3 +16,6 @@ returns-clause-outcome c = rw (← c.self.view_is) (record {
   rooms = c.in_ok-outcome.ensures.rooms;
   complete = c.in_ok-outcome.ensures.complete;
 })
+
+pub settle-requires-clause-totals : goal.settle-requires-clause-totals
+settle-requires-clause-totals c = grind (arith, common_steps)

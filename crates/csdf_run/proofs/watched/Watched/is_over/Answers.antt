@@ -10,3 +10,9 @@ returns-clause-looked g c = grind (arith, common_steps)
 
 pub returns-then-is_quiet-clause-over : goal.returns-then-is_quiet-clause-over
 returns-then-is_quiet-clause-over g c = grind (arith, common_steps)
+
+pub returns-then-is_quiet-clause-looked : goal.returns-then-is_quiet-clause-looked
+returns-then-is_quiet-clause-looked g c = grind (arith, common_steps)
+
+pub returns-then-self-ne0-clause-looked : goal.returns-then-self-ne0-clause-looked
+returns-then-self-ne0-clause-looked g c = grind (arith, common_steps)
