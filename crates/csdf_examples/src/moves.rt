@@ -1,13 +1,12 @@
 //! The moves of firings, made one by one on a core, and its reply to each.
-#![tactic(auto)]
 
 ghost use Rattle.std.specs.Prelude.{IfOk};
 ghost use Rattle.csdf_core.specs.Shows.{Shows};
 ghost use Rattle.csdf_core.specs.State.{opening};
 
-use csdf_analysis::{Accepted, accept};
+use crate::analysis::accepted_in;
+use csdf_analysis::Accepted;
 use csdf_core::{Core, Setup};
-use csdf_graph::read_graph;
 use csdf_model::{Actor, Kernel};
 use std::alloc::{AllocError, Global};
 use std::io;
@@ -23,12 +22,6 @@ channel = [{ name = "x", from = "src", to = "snk", produce = [2, 1], consume = [
 const SRC: u32 = 0;
 
 const SNK: u32 = 1;
-
-/// The graph of the text, which is accepted.
-fn accepted_in(alloc: Global, text: &str) -> anyhow::Result<Accepted> {
-    let graph = read_graph(alloc, text.as_bytes())?;
-    Ok(accept(alloc, graph).map_err(|(_, fault)| fault)?)
-}
 
 /// How many tokens there are for the actor: four for a source.
 fn supply_of(actor: &Actor) -> u32 {
@@ -69,13 +62,19 @@ fn fire(
     println!(rt; "finish {actor}: {:?}", core.finish(actor))
 }
 
-fn main(rt: HostRuntime) -> anyhow::Result<()> {
-    let accepted = accepted_in(rt.alloc(), PAIR)?;
-    let mut core = core_of(rt.alloc(), &accepted)?;
+/// Makes the moves of three firings, and two moves that are refused.
+fn play(rt: &impl Print, alloc: Global, core: &mut Core) -> io::Result<()> {
     println!(rt; "begin {SNK}: {:?}", core.begin(SNK))?;
-    fire(&rt, rt.alloc(), &mut core, SRC, &[5, 6])?;
-    fire(&rt, rt.alloc(), &mut core, SRC, &[7])?;
-    fire(&rt, rt.alloc(), &mut core, SNK, &[])?;
-    println!(rt; "write {SRC}: {:?}", core.write(SRC, &[8, 9]))?;
+    fire(rt, alloc, core, SRC, &[5, 6])?;
+    fire(rt, alloc, core, SRC, &[7])?;
+    fire(rt, alloc, core, SNK, &[])?;
+    println!(rt; "write {SRC}: {:?}", core.write(SRC, &[8, 9]))
+}
+
+/// Shows the replies to some moves.
+pub fn show(rt: &impl Print, alloc: Global) -> anyhow::Result<()> {
+    let accepted = accepted_in(alloc, PAIR)?;
+    let mut core = core_of(alloc, &accepted)?;
+    play(rt, alloc, &mut core)?;
     Ok(())
 }

@@ -1,21 +1,21 @@
 //! A floor driven by hand: one firing by its start, its evaluation and its delivery, the others by `make`,
 //! and what came of it.
-#![tactic(auto)]
 
 ghost use Rattle.std.specs.Prelude.{None, IfOk};
 ghost use Rattle.csdf_floor.specs.Journal.{program_for};
 ghost use Rattle.csdf_floor.specs.Outcome.{IsAsSequentialRun};
 ghost use Rattle.csdf_floor.specs.Work.{feeds_in};
 
+use crate::analysis::accepted_in;
 use anyhow::{anyhow, bail, ensure};
-use csdf_analysis::{Accepted, accept};
+use csdf_analysis::Accepted;
 use csdf_floor::{Floor, Outcome, StartFault, are_feeds, may_run, settle};
-use csdf_graph::read_graph;
 use csdf_kernel::{Counts, Outputs, eval};
 use std::alloc::{AllocError, Global};
+use std::io;
 
 /// A source, an actor that adds up 3 tokens, and a sink.
-const SUMS: &str = r#"actor = [
+pub const SUMS: &str = r#"actor = [
   { name = "src", kernel = "source" },
   { name = "add", kernel = "sum" },
   { name = "snk", kernel = "sink" },
@@ -26,14 +26,8 @@ channel = [
 ]
 "#;
 
-/// The graph of the text, which is accepted.
-fn accepted_in(alloc: Global, text: &str) -> anyhow::Result<Accepted> {
-    let graph = read_graph(alloc, text.as_bytes())?;
-    Ok(accept(alloc, graph).map_err(|(_, fault)| fault)?)
-}
-
 /// The tokens for the source, and none for the two other actors.
-fn feeds_of(alloc: Global, tokens: &[i32]) -> Result<Vec<Vec<i32>>, AllocError> {
+pub fn feeds_of(alloc: Global, tokens: &[i32]) -> Result<Vec<Vec<i32>>, AllocError> {
     let feed = Vec::from_slice(alloc, tokens)?;
     Ok(vec![in alloc; feed, Vec::new(alloc), Vec::new(alloc)]?)
 }
@@ -127,13 +121,19 @@ fn outcome_of(
     }
 }
 
-fn main(rt: HostRuntime) -> anyhow::Result<()> {
-    let accepted = accepted_in(rt.alloc(), SUMS)?;
-    let feeds = feeds_of(rt.alloc(), &[1, 2, 3, 4, 5, 6])?;
-    let outcome = outcome_of(&rt, rt.alloc(), &accepted, &feeds, 2)?;
+/// Prints what each actor took, of which a sink keeps it, and how the run ended.
+pub fn print_outcome(rt: &impl Print, accepted: &Accepted, outcome: &Outcome) -> io::Result<()> {
     for (actor, sink) in accepted.graph().actors().iter().zip(&outcome.sinks) {
         println!(rt; "{} took {sink:?}", actor.name)?;
     }
-    println!(rt; "ending {:?}", outcome.ending)?;
+    println!(rt; "ending {:?}", outcome.ending)
+}
+
+/// Shows the firings of two periods, and what came of them.
+pub fn show(rt: &impl Print, alloc: Global) -> anyhow::Result<()> {
+    let accepted = accepted_in(alloc, SUMS)?;
+    let feeds = feeds_of(alloc, &[1, 2, 3, 4, 5, 6])?;
+    let outcome = outcome_of(rt, alloc, &accepted, &feeds, 2)?;
+    print_outcome(rt, &accepted, &outcome)?;
     Ok(())
 }

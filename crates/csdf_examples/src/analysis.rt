@@ -1,6 +1,5 @@
 //! What is known of a graph before it runs: how often each actor fires in a period, the least capacity of
 //! each channel, the cells that they share, and the firings of a period in order.
-#![tactic(auto)]
 
 ghost use Rattle.std.specs.Prelude.{IfOk};
 ghost use Rattle.csdf_analysis.specs.Acceptance.{IsAccepted};
@@ -33,7 +32,7 @@ channel = [
 /// The graph of the text, which is accepted: it can run for ever in bounded channels.
 ///
 /// An error says why the text is no graph, or why the graph can't.
-fn accepted_in(alloc: Global, text: &str) -> anyhow::Result<Accepted>
+pub fn accepted_in(alloc: Global, text: &str) -> anyhow::Result<Accepted>
     ensures { IfOk result IsAccepted }
 {
     match accept(alloc, read_graph(alloc, text.as_bytes())?) {
@@ -72,12 +71,18 @@ fn print_schedule(rt: &impl Print, alloc: Global, accepted: &Accepted) -> io::Re
     println!(rt; "")
 }
 
-fn main(rt: HostRuntime) -> anyhow::Result<()> {
-    let accepted = accepted_in(rt.alloc(), CHAIN)?;
-    print_vector(&rt, &accepted)?;
-    print_capacities(&rt, &accepted)?;
-    print_schedule(&rt, rt.alloc(), &accepted)?;
-    if let Err(fault) = accepted_in(rt.alloc(), CIRCLE) {
+/// Prints all that is known of a graph.
+fn print_all(rt: &impl Print, alloc: Global, accepted: &Accepted) -> io::Result<()> {
+    print_vector(rt, accepted)?;
+    print_capacities(rt, accepted)?;
+    print_schedule(rt, alloc, accepted)
+}
+
+/// Shows what is known of the two graphs.
+pub fn show(rt: &impl Print, alloc: Global) -> anyhow::Result<()> {
+    let accepted = accepted_in(alloc, CHAIN)?;
+    print_all(rt, alloc, &accepted)?;
+    if let Err(fault) = accepted_in(alloc, CIRCLE) {
         println!(rt; "the circle is refused: {fault}")?;
     }
     Ok(())
