@@ -62,19 +62,11 @@ impl<R: Files + AllocGlobal> Disk for HostDisk<'_, R> {
     /// A plain file is written beside its place, as `PATH.part`, and renamed when it is whole, so that a
     /// failure leaves what was there. What is no plain file, as a FIFO or a link, is written to.
     fn put(&mut self, path: &str, text: &[u8]) -> Result<(), PutFault> {
-        let permissions = match there_at(self.rt, path)? {
-            There::Free => None,
-            There::Plain(permissions) => Some(permissions),
-            There::Other => return fill(self.rt, path, text),
-        };
-        let Ok(part) = part_of(self.rt.alloc(), path) else {
-            return Err(PutFault::Memory);
-        };
-        let placed = put_whole(self.rt, part.as_str(), permissions, path, text);
-        if placed.is_err() {
-            let _ = fs::remove_file(self.rt, part.as_str());
+        match there_at(self.rt, path)? {
+            There::Free => put_beside(self.rt, path, None, text),
+            There::Plain(permissions) => put_beside(self.rt, path, Some(permissions), text),
+            There::Other => fill(self.rt, path, text),
         }
-        placed
     }
 }
 
@@ -143,4 +135,21 @@ fn put_whole(
         Ok(()) => Ok(()),
         Err(_) => Err(PutFault::Device),
     }
+}
+
+/// Writes a text beside its place, and puts it there when it is whole.
+fn put_beside(
+    rt: &(impl Files + AllocGlobal),
+    path: &str,
+    permissions: Option<Permissions>,
+    text: &[u8],
+) -> Result<(), PutFault> {
+    let Ok(part) = part_of(rt.alloc(), path) else {
+        return Err(PutFault::Memory);
+    };
+    let placed = put_whole(rt, part.as_str(), permissions, path, text);
+    if placed.is_err() {
+        let _ = fs::remove_file(rt, part.as_str());
+    }
+    placed
 }

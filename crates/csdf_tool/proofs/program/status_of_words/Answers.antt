@@ -13,3 +13,33 @@ returns-in-Lengths-clause-answered g c = grind (arith, common_steps)
 
 pub returns-in-Lengths-clause-ends : goal.returns-in-Lengths-clause-ends
 returns-in-Lengths-clause-ends g c = search rules
+
+pub returns-in-Parse-clause-refused : goal.returns-in-Parse-clause-refused
+returns-in-Parse-clause-refused g c = c.status_of_error.ensures.refused
+
+pub returns-in-Parse-clause-device : goal.returns-in-Parse-clause-device
+returns-in-Parse-clause-device g c = c.status_of_error.ensures.device
+
+pub returns-in-Parse-clause-answered : goal.returns-in-Parse-clause-answered
+returns-in-Parse-clause-answered g c = c.status_of_error.ensures.answered
+
+pub returns-in-Parse-clause-lined : goal.returns-in-Parse-clause-lined
+returns-in-Parse-clause-lined g c = c.status_of_error.ensures.lined
+
+pub returns-in-Room-clause-refused : goal.returns-in-Room-clause-refused
+returns-in-Room-clause-refused g c = grind (arith, common_steps)
+
+pub returns-in-Room-clause-device : goal.returns-in-Room-clause-device
+returns-in-Room-clause-device g c = grind (arith, common_steps)
+
+pub returns-in-Room-clause-lined : goal.returns-in-Room-clause-lined
+returns-in-Room-clause-lined g c = grind (arith, common_steps)
+
+pub returns-in-Lengths-clause-refused : goal.returns-in-Lengths-clause-refused
+returns-in-Lengths-clause-refused g c = grind (arith, common_steps)
+
+pub returns-in-Lengths-clause-device : goal.returns-in-Lengths-clause-device
+returns-in-Lengths-clause-device g c = grind (arith, common_steps)
+
+pub returns-in-Lengths-clause-lined : goal.returns-in-Lengths-clause-lined
+returns-in-Lengths-clause-lined g c = grind (arith, common_steps)
