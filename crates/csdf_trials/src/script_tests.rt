@@ -367,6 +367,16 @@ fn expect_told(
     Ok(())
 }
 
+/// Asserts the same of a fault that is then let go: a call of this drops it in one place.
+fn expect_told_once(
+    rt: &(impl Abort + AllocGlobal),
+    fault: ToolFault,
+    line: &str,
+    status: u8,
+) -> Result<(), Fail> {
+    expect_told(rt, &fault, line, status)
+}
+
 const GRAPH_FAULTS: [(GraphFault, &str); 9] = [
     (GraphFault::NotToml, "csdf: graph: not TOML"),
     (GraphFault::Shape(At::File), "csdf: graph: shape at file"),
@@ -400,7 +410,7 @@ const GRAPH_FAULTS: [(GraphFault, &str); 9] = [
 #[test]
 fn faults_of_graphs_have_a_line(rt: HostRuntime) -> Result<(), Fail> {
     for (fault, line) in &GRAPH_FAULTS {
-        expect_told(&rt, &ToolFault::Graph(*fault), *line, 1)?;
+        expect_told_once(&rt, ToolFault::Graph(*fault), *line, 1)?;
     }
     Ok(())
 }
@@ -417,9 +427,9 @@ fn refusals_have_a_line(rt: HostRuntime) -> Result<(), Fail> {
 /// Asserts the lines of two devices that failed.
 fn expect_devices_told(rt: &(impl Abort + AllocGlobal)) -> Result<(), Fail> {
     let input = ToolFault::Device(Stream::Input);
-    expect_told(rt, &input, "csdf: device: standard input", 3)?;
+    expect_told_once(rt, input, "csdf: device: standard input", 3)?;
     let output = ToolFault::Device(Stream::Output);
-    expect_told(rt, &output, "csdf: device: standard output", 3)
+    expect_told_once(rt, output, "csdf: device: standard output", 3)
 }
 
 #[test]
@@ -433,17 +443,17 @@ fn failures_have_a_line(rt: HostRuntime) -> Result<(), Fail> {
 #[test]
 fn a_channel_that_is_refused_is_named(rt: HostRuntime) -> Result<(), Fail> {
     let fault = ToolFault::Unbalanced(Name::new(rt.alloc(), "x")?);
-    expect_told(&rt, &fault, "csdf: graph: unbalanced at channel x", 1)
+    expect_told_once(&rt, fault, "csdf: graph: unbalanced at channel x", 1)
 }
 
 #[test]
 fn a_channel_that_is_too_large_is_named(rt: HostRuntime) -> Result<(), Fail> {
     let fault = ToolFault::TooLarge(Name::new(rt.alloc(), "y")?);
-    expect_told(&rt, &fault, "csdf: graph: too large at channel y", 1)
+    expect_told_once(&rt, fault, "csdf: graph: too large at channel y", 1)
 }
 
 #[test]
 fn a_file_that_failed_is_named(rt: HostRuntime) -> Result<(), Fail> {
     let fault = ToolFault::Device(Stream::File(Name::new(rt.alloc(), "a.toml")?));
-    expect_told(&rt, &fault, "csdf: device: a.toml", 3)
+    expect_told_once(&rt, fault, "csdf: device: a.toml", 3)
 }

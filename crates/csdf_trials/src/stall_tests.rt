@@ -5,7 +5,7 @@ use csdf_analysis::{Bounds, Ratio, Stall, Wait, demand_of, repetition, stall_of}
 use std::process::Abort;
 use std::test::Fail;
 
-fn stall_in(rt: &impl AllocGlobal, text: &str, bounds: Bounds) -> Result<Stall, Fail> {
+fn stall_in(rt: &HostRuntime, text: &str, bounds: Bounds) -> Result<Stall, Fail> {
     let graph = graph(rt, text)?;
     let vector = repetition(rt.alloc(), &graph)?;
     Ok(stall_of(rt.alloc(), &graph, &vector, bounds)?)
