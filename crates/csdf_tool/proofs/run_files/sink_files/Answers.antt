@@ -16,6 +16,3 @@ returns c = grind (arith, common_steps)
 
 pub returns-in_err-name : goal.returns-in_err-name
 returns-in_err-name c = grind (arith, common_steps)
-
-pub returns-in_err-push : goal.returns-in_err-push
-returns-in_err-push c = grind (arith, common_steps)
