@@ -1,4 +1,5 @@
-use Rattle.std.proofs.Common.{ℕ, List, [], length, get_or, take, ap, sym, ◌∙◌}
+use Rattle.std.proofs.lemmas.Grind.{common_steps}
+use Rattle.std.proofs.Common.{ℕ, List, [], length, get_or, take, ap, sym, ◌∙◌, arith}
 use Rattle.std.proofs.lemmas.List.{take-map}
 use Rattle.csdf_pool.specs.Pool.{Held}
 use Rattle.csdf_pool.proofs.Tables.{some_of}
@@ -19,3 +20,9 @@ returns c =
     ∙ front_at c.inputs-inputs.result.now n (tokens_in c.args.pool.now) (some_of (length c.inputs-inputs.result.now) c.is_empty.result c.is_empty.ensures
     c.if-is_empty.false)
     ∙ ap (λ (ns : List ℕ). from_front ns n (tokens_in c.args.pool.now)) c.inputs-inputs.ensures.value
+
+pub copy_front-requires-clause-enough : goal.copy_front-requires-clause-enough
+copy_front-requires-clause-enough c = grind (arith, common_steps)
+
+pub returns-then-is_empty : goal.returns-then-is_empty
+returns-then-is_empty c = grind (arith, common_steps)

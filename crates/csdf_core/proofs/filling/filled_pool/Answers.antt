@@ -68,3 +68,6 @@ returns-clause-tokens c = grind (arith, common_steps)
 
 pub returns-clause-shared_out : goal.returns-clause-shared_out
 returns-clause-shared_out c = grind (arith, common_steps)
+
+pub put_tokens-requires-clause-room : goal.put_tokens-requires-clause-room
+put_tokens-requires-clause-room c = grind (arith, common_steps)

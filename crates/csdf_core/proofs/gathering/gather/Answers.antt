@@ -1,3 +1,4 @@
+use Rattle.std.proofs.lemmas.Grind.{common_steps}
 use Rattle.std.proofs.Common.{◌<◌, ◌≤◌, ◌+◌, ℕ, List, length, take, get_or, ap, subst, sym, ◌∙◌, arith}
 use Rattle.std.proofs.lemmas.List.{take_all, take_more}
 use Rattle.csdf_core.specs.Blocks.{takes_at, laid}
@@ -39,3 +40,6 @@ returns c =
     (subst (λ (done : List ℕ). IsLaid cs ins done c.args.turn.firing c.args.n (tokens_at (tokens_in c.args.pool.now)) c.loop-place.into)
     (take_all c.loop-place.place ins (omega (arith, c.loop-place-test.false, ap length c.inputs-inputs.ensures.value)))
     c.loop-place.invariant.laid)
+
+pub lay_input-requires-clause-enough : goal.lay_input-requires-clause-enough
+lay_input-requires-clause-enough c = grind (arith, common_steps)

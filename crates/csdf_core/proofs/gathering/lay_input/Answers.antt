@@ -60,3 +60,9 @@ loop-firing-smaller c = grind (arith, common_steps)
 
 pub returns : goal.returns
 returns c = grind (arith, common_steps)
+
+pub slot_after-slot-requires-clause-in_phase : goal.slot_after-slot-requires-clause-in_phase
+slot_after-slot-requires-clause-in_phase c = grind (arith, common_steps)
+
+pub turn_after-after-requires-clause-in_phase : goal.turn_after-after-requires-clause-in_phase
+turn_after-after-requires-clause-in_phase c = grind (arith, common_steps)

@@ -1,3 +1,4 @@
+use Rattle.std.proofs.lemmas.Grind.{common_steps}
 use Rattle.std.proofs.Common.{ℕ, List, take, get_or, ap, ◌∙◌, arith}
 use Rattle.std.specs.Prelude.{sum_by}
 use Rattle.csdf_core.specs.Ports.{inputs_at, take_at}
@@ -19,3 +20,9 @@ returns-clause-slot c =
       taken_is = mine;
       fits = omega (arith, before, mine, within, need_is c.args.actor k cs, c.need_of.ensures.value);
     }
+
+pub taken_before-requires-clause-within : goal.taken_before-requires-clause-within
+taken_before-requires-clause-within c = grind (arith, common_steps)
+
+pub taken_before-requires-clause-own : goal.taken_before-requires-clause-own
+taken_before-requires-clause-own c = grind (arith, common_steps)

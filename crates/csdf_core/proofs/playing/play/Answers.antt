@@ -1,4 +1,5 @@
-use Rattle.std.proofs.Common.{rules, subst, map}
+use Rattle.std.proofs.lemmas.Grind.{common_steps}
+use Rattle.std.proofs.Common.{rules, subst, map, arith}
 use Rattle.csdf_core.specs.Moves.{move_of}
 use Rattle.csdf_core.specs.Playable.{IsPlayable}
 use Rattle.csdf_core.specs.Shows.{View, replies_in}
@@ -41,3 +42,6 @@ returns-clause-replies c = search rules
 
 pub returns-clause-shows : goal.returns-clause-shows
 returns-clause-shows c = search rules
+
+pub returns-clause-partition : goal.returns-clause-partition
+returns-clause-partition c = grind (arith, common_steps)

@@ -1,3 +1,4 @@
+use Rattle.std.proofs.lemmas.Grind.{common_steps}
 use Rattle.std.proofs.Common.{◌≡◌, ◌+◌, ◌<◌, [], ◌∷◌, length, map, get_or, ap, subst, sym, ◌∙◌, arith}
 use Rattle.std.proofs.lemmas.List.{map-append, length-map}
 use Rattle.std.proofs.Math.ListN.{get_or-map}
@@ -31,3 +32,6 @@ loop-next-preserved c =
     (move_of c.next-item.result) (map (as_reply (λ tokens. tokens.items)) c.loop-next.replies.items)
     (as_reply (λ tokens. tokens.items) c.in_ok-reply.reply) lt at c.loop-next.invariant c.in_ok-reply.ensures.step in
     rw (c.in_ok-push.ensures.items, map-append (as_reply (λ tokens. tokens.items)) c.loop-next.replies.items (c.in_ok-reply.reply ∷ [])) more
+
+pub returns-clause-played : goal.returns-clause-played
+returns-clause-played c = grind (arith, common_steps)

@@ -1,4 +1,5 @@
-use Rattle.std.proofs.Common.{◌≡◌, length, sym, ap, ◌∙◌}
+use Rattle.std.proofs.lemmas.Grind.{common_steps}
+use Rattle.std.proofs.Common.{◌≡◌, length, sym, ap, ◌∙◌, arith}
 use Rattle.std.specs.Prelude.{find}
 use Rattle.std.proofs.lemmas.List.{length-map}
 use Rattle.csdf_pool.specs.Pool.{held_tokens}
@@ -21,3 +22,6 @@ returns c =
     c.loop-channel.channel-index _ c.loop-channel-test.false c.loop-channel.invariant
     ∙ ap (find (full_at c.args.layout.now.channels c.args.actor c.args.turn.firing (tokens_in c.args.pool.now))) c.outputs-outputs.ensures.value
     ∙ first_full c.args.actor c.args.turn.firing c.args.layout.now.channels (tokens_in c.args.pool.now) len
+
+pub loop-channel-preserved : goal.loop-channel-preserved
+loop-channel-preserved c = grind (arith, common_steps)

@@ -1,3 +1,4 @@
+use Rattle.std.proofs.lemmas.Grind.{common_steps}
 use Rattle.std.proofs.Common.{ℕ, subst, sym, ◌∙◌, arith}
 use Rattle.csdf_core.specs.Phases.{IsInPhase}
 use Rattle.csdf_core.proofs.BlockTokens.{pool_step, peaks_step, enough_step, gifts_left}
@@ -28,3 +29,9 @@ loop-firing-preserved c =
           ∙ c.loop-firing.invariant.peaks;
       partition = c.fire_once.ensures.partition;
     }
+
+pub turn_after-next-requires-clause-in_phase : goal.turn_after-next-requires-clause-in_phase
+turn_after-next-requires-clause-in_phase c = grind (arith, common_steps)
+
+pub fire_once-requires-clause-in_phase : goal.fire_once-requires-clause-in_phase
+fire_once-requires-clause-in_phase c = grind (arith, common_steps)

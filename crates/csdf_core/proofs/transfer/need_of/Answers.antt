@@ -1,4 +1,5 @@
-use Rattle.std.proofs.Common.{ap, ◌∙◌}
+use Rattle.std.proofs.lemmas.Grind.{common_steps}
+use Rattle.std.proofs.Common.{ap, ◌∙◌, arith}
 use Rattle.std.specs.Prelude.{sum_by}
 use Rattle.csdf_core.specs.Ports.{take_at}
 use Rattle.csdf_core.proofs.PortLemmas.{need_is, sum_done}
@@ -10,3 +11,6 @@ returns-clause-value c =
     c.loop-channel-test.false c.loop-channel.invariant.told
     ∙ ap (sum_by (take_at c.args.layout.now.channels c.args.turn.firing)) c.inputs-inputs.ensures.value
     ∙ need_is c.args.actor c.args.turn.firing c.args.layout.now.channels
+
+pub loop-channel-preserved : goal.loop-channel-preserved
+loop-channel-preserved c = grind (arith, common_steps)

@@ -22,3 +22,9 @@ loop-channel-init c =
 
 pub loop-channel-preserved : goal.loop-channel-preserved
 loop-channel-preserved c = record { same = grind (arith, common_steps); all = grind (arith, common_steps); room = grind (arith, common_steps); put = grind (arith, common_steps); cells = grind (arith, common_steps); partition = c.put_tokens.ensures.partition; size = grind (arith, common_steps) }
+
+pub put_tokens-requires-clause-room : goal.put_tokens-requires-clause-room
+put_tokens-requires-clause-room c = grind (arith, common_steps)
+
+pub slice_bounds-put_tokens-end : goal.slice_bounds-put_tokens-end
+slice_bounds-put_tokens-end c = grind (arith, common_steps)

@@ -51,3 +51,12 @@ returns-clause-count c =
     c.loop-channel-test.false c.loop-channel.invariant.count
     ∙ ap (sum_by (take_at c.args.layout.now.channels c.args.turn.firing)) c.inputs-inputs.ensures.value
     ∙ need_is c.args.actor c.args.turn.firing c.args.layout.now.channels
+
+pub take_tokens-requires-clause-enough : goal.take_tokens-requires-clause-enough
+take_tokens-requires-clause-enough c = grind (arith, common_steps)
+
+pub slice_bounds-take_tokens-end : goal.slice_bounds-take_tokens-end
+slice_bounds-take_tokens-end c = grind (arith, common_steps)
+
+pub take_tokens-requires-clause-channel : goal.take_tokens-requires-clause-channel
+take_tokens-requires-clause-channel c = grind (arith, common_steps)

@@ -1,3 +1,4 @@
+use Rattle.std.proofs.lemmas.Grind.{common_steps}
 use Rattle.std.proofs.Common.{rules, ◌≡◌, ◌+◌, ◌-◌, get_or, None, ap, refl, arith, sym, ℕ}
 use Rattle.csdf_core.specs.Plan.{Plan}
 use Rattle.csdf_core.specs.State.{Present}
@@ -41,3 +42,6 @@ returns-clause-step c =
 
 pub returns-clause-cells : goal.returns-clause-cells
 returns-clause-cells c = search rules
+
+pub index_mut-requires : goal.index_mut-requires
+index_mut-requires c = grind (arith, common_steps)

@@ -1,3 +1,4 @@
+use Rattle.std.proofs.lemmas.Grind.{common_steps}
 use Rattle.std.proofs.Common.{◌≡◌, ◌-◌, ◌*◌, ℕ, [], length, get_or, ap, ap₂, subst, sym, ◌∙◌, refl, arith, Option, Some, None, false}
 use Rattle.std.specs.Prelude.{is_some}
 use Rattle.csdf_core.specs.Blocks.{HoldAll, HaveRoomFor}
@@ -85,3 +86,51 @@ returns c =
       },
       λ _. refl,
     )
+
+pub returns-then-not-has_cells : goal.returns-then-not-has_cells
+returns-then-not-has_cells c = grind (arith, common_steps)
+
+pub returns-then-not-may_begin : goal.returns-then-not-may_begin
+returns-then-not-may_begin c = grind (arith, common_steps)
+
+pub returns-then-not-have_asked : goal.returns-then-not-have_asked
+returns-then-not-have_asked c = grind (arith, common_steps)
+
+pub returns-then-not-hold_asked : goal.returns-then-not-hold_asked
+returns-then-not-hold_asked c = grind (arith, common_steps)
+
+pub have_asked-requires-clause-actor : goal.have_asked-requires-clause-actor
+have_asked-requires-clause-actor c = grind (arith, common_steps)
+
+pub hold_asked-requires-clause-actor : goal.hold_asked-requires-clause-actor
+hold_asked-requires-clause-actor c = grind (arith, common_steps)
+
+pub have_asked-requires-clause-in_phase : goal.have_asked-requires-clause-in_phase
+have_asked-requires-clause-in_phase c = grind (arith, common_steps)
+
+pub hold_asked-requires-clause-in_phase : goal.hold_asked-requires-clause-in_phase
+hold_asked-requires-clause-in_phase c = grind (arith, common_steps)
+
+pub returns-then-is_some : goal.returns-then-is_some
+returns-then-is_some c = grind (arith, common_steps)
+
+pub returns-then-from : goal.returns-then-from
+returns-then-from c = grind (arith, common_steps)
+
+pub len-requires : goal.len-requires
+len-requires c = grind (arith, common_steps)
+
+pub have_asked-requires-clause-same : goal.have_asked-requires-clause-same
+have_asked-requires-clause-same c = grind (arith, common_steps)
+
+pub first_closed-requires-clause-actor : goal.first_closed-requires-clause-actor
+first_closed-requires-clause-actor c = grind (arith, common_steps)
+
+pub returns-then-not-is_at : goal.returns-then-not-is_at
+returns-then-not-is_at c = grind (arith, common_steps)
+
+pub hold_asked-requires-clause-same : goal.hold_asked-requires-clause-same
+hold_asked-requires-clause-same c = grind (arith, common_steps)
+
+pub limit-requires : goal.limit-requires
+limit-requires c = grind (arith, common_steps)

@@ -75,3 +75,30 @@ returns-then-not-may_begin c = grind (arith, common_steps)
 
 pub returns-then-not-has_cells : goal.returns-then-not-has_cells
 returns-then-not-has_cells c = grind (arith, common_steps)
+
+pub have_theirs-requires-clause-actor : goal.have_theirs-requires-clause-actor
+have_theirs-requires-clause-actor c = grind (arith, common_steps)
+
+pub have_theirs-requires-clause-in_phase : goal.have_theirs-requires-clause-in_phase
+have_theirs-requires-clause-in_phase c = grind (arith, common_steps)
+
+pub hold_theirs-requires-clause-in_phase : goal.hold_theirs-requires-clause-in_phase
+hold_theirs-requires-clause-in_phase c = grind (arith, common_steps)
+
+pub hold_theirs-requires-clause-actor : goal.hold_theirs-requires-clause-actor
+hold_theirs-requires-clause-actor c = grind (arith, common_steps)
+
+pub look_ahead-ahead-requires-clause-actor : goal.look_ahead-ahead-requires-clause-actor
+look_ahead-ahead-requires-clause-actor c = grind (arith, common_steps)
+
+pub look_ahead-ahead-requires-clause-in_phase : goal.look_ahead-ahead-requires-clause-in_phase
+look_ahead-ahead-requires-clause-in_phase c = grind (arith, common_steps)
+
+pub have_theirs-requires-clause-same : goal.have_theirs-requires-clause-same
+have_theirs-requires-clause-same c = grind (arith, common_steps)
+
+pub hold_theirs-requires-clause-same : goal.hold_theirs-requires-clause-same
+hold_theirs-requires-clause-same c = grind (arith, common_steps)
+
+pub first_closed-requires-clause-actor : goal.first_closed-requires-clause-actor
+first_closed-requires-clause-actor c = grind (arith, common_steps)

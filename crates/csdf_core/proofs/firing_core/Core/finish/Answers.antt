@@ -113,3 +113,42 @@ returns-clause-unchanged c = grind (arith, common_steps)
 
 pub returns-clause-cells : goal.returns-clause-cells
 returns-clause-cells c = grind (arith, common_steps)
+
+pub index_mut-requires-6 : goal.index_mut-requires-6
+index_mut-requires-6 c = grind (arith, common_steps)
+
+pub index_mut-requires-5 : goal.index_mut-requires-5
+index_mut-requires-5 c = grind (arith, common_steps)
+
+pub index_mut-requires-4 : goal.index_mut-requires-4
+index_mut-requires-4 c = grind (arith, common_steps)
+
+pub index_mut-requires-3 : goal.index_mut-requires-3
+index_mut-requires-3 c = grind (arith, common_steps)
+
+pub index_mut-requires-2 : goal.index_mut-requires-2
+index_mut-requires-2 c = grind (arith, common_steps)
+
+pub index_mut-requires : goal.index_mut-requires
+index_mut-requires c = grind (arith, common_steps)
+
+pub gift_of-gift-requires-clause-actor : goal.gift_of-gift-requires-clause-actor
+gift_of-gift-requires-clause-actor c = grind (arith, common_steps)
+
+pub gift_of-gift-requires-clause-in_phase : goal.gift_of-gift-requires-clause-in_phase
+gift_of-gift-requires-clause-in_phase c = grind (arith, common_steps)
+
+pub need_of-need-requires-clause-actor : goal.need_of-need-requires-clause-actor
+need_of-need-requires-clause-actor c = grind (arith, common_steps)
+
+pub need_of-need-requires-clause-in_phase : goal.need_of-need-requires-clause-in_phase
+need_of-need-requires-clause-in_phase c = grind (arith, common_steps)
+
+pub turn_after-next-requires-clause-actor : goal.turn_after-next-requires-clause-actor
+turn_after-next-requires-clause-actor c = grind (arith, common_steps)
+
+pub turn_after-next-requires-clause-in_phase : goal.turn_after-next-requires-clause-in_phase
+turn_after-next-requires-clause-in_phase c = grind (arith, common_steps)
+
+pub turn-turn-requires : goal.turn-turn-requires
+turn-turn-requires c = grind (arith, common_steps)

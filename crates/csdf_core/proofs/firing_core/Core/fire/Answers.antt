@@ -1,3 +1,4 @@
+use Rattle.std.proofs.lemmas.Grind.{common_steps}
 use Rattle.std.proofs.Common.{◌≡◌, ◌<◌, ◌+◌, ℕ, length, get_or, set, ap, subst, sym, ◌∙◌, refl, arith}
 use Rattle.std.specs.Vec.{with_items}
 use Rattle.std.proofs.lemmas.List.{with_items_is, get_or_default}
@@ -205,3 +206,54 @@ pub returns-clause-cells : goal.returns-clause-cells
 returns-clause-cells c =
     let at : After-index_mut = (goal.at.returns-clause-cells c).After-index_mut in
     rw (← c.self.view_is) (sym (ap (λ (x : Machine). x.pool) (lands at)) ∙ (made at).1.cells)
+
+pub index_mut-requires-5 : goal.index_mut-requires-5
+index_mut-requires-5 c = grind (arith, common_steps)
+
+pub index_mut-requires-4 : goal.index_mut-requires-4
+index_mut-requires-4 c = grind (arith, common_steps)
+
+pub index_mut-requires-3 : goal.index_mut-requires-3
+index_mut-requires-3 c = grind (arith, common_steps)
+
+pub index_mut-requires-2 : goal.index_mut-requires-2
+index_mut-requires-2 c = grind (arith, common_steps)
+
+pub move_tokens-requires-clause-all : goal.move_tokens-requires-clause-all
+move_tokens-requires-clause-all c = grind (arith, common_steps)
+
+pub index_mut-requires : goal.index_mut-requires
+index_mut-requires c = grind (arith, common_steps)
+
+pub move_tokens-requires-clause-in_phase : goal.move_tokens-requires-clause-in_phase
+move_tokens-requires-clause-in_phase c = grind (arith, common_steps)
+
+pub move_tokens-requires-clause-actor : goal.move_tokens-requires-clause-actor
+move_tokens-requires-clause-actor c = grind (arith, common_steps)
+
+pub move_tokens-requires-clause-few : goal.move_tokens-requires-clause-few
+move_tokens-requires-clause-few c = grind (arith, common_steps)
+
+pub move_tokens-requires-clause-partition : goal.move_tokens-requires-clause-partition
+move_tokens-requires-clause-partition c = grind (arith, common_steps)
+
+pub gift_of-given-requires-clause-in_phase : goal.gift_of-given-requires-clause-in_phase
+gift_of-given-requires-clause-in_phase c = grind (arith, common_steps)
+
+pub gift_of-given-requires-clause-actor : goal.gift_of-given-requires-clause-actor
+gift_of-given-requires-clause-actor c = grind (arith, common_steps)
+
+pub need_of-needed-requires-clause-in_phase : goal.need_of-needed-requires-clause-in_phase
+need_of-needed-requires-clause-in_phase c = grind (arith, common_steps)
+
+pub need_of-needed-requires-clause-actor : goal.need_of-needed-requires-clause-actor
+need_of-needed-requires-clause-actor c = grind (arith, common_steps)
+
+pub move_tokens-requires-clause-same : goal.move_tokens-requires-clause-same
+move_tokens-requires-clause-same c = grind (arith, common_steps)
+
+pub look_ahead-ahead-requires-clause-in_phase : goal.look_ahead-ahead-requires-clause-in_phase
+look_ahead-ahead-requires-clause-in_phase c = grind (arith, common_steps)
+
+pub look_ahead-ahead-requires-clause-actor : goal.look_ahead-ahead-requires-clause-actor
+look_ahead-ahead-requires-clause-actor c = grind (arith, common_steps)

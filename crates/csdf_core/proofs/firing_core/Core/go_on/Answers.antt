@@ -1,3 +1,4 @@
+use Rattle.std.proofs.lemmas.Grind.{common_steps}
 use Rattle.std.proofs.Common.{◌≡◌, ◌<◌, ◌+◌, ℕ, length, get_or, set, ap, subst, sym, ◌∙◌, refl, arith}
 use Rattle.std.specs.Vec.{with_items}
 use Rattle.std.proofs.lemmas.List.{with_items_is, get_or_default}
@@ -194,3 +195,60 @@ returns-clause-plays c =
     rw (← c.self.view_is) (subst (λ (x : Machine). Plays (view (plan here) (m here)) (view (plan here) x)
     (firings_of (plan here).channels (a here) (k here) (n here) c.args.tokens.now)
     (answers_to (plan here) (p here) (firings_of (plan here).channels (a here) (k here) (n here) c.args.tokens.now))) (lands here) (made here).1.plays)
+
+pub index_mut-requires-5 : goal.index_mut-requires-5
+index_mut-requires-5 c = grind (arith, common_steps)
+
+pub index_mut-requires-4 : goal.index_mut-requires-4
+index_mut-requires-4 c = grind (arith, common_steps)
+
+pub index_mut-requires-3 : goal.index_mut-requires-3
+index_mut-requires-3 c = grind (arith, common_steps)
+
+pub index_mut-requires-2 : goal.index_mut-requires-2
+index_mut-requires-2 c = grind (arith, common_steps)
+
+pub fire_each-requires-clause-all : goal.fire_each-requires-clause-all
+fire_each-requires-clause-all c = grind (arith, common_steps)
+
+pub index_mut-requires : goal.index_mut-requires
+index_mut-requires c = grind (arith, common_steps)
+
+pub fire_each-requires-clause-in_phase : goal.fire_each-requires-clause-in_phase
+fire_each-requires-clause-in_phase c = grind (arith, common_steps)
+
+pub fire_each-requires-clause-actor : goal.fire_each-requires-clause-actor
+fire_each-requires-clause-actor c = grind (arith, common_steps)
+
+pub fire_each-requires-clause-peaked : goal.fire_each-requires-clause-peaked
+fire_each-requires-clause-peaked c = grind (arith, common_steps)
+
+pub fire_each-requires-clause-partition : goal.fire_each-requires-clause-partition
+fire_each-requires-clause-partition c = grind (arith, common_steps)
+
+pub gift_of-given-requires-clause-in_phase : goal.gift_of-given-requires-clause-in_phase
+gift_of-given-requires-clause-in_phase c = grind (arith, common_steps)
+
+pub gift_of-given-requires-clause-actor : goal.gift_of-given-requires-clause-actor
+gift_of-given-requires-clause-actor c = grind (arith, common_steps)
+
+pub need_of-needed-requires-clause-in_phase : goal.need_of-needed-requires-clause-in_phase
+need_of-needed-requires-clause-in_phase c = grind (arith, common_steps)
+
+pub need_of-needed-requires-clause-actor : goal.need_of-needed-requires-clause-actor
+need_of-needed-requires-clause-actor c = grind (arith, common_steps)
+
+pub look_ahead-ahead-requires-clause-in_phase : goal.look_ahead-ahead-requires-clause-in_phase
+look_ahead-ahead-requires-clause-in_phase c = grind (arith, common_steps)
+
+pub fire_each-requires-clause-same : goal.fire_each-requires-clause-same
+fire_each-requires-clause-same c = grind (arith, common_steps)
+
+pub look_ahead-ahead-requires-clause-actor : goal.look_ahead-ahead-requires-clause-actor
+look_ahead-ahead-requires-clause-actor c = grind (arith, common_steps)
+
+pub overflow_cast-given : goal.overflow_cast-given
+overflow_cast-given c = grind (arith, common_steps)
+
+pub overflow_cast-needed : goal.overflow_cast-needed
+overflow_cast-needed c = grind (arith, common_steps)

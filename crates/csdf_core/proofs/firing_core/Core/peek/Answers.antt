@@ -1,4 +1,5 @@
-use Rattle.std.proofs.Common.{◌≡◌, ◌+◌, ℕ, List, length, ap, subst, sym, ◌∙◌, refl}
+use Rattle.std.proofs.lemmas.Grind.{common_steps}
+use Rattle.std.proofs.Common.{◌≡◌, ◌+◌, ℕ, List, length, ap, subst, sym, ◌∙◌, refl, arith}
 use Rattle.std.specs.Prelude.{ℤ}
 use Rattle.csdf_core.specs.Plan.{Plan}
 use Rattle.csdf_core.specs.State.{Present}
@@ -68,3 +69,9 @@ pub returns-clause-each : goal.returns-clause-each
 returns-clause-each c =
     let at : After-copy_reads = (goal.at.returns-clause-each c).After-copy_reads in
     rw (← c.self.view_is) (λ v len. (made at v len).1.reads ∙ ap (parts_of (plan at).channels c.args.actor (k at) c.args.n) (sym (copied at)))
+
+pub copy_reads-requires-clause-in_phase : goal.copy_reads-requires-clause-in_phase
+copy_reads-requires-clause-in_phase c = grind (arith, common_steps)
+
+pub copy_reads-requires-clause-actor : goal.copy_reads-requires-clause-actor
+copy_reads-requires-clause-actor c = grind (arith, common_steps)

@@ -1,3 +1,4 @@
+use Rattle.std.proofs.lemmas.Grind.{common_steps}
 use Rattle.std.proofs.Common.{rules, ◌≡◌, ◌≤◌, ◌+◌, ◌-◌, set, None, sym, ◌∙◌, ap, subst, refl, arith, ℕ}
 use Rattle.csdf_core.specs.declared.stage.Stage.TheVariants.{Fetched}
 use Rattle.csdf_core.specs.Plan.{Plan}
@@ -119,3 +120,27 @@ returns-clause-cells c = search rules
 
 pub returns-clause-count : goal.returns-clause-count
 returns-clause-count c = search rules
+
+pub returns-clause-rest : goal.returns-clause-rest
+returns-clause-rest c = grind (arith, common_steps)
+
+pub index_mut-requires : goal.index_mut-requires
+index_mut-requires c = grind (arith, common_steps)
+
+pub take_inputs-n-requires-clause-in_phase : goal.take_inputs-n-requires-clause-in_phase
+take_inputs-n-requires-clause-in_phase c = grind (arith, common_steps)
+
+pub take_inputs-n-requires-clause-actor : goal.take_inputs-n-requires-clause-actor
+take_inputs-n-requires-clause-actor c = grind (arith, common_steps)
+
+pub take_inputs-n-requires-clause-room : goal.take_inputs-n-requires-clause-room
+take_inputs-n-requires-clause-room c = grind (arith, common_steps)
+
+pub take_inputs-n-requires-clause-partition : goal.take_inputs-n-requires-clause-partition
+take_inputs-n-requires-clause-partition c = grind (arith, common_steps)
+
+pub turn-turn-requires : goal.turn-turn-requires
+turn-turn-requires c = grind (arith, common_steps)
+
+pub take_inputs-n-requires-clause-same : goal.take_inputs-n-requires-clause-same
+take_inputs-n-requires-clause-same c = grind (arith, common_steps)

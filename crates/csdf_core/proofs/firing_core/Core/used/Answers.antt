@@ -1,3 +1,4 @@
+use Rattle.std.proofs.lemmas.Grind.{common_steps}
 use Rattle.std.proofs.Common.{arith}
 use Rattle.csdf_core.proofs.CoreLemmas.{held-chains}
 use Rattle.csdf_core.proofs.firing_core.Core.used.Goals as goal
@@ -11,3 +12,6 @@ returns-clause-small c = omega (
   c.self.invariant.sound.cells.size,
   held-chains c.self.inside.pool.chains,
 )
+
+pub returns-clause-value : goal.returns-clause-value
+returns-clause-value c = grind (arith, common_steps)

@@ -1,3 +1,4 @@
+use Rattle.std.proofs.lemmas.Grind.{common_steps}
 use Rattle.std.specs.Vec.{with_items}
 use Rattle.std.proofs.lemmas.List.{with_items_is}
 use Rattle.std.proofs.Common.{◌≡◌, ◌+◌, ◌-◌, length, set, None, sym, ◌∙◌, ap, subst, refl, arith, ℕ}
@@ -142,3 +143,24 @@ returns-clause-step c =
     items at ∙ peaks at ∙ ap (raised c.self.inside.peaks.items) (sym (put at)) in
     rw (← c.self.view_is) (follows_accepted _ _ (Write c.args.actor c.args.tokens.now) _ refl (none at) refl now c.self.invariant.sound.fit
     refl (cells at) same)
+
+pub index_mut-requires : goal.index_mut-requires
+index_mut-requires c = grind (arith, common_steps)
+
+pub raise_peaks-requires-clause-actor : goal.raise_peaks-requires-clause-actor
+raise_peaks-requires-clause-actor c = grind (arith, common_steps)
+
+pub put_outputs-requires-clause-actor : goal.put_outputs-requires-clause-actor
+put_outputs-requires-clause-actor c = grind (arith, common_steps)
+
+pub put_outputs-requires-clause-in_phase : goal.put_outputs-requires-clause-in_phase
+put_outputs-requires-clause-in_phase c = grind (arith, common_steps)
+
+pub put_outputs-requires-clause-partition : goal.put_outputs-requires-clause-partition
+put_outputs-requires-clause-partition c = grind (arith, common_steps)
+
+pub turn-turn-requires : goal.turn-turn-requires
+turn-turn-requires c = grind (arith, common_steps)
+
+pub returns-clause-cells : goal.returns-clause-cells
+returns-clause-cells c = grind (arith, common_steps)
