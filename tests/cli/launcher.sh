@@ -77,7 +77,7 @@ echo "csdf: meanwhile './csdf --unproved WORDS' in place of './csdf WORDS' answe
 cat > "$room/no_rt" << 'EOF'
 csdf: it has to be built, and this is missing:
 - the command rt of the Rattle kit rattle-kit-13b, or another with logic dac8208d650f15bf. The kit's folder bin has to be on PATH: export PATH="KIT/bin:$PATH"
-Then call this again. A first build takes about 40 minutes on four cores.
+Then call this again. A first build takes about 30 minutes on four cores.
 EOF
 mkdir "$launched/lacking"
 stand_in lacking "Linux aarch64" 2900000 1500000
@@ -89,7 +89,7 @@ csdf: it has to be built, and this is missing:
 - the Rattle kit rattle-kit-13b, or another with logic dac8208d650f15bf: the command rt on PATH says that it is 'rattle-kit-7 logic 0'
 - memory: 2900 MB are free, and the build takes about 4000
 - disk: 1500 MB are free where $launched is, and the build takes about 5000
-Then call this again. A first build takes about 40 minutes on four cores.
+Then call this again. A first build takes about 30 minutes on four cores.
 EOF
 main="$launched/crates/csdf/src/main.rt"
 launch "no rt" 3 0 /dev/null "$room/no_rt" without_rt
