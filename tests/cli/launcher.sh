@@ -88,7 +88,7 @@ csdf: it has to be built, and this is missing:
 - x86-64 Linux: this is Linux aarch64
 - the Rattle kit rattle-kit-13b, or another with logic dac8208d650f15bf: the command rt on PATH says that it is 'rattle-kit-7 logic 0'
 - memory: 2900 MB are free, and the build takes about 4000
-- disk: 1500 MB are free where $launched is, and the build takes about 5000
+- disk: 1500 MB are free where $launched is, and the build takes about 8000
 Then call this again. A first build takes about 30 minutes on four cores.
 EOF
 main="$launched/crates/csdf/src/main.rt"
