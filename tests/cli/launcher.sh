@@ -32,6 +32,10 @@ if [[ "$1" == try ]]; then
   exit 5
 fi
 if [[ -e src/bad.rt ]]; then exit 1; fi
+if [[ -e src/slow.rt ]]; then
+  echo "$$" > ../../../../../../../slow
+  exec sleep 60
+fi
 if [[ "$1" == lib ]]; then
   mkdir -p out/rlib out/incremental
   echo "$* of ${PWD##*/}, over: $(cat ../*/out/rlib/made 2> /dev/null)" > out/rlib/made
@@ -180,6 +184,26 @@ csdf
 csdf.made
 EOF
 compare "the launcher: what libraries are made of" 0 "$room/wanted_launch" /dev/null 0
+# An interrupt ends what is under way: the stand-in would take a minute, and its folder would stay.
+echo > "$launched/crates/low/src/slow.rt"
+(
+  cd "$launched" || exit
+  PATH="$launched/with_rt:$launched/without_rt" ./csdf one > "$room/out" 2> /dev/null &
+  while [[ ! -e slow ]]; do sleep 0.1; done
+  kill -TERM "$!"
+  wait "$!"
+)
+status="$?"
+ls "$launched/crates/csdf/out" >> "$room/out"
+for _ in {1..50}; do
+  if ! kill -0 "$(< "$launched/slow")" 2> /dev/null; then break; fi
+  sleep 0.1
+done
+if kill -0 "$(< "$launched/slow")" 2> /dev/null; then echo "still at work" >> "$room/out"; fi
+: > "$room/err"
+printf '%s\n' csdf csdf.made csdf.made.begun > "$room/wanted_launch"
+compare "the launcher: interrupted" "$status" "$room/wanted_launch" /dev/null 130
+rm "$launched/crates/low/src/slow.rt" "$launched/slow"
 echo "//! low, edited" > "$launched/crates/low/src/lib.rt"
 launch "a library is edited" 7 11 "$room/words_told" "$room/built" with_rt
 echo > "$launched/crates/low/src/bad.rt"
