@@ -1,15 +1,15 @@
 # shellcheck shell=bash disable=SC2154
 # The cases of the launcher, in the words of `run`, which reads this file: in a folder of its own,
-# with a stand-in for `rt` whose program prints its words and ends with status 7.
+# with stand-ins for `rt` and the kit, whose program prints its words and ends with status 7.
 
 launched="$room/launched"
 mkdir -p "$launched/crates/csdf/src" "$launched/crates/csdf/must-fail" \
-  "$launched/with_rt" "$launched/without_rt"
+  "$launched/with_rt" "$launched/without_rt" "$launched/kit/bin"
 cp "$top/csdf" "$top/HANDLES" "$launched"
 echo "csdf:" > "$launched/crates.txt"
 echo "fn main() {}" > "$launched/crates/csdf/src/main.rt"
 : > "$launched/crates/csdf/stdin"
-for tool in bash cat chmod cp dirname env find install mkdir mktemp mv nice nproc readlink rm sed sha256sum sleep sort tail touch xargs; do
+for tool in bash cat chmod cp dirname env find flock install mkdir mktemp mv nice nproc readlink rm sed sha256sum sleep sort tail touch xargs; do
   ln -s "$(command -v "$tool")" "$launched/without_rt/$tool"
 done
 # stand_in TOOLS SYSTEM MEMORY DISK: for what tells the system, and the kilobytes that are free.
@@ -31,23 +31,36 @@ if [[ "$1" == try ]]; then
   printf '%s\n' "csdf: device: $PWD/../../of_here" "checked: ended status=5" "races: none" "run=ended status=5" >&2
   exit 5
 fi
+echo "${0%/with_rt/rt}/kit/START-HERE.md"
+EOF
+cat > "$launched/kit/bin/rattle" << 'EOF'
+#!/usr/bin/env bash
+kit="${0%/bin/rattle}"
 if [[ -e src/bad.rt ]]; then exit 1; fi
 if [[ -e src/slow.rt ]]; then
-  echo "$$" > ../../../../../../../slow
+  echo "$$" > ../../slow
   exec sleep 60
 fi
-if [[ "$1" == lib ]]; then
-  mkdir -p out/rlib out/incremental
-  echo "$* of ${PWD##*/}, over: $(cat ../*/out/rlib/made 2> /dev/null)" > out/rlib/made
-  cat ../../crates.txt >> out/rlib/made
+if [[ -e src/waits.rt ]]; then sleep 1; fi
+words=" $* "
+words="${words//"$kit"/KIT}"
+to="${*: -2:1}"
+if [[ "$to" == *.rlib ]]; then
+  mkdir -p "$to"
+  echo "of ${PWD##*/}:${words//"${PWD%/crates/*}"/TOP}" > "$to/made"
   exit
 fi
 if [[ -e edit ]]; then mv edit src/main.rt; fi
-mkdir -p out
-printf '#!/bin/sh\necho "$@"\nexit 7\n' > out/csdf
-chmod +x out/csdf
+echo "$*" > "$to"
 echo built >> builds
 EOF
+cat > "$launched/kit/bin/rattle-link" << 'EOF'
+#!/usr/bin/env bash
+while [[ "$1" != -o ]]; do shift; done
+printf '#!/bin/sh\necho "$@"\nexit 7\n' > "$2"
+chmod +x "$2"
+EOF
+chmod +x "$launched/kit/bin/rattle" "$launched/kit/bin/rattle-link"
 chmod +x "$launched/with_rt/rt"
 
 # Where the launcher keeps what is told on the way.
@@ -81,7 +94,7 @@ echo "csdf: meanwhile './csdf --unproved WORDS' in place of './csdf WORDS' answe
 cat > "$room/no_rt" << 'EOF'
 csdf: it has to be built, and this is missing:
 - the command rt of the Rattle kit rattle-kit-13b, or another with logic dac8208d650f15bf. The kit's folder bin has to be on PATH: export PATH="KIT/bin:$PATH"
-Then call this again. A first build takes about 30 minutes on four cores.
+Then call this again. A first build takes about 20 minutes on four cores.
 EOF
 mkdir "$launched/lacking"
 stand_in lacking "Linux aarch64" 2900000 1500000
@@ -92,8 +105,8 @@ csdf: it has to be built, and this is missing:
 - x86-64 Linux: this is Linux aarch64
 - the Rattle kit rattle-kit-13b, or another with logic dac8208d650f15bf: the command rt on PATH says that it is 'rattle-kit-7 logic 0'
 - memory: 2900 MB are free, and the build takes about 4000
-- disk: 1500 MB are free where $launched is, and the build takes about 8000
-Then call this again. A first build takes about 30 minutes on four cores.
+- disk: 1500 MB are free where $launched is, and the build takes about 3000
+Then call this again. A first build takes about 20 minutes on four cores.
 EOF
 main="$launched/crates/csdf/src/main.rt"
 launch "no rt" 3 0 /dev/null "$room/no_rt" without_rt
@@ -171,20 +184,25 @@ stand_in with_rt "Linux x86_64" 19000000 9000000
 printf '#!/bin/sh\necho 4\n' > "$launched/with_rt/nproc"
 chmod +x "$launched/with_rt/nproc"
 launch "libraries" 7 10 "$room/words_told" "$room/built" with_rt
-(cd "$launched/crates" && cat ./*/out/rlib/made && ls csdf/out) > "$room/out"
+(cd "$launched/crates/csdf/out" && cat libraries/*/made && ls . libraries) > "$room/out"
 : > "$room/err"
 cat > "$room/wanted_launch" << 'EOF'
-lib --jobs 3 of high, over: lib --jobs 3 of low, over: 
-low:
-low:
-high may_wait=2: low kit
-lib --jobs 3 of low, over: 
-low:
+of high: build --crate-name high --extern std=KIT/rlibs/std.rlib --extern low=TOP/crates/csdf/out/libraries/low.rlib --extern kit=KIT/rlibs/kit.rlib -L dependency=KIT/rlibs -L dependency=TOP/crates/csdf/out/libraries --links high= --antt-project KIT/rattle/logic/antt-project.json --logic-built KIT/logic_built --statements --jobs 4 -o TOP/crates/csdf/out/libraries/high.rlib src/lib.rt 
+of low: build --crate-name low --extern std=KIT/rlibs/std.rlib -L dependency=KIT/rlibs -L dependency=TOP/crates/csdf/out/libraries --links low= --antt-project KIT/rattle/logic/antt-project.json --logic-built KIT/logic_built --statements --jobs 4 -o TOP/crates/csdf/out/libraries/low.rlib src/lib.rt 
+.:
 csdf
 csdf.made
+held
+libraries
+
+libraries:
+high.made
+high.rlib
+low.made
+low.rlib
 EOF
 compare "the launcher: what libraries are made of" 0 "$room/wanted_launch" /dev/null 0
-# An interrupt ends what is under way: the stand-in would take a minute, and its folder would stay.
+# An interrupt ends what is under way: the stand-in would take a minute.
 echo > "$launched/crates/low/src/slow.rt"
 (
   cd "$launched" || exit
@@ -194,14 +212,14 @@ echo > "$launched/crates/low/src/slow.rt"
   wait "$!"
 )
 status="$?"
-ls "$launched/crates/csdf/out" >> "$room/out"
+ls "$launched/crates/csdf/out/libraries" >> "$room/out"
 for _ in {1..50}; do
   if ! kill -0 "$(< "$launched/slow")" 2> /dev/null; then break; fi
   sleep 0.1
 done
 if kill -0 "$(< "$launched/slow")" 2> /dev/null; then echo "still at work" >> "$room/out"; fi
 : > "$room/err"
-printf '%s\n' csdf csdf.made csdf.made.begun > "$room/wanted_launch"
+printf '%s\n' high.rlib low.rlib > "$room/wanted_launch"
 compare "the launcher: interrupted" "$status" "$room/wanted_launch" /dev/null 130
 rm "$launched/crates/low/src/slow.rt" "$launched/slow"
 echo "//! low, edited" > "$launched/crates/low/src/lib.rt"
@@ -210,13 +228,24 @@ echo > "$launched/crates/low/src/bad.rt"
 launch "a library that fails" 3 11 /dev/null "$room/begun" with_rt
 rm "$launched/crates/low/src/bad.rt"
 launch "a library that is mended" 7 11 "$room/words_told" /dev/null with_rt
+# Two calls at once: one waits for the other, and takes what it made.
+echo > "$launched/crates/low/src/waits.rt"
+for each in one two; do
+  (cd "$launched" && PATH="$launched/with_rt:$launched/without_rt" ./csdf "$each") \
+    > "$room/$each.at_once" 2> /dev/null &
+done
+wait
+{ cat "$room/one.at_once" "$room/two.at_once"; wc -l < "$launched/crates/csdf/builds"; } > "$room/out"
+: > "$room/err"
+printf '%s\n' one two 12 > "$room/wanted_launch"
+compare "the launcher: two calls at once" 0 "$room/wanted_launch" /dev/null 0
 mkdir -p "$launched/completions" "$launched/docs"
 cp "$top"/completions/* "$launched/completions/"
 cp "$top/docs/csdf.1" "$launched/docs/"
 echo "csdf: installed under $room/prefix" > "$room/installed"
-launch "install" 0 11 /dev/null "$room/installed" with_rt --install "$room/prefix"
+launch "install" 0 12 /dev/null "$room/installed" with_rt --install "$room/prefix"
 echo "csdf: usage: ./csdf --install PREFIX" > "$room/usage"
-launch "install, and not where" 2 11 /dev/null "$room/usage" with_rt --install
+launch "install, and not where" 2 12 /dev/null "$room/usage" with_rt --install
 (cd "$room/prefix" && find . -type f | LC_ALL=C sort) > "$room/out"
 "$room/prefix/bin/csdf" three >> "$room/out"
 status="$?"
