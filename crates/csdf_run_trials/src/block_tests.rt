@@ -3,8 +3,8 @@
 
 ghost use Rattle.std.specs.Prelude.{IfOk};
 
-use crate::shared::{accepted_in, expect_eq, feeds_of};
-use csdf_floor::{Floor, StartFault, are_feeds, may_run};
+use crate::shared::{Asked, asked_for, expect_eq, floor_that_keeps};
+use csdf_floor::{Floor, StartFault};
 use csdf_journal::Keeping;
 use csdf_kernel::{Counts, Outputs};
 use std::alloc::Global;
@@ -97,52 +97,60 @@ fn turns(alloc: Global, floor: &mut Floor) -> Result<String, Fail> {
     Ok(told)
 }
 
-/// What comes of four periods of the graph.
-fn told_of(rt: &impl Abort, alloc: Global, graph: &str, keeping: Keeping) -> Result<String, Fail> {
-    let accepted = accepted_in(alloc, graph)?;
-    let feeds = feeds_of(alloc, &[5, -6, 7, 8])?;
-    assert!(rt; are_feeds(accepted.graph(), &feeds));
-    assert!(rt; may_run(&accepted, 4));
-    let mut floor = Floor::with_journal(alloc, &accepted, &feeds, 4, None, keeping)?;
-    turns(alloc, &mut floor)
+/// Asserts what comes of four periods of the graph.
+fn check_told(
+    rt: &impl Abort,
+    alloc: Global,
+    graph: &str,
+    keeping: Keeping,
+    wanted: &str,
+) -> Result<(), Fail> {
+    let asked = asked_for(alloc, graph, &[5, -6, 7, 8])?;
+    check_turns(rt, alloc, &asked, keeping, wanted)
 }
 
-/// Three firings fill the channel, so three are made at once, and then the fourth.
-#[test]
-fn a_line_is_made_at_once(rt: HostRuntime) -> Result<(), Fail> {
-    let told = told_of(&rt, rt.alloc(), LINE, Keeping::NotKept)?;
-    expect_eq(&rt, told.as_str(), "3 3 3 1 1 1 [][][5, -6, 7, 8]");
+fn check_turns(
+    rt: &impl Abort,
+    alloc: Global,
+    asked: &Asked,
+    keeping: Keeping,
+    wanted: &str,
+) -> Result<(), Fail> {
+    let mut floor = floor_that_keeps(rt, alloc, asked, 4, keeping)?;
+    let told = turns(alloc, &mut floor)?;
+    expect_eq(rt, told.as_str(), wanted);
     Ok(())
 }
 
-/// The same where the moves are kept.
+/// Graphs, and what comes of them where no moves are kept. Three firings fill a channel, so three are made
+/// at once, and then the fourth.
+const NOT_KEPT: [(&str, &str); 3] = [
+    (LINE, "3 3 3 1 1 1 [][][5, -6, 7, 8]"),
+    // running sums: each firing reads what the one before it wrote to itself
+    (SUMS, "3 3 3 1 1 1 [][][5, -1, 6, 14]"),
+    // from 1, 1 and 5: 3 goes to the sink, and 3, 11 are the next state; then 25, and 25, -1; 23, and
+    // 23, 13; 49
+    (FILTER, "3 3 3 1 1 1 [][][3, 25, 23, 49]"),
+];
+
 #[test]
-fn a_line_is_made_at_once_and_its_moves_are_kept(rt: HostRuntime) -> Result<(), Fail> {
-    let told = told_of(&rt, rt.alloc(), LINE, Keeping::Kept)?;
-    expect_eq(&rt, told.as_str(), "3 3 3 1 1 1 [][][5, -6, 7, 8]");
+fn firings_are_made_at_once(rt: HostRuntime) -> Result<(), Fail> {
+    for (graph, wanted) in &NOT_KEPT {
+        check_told(&rt, rt.alloc(), *graph, Keeping::NotKept, *wanted)?;
+    }
     Ok(())
 }
 
-/// Running sums: each firing reads what the one before it wrote to itself.
-#[test]
-fn sums_that_keep_a_state_are_made_at_once(rt: HostRuntime) -> Result<(), Fail> {
-    let told = told_of(&rt, rt.alloc(), SUMS, Keeping::NotKept)?;
-    expect_eq(&rt, told.as_str(), "3 3 3 1 1 1 [][][5, -1, 6, 14]");
-    Ok(())
-}
+/// The same where the moves are kept; the sums are made one by one.
+const KEPT: [(&str, &str); 2] = [
+    (LINE, "3 3 3 1 1 1 [][][5, -6, 7, 8]"),
+    (SUMS, "3 3 3 1 1 1 [][][5, -1, 6, 14]"),
+];
 
-/// The same firings one by one.
 #[test]
-fn sums_that_keep_a_state_are_made_one_by_one(rt: HostRuntime) -> Result<(), Fail> {
-    let told = told_of(&rt, rt.alloc(), SUMS, Keeping::Kept)?;
-    expect_eq(&rt, told.as_str(), "3 3 3 1 1 1 [][][5, -1, 6, 14]");
-    Ok(())
-}
-
-/// From 1, 1 and 5: 3 goes to the sink, and 3, 11 are the next state; then 25, and 25, -1; 23, and 23, 13; 49.
-#[test]
-fn a_state_is_read_first_and_given_back_last(rt: HostRuntime) -> Result<(), Fail> {
-    let told = told_of(&rt, rt.alloc(), FILTER, Keeping::NotKept)?;
-    expect_eq(&rt, told.as_str(), "3 3 3 1 1 1 [][][3, 25, 23, 49]");
+fn moves_of_firings_are_kept(rt: HostRuntime) -> Result<(), Fail> {
+    for (graph, wanted) in &KEPT {
+        check_told(&rt, rt.alloc(), *graph, Keeping::Kept, *wanted)?;
+    }
     Ok(())
 }

@@ -1,7 +1,7 @@
 ghost use Rattle.std.specs.Prelude.{◌≡◌};
 ghost use Rattle.csdf_claims.specs.Board.{Holds, KeepsAll};
 
-use crate::shared::{TWO_SOURCES, accepted_in, expect_eq, ran};
+use crate::shared::{Asked, TWO_SOURCES, accepted_in, expect_eq, ran};
 use csdf_claims::{Board, Place};
 use csdf_floor::Outcome;
 use csdf_run::Gate;
@@ -107,6 +107,13 @@ fn single_tokens(alloc: Global, tokens: &[i32], actors: usize) -> Result<Vec<Vec
     Ok(lists)
 }
 
+/// The graph of the file over these feeds.
+fn asked_singly(alloc: Global, text: &str, tokens: &[i32]) -> Result<Asked, Fail> {
+    let accepted = accepted_in(alloc, text)?;
+    let feeds = single_tokens(alloc, tokens, accepted.graph().actors().len())?;
+    Ok(Asked { accepted, feeds })
+}
+
 fn outcome_of<R: Threads + Wait + Abort + Sync, G: Gate>(
     rt: &R,
     alloc: Global,
@@ -115,9 +122,8 @@ fn outcome_of<R: Threads + Wait + Abort + Sync, G: Gate>(
     workers: u32,
     gate: &G,
 ) -> Result<Outcome, Fail> {
-    let accepted = accepted_in(alloc, text)?;
-    let feeds = single_tokens(alloc, tokens, accepted.graph().actors().len())?;
-    Ok(ran(rt, alloc, &accepted, &feeds, workers, 1, None, gate)?)
+    let asked = asked_singly(alloc, text, tokens)?;
+    Ok(ran(rt, alloc, &asked, workers, 1, None, gate)?)
 }
 
 /// All that the sinks took.
@@ -155,45 +161,38 @@ fn two_firings_at_the_same_time(rt: HostRuntime) -> Result<(), Fail> {
 }
 
 /// Eight sources that one actor sums up.
-fn write_eight_sources(text: &mut String) -> Result<(), Fail> {
-    for i in 0..8 {
-        write!(text, "[[actor]]\nname = \"s{i}\"\nkernel = \"source\"\n")?;
-    }
-    text.push_str("[[actor]]\nname = \"add\"\nkernel = \"sum\"\n")?;
-    text.push_str("[[actor]]\nname = \"snk\"\nkernel = \"sink\"\n")?;
-    for i in 0..8 {
-        write!(
-            text,
-            "[[channel]]\nname = \"x{i}\"\nfrom = \"s{i}\"\nto = \"add\"\n"
-        )?;
-        text.push_str("produce = [1]\nconsume = [1]\n")?;
-    }
-    text.push_str("[[channel]]\nname = \"y\"\nfrom = \"add\"\nto = \"snk\"\n")?;
-    text.push_str("produce = [1]\nconsume = [1]\n")?;
-    Ok(())
-}
-
-fn eight_sources(alloc: Global) -> Result<String, Fail> {
-    let mut text = String::new(alloc);
-    write_eight_sources(&mut text)?;
-    Ok(text)
-}
-
-fn eight_summed<R: Threads + Wait + Abort + Sync>(
-    rt: &R,
-    alloc: Global,
-    gate: &Counting,
-) -> Result<Outcome, Fail> {
-    let text = eight_sources(alloc)?;
-    outcome_of(rt, alloc, text.as_str(), &[1, 2, 3, 4, 5, 6, 7, 8], 8, gate)
-}
+const EIGHT_SOURCES: &str = r#"actor = [
+  { name = "s0", kernel = "source" },
+  { name = "s1", kernel = "source" },
+  { name = "s2", kernel = "source" },
+  { name = "s3", kernel = "source" },
+  { name = "s4", kernel = "source" },
+  { name = "s5", kernel = "source" },
+  { name = "s6", kernel = "source" },
+  { name = "s7", kernel = "source" },
+  { name = "add", kernel = "sum" },
+  { name = "snk", kernel = "sink" },
+]
+channel = [
+  { name = "x0", from = "s0", to = "add", produce = [1], consume = [1] },
+  { name = "x1", from = "s1", to = "add", produce = [1], consume = [1] },
+  { name = "x2", from = "s2", to = "add", produce = [1], consume = [1] },
+  { name = "x3", from = "s3", to = "add", produce = [1], consume = [1] },
+  { name = "x4", from = "s4", to = "add", produce = [1], consume = [1] },
+  { name = "x5", from = "s5", to = "add", produce = [1], consume = [1] },
+  { name = "x6", from = "s6", to = "add", produce = [1], consume = [1] },
+  { name = "x7", from = "s7", to = "add", produce = [1], consume = [1] },
+  { name = "y", from = "add", to = "snk", produce = [1], consume = [1] },
+]
+"#;
 
 fn check_eight<R: Threads + Wait + Abort + Sync>(
     rt: &R,
     alloc: Global,
     gate: &Counting,
 ) -> Result<(), Fail> {
-    let outcome = eight_summed(rt, alloc, gate)?;
+    let tokens = [1, 2, 3, 4, 5, 6, 7, 8];
+    let outcome = outcome_of(rt, alloc, EIGHT_SOURCES, &tokens, 8, gate)?;
     expect_eq(&rt, gate.saw_all.load(SeqCst), 8);
     check_taken(rt, alloc, &outcome, 36)
 }

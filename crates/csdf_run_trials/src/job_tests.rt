@@ -46,34 +46,45 @@ fn hands_the_job_back(rt: HostRuntime) -> Result<(), Fail> {
     }
 }
 
+/// Puts the value of a job into the outputs.
+fn fill(
+    rt: &impl Abort,
+    alloc: Global,
+    kernel: Kernel,
+    counts: &[u32],
+    inputs: &[i32],
+    outputs: &mut Outputs,
+) -> Result<(), Fail> {
+    let job = job_of(rt, alloc, kernel, counts, inputs)?;
+    Ok(eval_into(&job, outputs)?)
+}
+
+/// Puts two sums into the outputs.
+fn fill_sums(rt: &impl Abort, alloc: Global, outputs: &mut Outputs) -> Result<(), Fail> {
+    fill(rt, alloc, Kernel::Sum, &[2], &[5, 6], outputs)?;
+    expect_eq(rt, outputs.as_slice(), [11, 11].as_slice());
+    Ok(())
+}
+
 /// Puts a value in the place of two sums; where memory is wanting, the sums stay.
-fn check_next(rt: &impl Abort, job: &Job, outputs: &mut Outputs) -> Result<(), Fail>
-    requires { IsReady job.now }
-{
-    match eval_into(job, outputs) {
-        Ok(()) => {
-            expect_eq(rt, outputs.as_slice(), OUTPUTS.as_slice());
-            Ok(())
-        }
-        Err(fault) => {
-            expect_eq(rt, outputs.as_slice(), [11, 11].as_slice());
-            Err(fault.into())
-        }
-    }
+fn fill_next(rt: &impl Abort, alloc: Global, outputs: &mut Outputs) -> Result<(), Fail> {
+    let answer = fill(rt, alloc, Kernel::Copy, &[20], &[1, 2, 3], outputs);
+    let wanted = if answer.is_ok() {
+        OUTPUTS.as_slice()
+    } else {
+        [11, 11].as_slice()
+    };
+    expect_eq(rt, outputs.as_slice(), wanted);
+    answer
 }
 
 /// One list has the value of one job after another.
 #[test]
 fn fills_the_outputs_again(rt: HostRuntime) -> Result<(), Fail> {
-    let alloc = rt.alloc();
-    let sum = job_of(&rt, alloc, Kernel::Sum, &[2], &[5, 6])?;
-    let copy = job_of(&rt, alloc, Kernel::Copy, &[20], &[1, 2, 3])?;
-    let mut outputs = Outputs::new(alloc);
-    eval_into(&sum, &mut outputs)?;
-    check_next(&rt, &copy, &mut outputs)?;
-    eval_into(&sum, &mut outputs)?;
-    expect_eq(&rt, outputs.as_slice(), [11, 11].as_slice());
-    Ok(())
+    let mut outputs = Outputs::new(rt.alloc());
+    fill_sums(&rt, rt.alloc(), &mut outputs)?;
+    fill_next(&rt, rt.alloc(), &mut outputs)?;
+    fill_sums(&rt, rt.alloc(), &mut outputs)
 }
 
 fn check_blank(rt: &impl Abort, job: &Job) {

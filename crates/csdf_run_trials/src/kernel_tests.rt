@@ -27,114 +27,121 @@ fn gives(
     Ok(())
 }
 
-#[test]
-fn sums(rt: HostRuntime) -> Result<(), Fail> {
-    let (alloc, kernel) = (rt.alloc(), Kernel::Sum);
-    let (low, high) = (-2147483648, 2147483647);
-    gives(&rt, alloc, kernel, &[2], &[high, 1], &[high, high])?;
-    gives(&rt, alloc, kernel, &[2], &[low, -1], &[low, low])?;
-    gives(&rt, alloc, kernel, &[2], &[], &[0, 0])
-}
+const LOW: i32 = i32::MIN;
 
-#[test]
-fn filters(rt: HostRuntime) -> Result<(), Fail> {
-    let mut weights = [0; 16];
-    weights[0] = 1;
-    weights[1] = 2;
-    weights[2] = 1;
-    let kernel = Kernel::Fir {
-        weights,
-        taps: 3,
-        shift: 2,
-    };
-    gives(&rt, rt.alloc(), kernel, &[3], &[4, 8, 12, -7], &[8, 6, -1])
-}
+const HIGH: i32 = i32::MAX;
 
-/// A filter of sixteen taps of one weight.
-fn level(weight: i32, shift: u32) -> Kernel {
-    Kernel::Fir {
-        weights: [weight; 16],
-        taps: 16,
-        shift,
-    }
-}
+/// The greatest small weight, and its opposite.
+const UP: i32 = 134217728;
 
-#[test]
-fn filters_with_sixteen_taps(rt: HostRuntime) -> Result<(), Fail> {
-    let kernel = Kernel::Fir {
-        weights: [1, 2, 3, 4, 5, 6, 7, 8, 9, 10, 11, 12, 13, 14, 15, 16],
-        taps: 16,
-        shift: 3,
-    };
-    let inputs = [
-        1, 2, 3, 4, 5, 6, 7, 8, 9, 10, 11, 12, 13, 14, 15, 16, 17, 18, 19, 20,
-    ];
-    gives(
-        &rt,
-        rt.alloc(),
-        kernel,
+const DOWN: i32 = -134217728;
+
+/// Filters of sixteen taps of one weight.
+const UP_BY_0: Kernel = Kernel::Fir {
+    weights: [UP; 16],
+    taps: 16,
+    shift: 0,
+};
+
+const UP_BY_31: Kernel = Kernel::Fir {
+    weights: [UP; 16],
+    taps: 16,
+    shift: 31,
+};
+
+const DOWN_BY_0: Kernel = Kernel::Fir {
+    weights: [DOWN; 16],
+    taps: 16,
+    shift: 0,
+};
+
+const DOWN_BY_31: Kernel = Kernel::Fir {
+    weights: [DOWN; 16],
+    taps: 16,
+    shift: 31,
+};
+
+/// The same with weights that are one further from zero.
+const FURTHER_UP_BY_20: Kernel = Kernel::Fir {
+    weights: [134217729; 16],
+    taps: 16,
+    shift: 20,
+};
+
+const FURTHER_UP_BY_31: Kernel = Kernel::Fir {
+    weights: [134217729; 16],
+    taps: 16,
+    shift: 31,
+};
+
+const FURTHER_DOWN_BY_31: Kernel = Kernel::Fir {
+    weights: [-134217729; 16],
+    taps: 16,
+    shift: 31,
+};
+
+const THREE_TAPS: Kernel = Kernel::Fir {
+    weights: [1, 2, 1, 0, 0, 0, 0, 0, 0, 0, 0, 0, 0, 0, 0, 0],
+    taps: 3,
+    shift: 2,
+};
+
+const SIXTEEN_TAPS: Kernel = Kernel::Fir {
+    weights: [1, 2, 3, 4, 5, 6, 7, 8, 9, 10, 11, 12, 13, 14, 15, 16],
+    taps: 16,
+    shift: 3,
+};
+
+const ONE_TO_TWENTY: [i32; 20] = [
+    1, 2, 3, 4, 5, 6, 7, 8, 9, 10, 11, 12, 13, 14, 15, 16, 17, 18, 19, 20,
+];
+
+/// Of sixteen taps the third output over these has fifteen products.
+const SEVENTEEN_LOW: [i32; 17] = [LOW; 17];
+
+/// A kernel, counts, inputs, and the outputs.
+const VALUES: [(Kernel, &[u32], &[i32], &[i32]); 17] = [
+    (Kernel::Sum, &[2], &[HIGH, 1], &[HIGH, HIGH]),
+    (Kernel::Sum, &[2], &[LOW, -1], &[LOW, LOW]),
+    (Kernel::Sum, &[2], &[], &[0, 0]),
+    (THREE_TAPS, &[3], &[4, 8, 12, -7], &[8, 6, -1]),
+    (
+        SIXTEEN_TAPS,
         &[6],
-        &inputs,
+        &ONE_TO_TWENTY,
         &[187, 204, 221, 238, 255, 230],
-    )
-}
-
-/// Gives these three outputs of sixteen taps of one weight over seventeen of the least tokens: the
-/// third output has fifteen products.
-fn levels(
-    rt: &impl Abort,
-    alloc: Global,
-    weight: i32,
-    shift: u32,
-    wanted: &[i32],
-) -> Result<(), Fail> {
-    let inputs = [i32::MIN; 17];
-    gives(rt, alloc, level(weight, shift), &[3], &inputs, wanted)
-}
-
-/// Sixteen products of 2^27 and -2^31 add up to -2^62.
-#[test]
-fn filters_with_the_greatest_small_weights(rt: HostRuntime) -> Result<(), Fail> {
-    let alloc = rt.alloc();
-    let (low, high) = (-2147483648, 2147483647);
-    let (up, down) = (134217728, -134217728);
-    levels(&rt, alloc, up, 0, &[low, low, low])?;
-    levels(&rt, alloc, up, 31, &[low, low, -2013265920])?;
-    levels(&rt, alloc, down, 0, &[high, high, high])?;
-    levels(&rt, alloc, down, 31, &[high, high, 2013265920])
-}
-
-/// One more than the greatest small weight, in size.
-#[test]
-fn filters_with_the_least_great_weights(rt: HostRuntime) -> Result<(), Fail> {
-    let alloc = rt.alloc();
-    let (low, high) = (-2147483648, 2147483647);
-    let (up, down) = (134217729, -134217729);
-    levels(&rt, alloc, up, 31, &[low, low, -2013265935])?;
-    levels(&rt, alloc, down, 31, &[high, high, 2013265935])?;
-    gives(&rt, alloc, level(up, 20), &[2], &[-3; 16], &[-6145, -5761])
-}
+    ),
+    // sixteen products of 2^27 and -2^31 add up to -2^62
+    (UP_BY_0, &[3], &SEVENTEEN_LOW, &[LOW, LOW, LOW]),
+    (UP_BY_31, &[3], &SEVENTEEN_LOW, &[LOW, LOW, -2013265920]),
+    (DOWN_BY_0, &[3], &SEVENTEEN_LOW, &[HIGH, HIGH, HIGH]),
+    (DOWN_BY_31, &[3], &SEVENTEEN_LOW, &[HIGH, HIGH, 2013265920]),
+    (
+        FURTHER_UP_BY_31,
+        &[3],
+        &SEVENTEEN_LOW,
+        &[LOW, LOW, -2013265935],
+    ),
+    (
+        FURTHER_DOWN_BY_31,
+        &[3],
+        &SEVENTEEN_LOW,
+        &[HIGH, HIGH, 2013265935],
+    ),
+    (FURTHER_UP_BY_20, &[2], &[-3; 16], &[-6145, -5761]),
+    (Kernel::Copy, &[2, 4], &[1, 2, 3], &[1, 2, 1, 2, 3, 1]),
+    (Kernel::Copy, &[7], &[4, 5], &[4, 5, 4, 5, 4, 5, 4]),
+    (Kernel::Copy, &[2, 4], &[], &[0, 0, 0, 0, 0, 0]),
+    (Kernel::Source, &[1, 3], &[7, 8, 9], &[7, 8, 9, 0]),
+    (Kernel::Sink, &[2], &[7, 8, 9], &[0, 0]),
+];
 
 #[test]
-fn copies(rt: HostRuntime) -> Result<(), Fail> {
-    let (alloc, kernel) = (rt.alloc(), Kernel::Copy);
-    gives(&rt, alloc, kernel, &[2, 4], &[1, 2, 3], &[1, 2, 1, 2, 3, 1])?;
-    gives(&rt, alloc, kernel, &[7], &[4, 5], &[4, 5, 4, 5, 4, 5, 4])?;
-    gives(&rt, alloc, kernel, &[2, 4], &[], &[0, 0, 0, 0, 0, 0])
-}
-
-#[test]
-fn feeds(rt: HostRuntime) -> Result<(), Fail> {
-    let alloc = rt.alloc();
-    gives(
-        &rt,
-        alloc,
-        Kernel::Source,
-        &[1, 3],
-        &[7, 8, 9],
-        &[7, 8, 9, 0],
-    )?;
-    gives(&rt, alloc, Kernel::Sink, &[2], &[7, 8, 9], &[0, 0])
+fn gives_values(rt: HostRuntime) -> Result<(), Fail> {
+    for (kernel, counts, inputs, wanted) in &VALUES {
+        gives(&rt, rt.alloc(), *kernel, *counts, *inputs, *wanted)?;
+    }
+    Ok(())
 }
 
 /// Gives so many times the same output.

@@ -33,13 +33,11 @@ fn check_most<R: Abort>(rt: &R, alloc: Global, graph: &str, most: u32) -> Result
 }
 
 #[test]
-fn most_periods_of_a_pair(rt: HostRuntime) -> Result<(), Fail> {
-    check_most(&rt, rt.alloc(), PAIR, 16_384_000)
-}
-
-#[test]
-fn most_periods_of_seven_firings(rt: HostRuntime) -> Result<(), Fail> {
-    check_most(&rt, rt.alloc(), SEVEN, 2_340_571)
+fn periods_have_a_limit(rt: HostRuntime) -> Result<(), Fail> {
+    for (graph, most) in [(PAIR, 16_384_000), (SEVEN, 2_340_571)] {
+        check_most(&rt, rt.alloc(), graph, most)?;
+    }
+    Ok(())
 }
 
 /// The graph until it is dry, over one text.

@@ -4,10 +4,13 @@
 ghost use Rattle.std.specs.Prelude.{◌≡◌, ◌<◌, IfOk, OnOk, length};
 ghost use Rattle.csdf_floor.specs.Floor.{IsReady};
 
-use crate::shared::{accepted_in, deliver, done_of, expect_eq, feeds_of, ran, settled, told_of};
+use crate::shared::{
+    Asked, asked_for, deliver, done_of, expect_eq, floor_for, floor_that_keeps, ran, settled,
+    started, told_of,
+};
 use csdf_analysis::Accepted;
 use csdf_core::Core;
-use csdf_floor::{DeliverFault, Floor, Outcome, RunFault, StartFault, are_feeds, may_run};
+use csdf_floor::{DeliverFault, Floor, Outcome, RunFault, StartFault};
 use csdf_journal::Keeping;
 use csdf_kernel::{Done, Job, Outputs, eval, eval_into};
 use csdf_run::{Open, run_texts};
@@ -46,17 +49,6 @@ const TOLD: &str = "1 2 3 4 5 6 7 8 9 10 11 12 13 14 15 16 17 18 \n\
     d written 4 taken 4 held 0 peak 4 capacity 4 closed\n\
     e written 4 taken 4 held 0 peak 4 capacity 4 closed\n\
     y written 18 taken 18 held 0 peak 18 capacity 18 closed\n";
-
-fn floor_of<R: Abort>(
-    rt: &R,
-    alloc: Global,
-    accepted: &Accepted,
-    feeds: &[Vec<i32>],
-) -> Result<Floor, Fail> {
-    assert!(rt; are_feeds(accepted.graph(), feeds));
-    assert!(rt; may_run(accepted, 1));
-    Ok(Floor::new(alloc, accepted, feeds, 1, None)?)
-}
 
 // ---- what a floor shows
 
@@ -132,13 +124,16 @@ fn shown(alloc: Global, floor: &Floor) -> Result<String, Fail> {
 
 // ---- calls that are made again where memory was wanting
 
-fn started(alloc: Global, floor: &mut Floor, actor: u32) -> Result<Job, Fail>
-    ensures { IfOk result IsReady }
-{
-    match floor.start(alloc, actor, 0) {
-        Ok(job) => Ok(job),
-        Err(fault) => Err(fault.into()),
-    }
+/// Asserts that the floor shows what it did.
+fn check_unchanged<R: Abort>(
+    rt: &R,
+    alloc: Global,
+    floor: &Floor,
+    before: &str,
+) -> Result<(), Fail> {
+    let now = shown(alloc, floor)?;
+    expect_eq(&rt, now.as_str(), before);
+    Ok(())
 }
 
 /// Starts the actor's first firing. A start that lacked memory has changed nothing that is shown.
@@ -155,8 +150,8 @@ fn started_at_last<R: Abort>(
         Ok(job) => Ok(job),
         Err(fault) => {
             expect_eq(&rt, fault, StartFault::Memory);
-            expect_eq(&rt, shown(alloc, floor)?.as_str(), before.as_str());
-            started(alloc, floor, actor)
+            check_unchanged(rt, alloc, floor, before.as_str())?;
+            started(alloc, floor, actor, 0)
         }
     }
 }
@@ -182,7 +177,7 @@ fn deliver_at_last<R: Abort>(
         Ok(()) => Ok(()),
         Err(fault) => {
             expect_eq(&rt, fault, DeliverFault::Memory);
-            expect_eq(&rt, shown(alloc, floor)?.as_str(), before.as_str());
+            check_unchanged(rt, alloc, floor, before.as_str())?;
             deliver(alloc, floor, done)
         }
     }
@@ -213,31 +208,30 @@ fn check_told<R: Abort>(
     }
 }
 
+/// Makes the first firing of each actor.
+fn fire_all<R: Abort>(rt: &R, alloc: Global, floor: &mut Floor) -> Result<(), Fail> {
+    for actor in 0..3 {
+        fire(rt, alloc, floor, actor)?;
+    }
+    Ok(())
+}
+
+/// A floor on which each actor has fired.
+fn driven<R: Abort>(rt: &R, alloc: Global, asked: &Asked) -> Result<Floor, Fail> {
+    let mut floor = floor_for(rt, alloc, asked, 1)?;
+    fire_all(rt, alloc, &mut floor)?;
+    Ok(floor)
+}
+
 #[test]
 fn a_floor_is_driven_to_its_end(rt: HostRuntime) -> Result<(), Fail> {
-    let alloc = rt.alloc();
-    let accepted = accepted_in(alloc, WIDE)?;
-    let feeds = feeds_of(alloc, &FEED)?;
-    let mut floor = floor_of(&rt, alloc, &accepted, &feeds)?;
-    for actor in 0..3 {
-        fire(&rt, alloc, &mut floor, actor)?;
-    }
-    let answer = settled(&rt, alloc, floor, &accepted, &feeds, 1, None, &[1, 1, 1]);
-    check_told(&rt, alloc, &accepted, answer)
+    let asked = asked_for(rt.alloc(), WIDE, &FEED)?;
+    let floor = driven(&rt, rt.alloc(), &asked)?;
+    let answer = settled(&rt, rt.alloc(), floor, &asked, 1, None, &[1, 1, 1]);
+    check_told(&rt, rt.alloc(), &asked.accepted, answer)
 }
 
 // ---- a floor that keeps no journal, with one job and one list of outputs for all firings
-
-fn floor_without_journal<R: Abort>(
-    rt: &R,
-    alloc: Global,
-    accepted: &Accepted,
-    feeds: &[Vec<i32>],
-) -> Result<Floor, Fail> {
-    assert!(rt; are_feeds(accepted.graph(), feeds));
-    assert!(rt; may_run(accepted, 1));
-    Ok(Floor::with_journal(alloc, accepted, feeds, 1, None, Keeping::NotKept)?)
-}
 
 /// Starts the actor's first firing. A start that lacked memory has changed nothing that is shown.
 fn start_again<R: Abort>(
@@ -254,7 +248,7 @@ fn start_again<R: Abort>(
         Ok(()) => Ok(()),
         Err(fault) => {
             expect_eq(&rt, fault, StartFault::Memory);
-            expect_eq(&rt, shown(alloc, floor)?.as_str(), before.as_str());
+            check_unchanged(rt, alloc, floor, before.as_str())?;
             Ok(floor.start_into(actor, 0, job)?)
         }
     }
@@ -284,20 +278,28 @@ fn check_sink<R: Abort>(rt: &R, sinks: &[Vec<i32>]) {
     expect_eq(rt, sinks[2].as_slice(), &FEED[..18]);
 }
 
-#[test]
-fn one_job_serves_all_firings(rt: HostRuntime) -> Result<(), Fail> {
-    let alloc = rt.alloc();
-    let accepted = accepted_in(alloc, WIDE)?;
-    let feeds = feeds_of(alloc, &FEED)?;
-    let mut floor = floor_without_journal(&rt, alloc, &accepted, &feeds)?;
+/// Makes the first firing of each actor by one job and one list of outputs.
+fn fire_all_again<R: Abort>(rt: &R, alloc: Global, floor: &mut Floor) -> Result<(), Fail> {
     let mut job = Job::blank(alloc);
     let mut outputs = Outputs::new(alloc);
     for actor in 0..3 {
-        fire_again(&rt, alloc, &mut floor, actor, &mut job, &mut outputs)?;
+        fire_again(rt, alloc, floor, actor, &mut job, &mut outputs)?;
     }
-    check_sink(&rt, floor.sinks());
+    Ok(())
+}
+
+fn check_one_job<R: Abort>(rt: &R, alloc: Global, asked: &Asked) -> Result<(), Fail> {
+    let mut floor = floor_that_keeps(rt, alloc, asked, 1, Keeping::NotKept)?;
+    fire_all_again(rt, alloc, &mut floor)?;
+    check_sink(rt, floor.sinks());
     expect_eq(&rt, floor.journal().len(), 0);
     Ok(())
+}
+
+#[test]
+fn one_job_serves_all_firings(rt: HostRuntime) -> Result<(), Fail> {
+    let asked = asked_for(rt.alloc(), WIDE, &FEED)?;
+    check_one_job(&rt, rt.alloc(), &asked)
 }
 
 fn check_run<R: Threads + Wait + Abort + Sync>(
@@ -305,10 +307,9 @@ fn check_run<R: Threads + Wait + Abort + Sync>(
     alloc: Global,
     workers: u32,
 ) -> Result<(), Fail> {
-    let accepted = accepted_in(alloc, WIDE)?;
-    let feeds = feeds_of(alloc, &FEED)?;
-    let answer = ran(rt, alloc, &accepted, &feeds, workers, 1, None, &Open);
-    check_told(rt, alloc, &accepted, answer)
+    let asked = asked_for(alloc, WIDE, &FEED)?;
+    let answer = ran(rt, alloc, &asked, workers, 1, None, &Open);
+    check_told(rt, alloc, &asked.accepted, answer)
 }
 
 #[test]

@@ -1,5 +1,4 @@
-use crate::shared::{accepted_in, expect_eq, ran};
-use csdf_analysis::Accepted;
+use crate::shared::{Asked, accepted_in, expect_eq, ran};
 use csdf_floor::{Ending, Outcome};
 use csdf_model::{Channel, Graph, Kernel};
 use csdf_run::Open;
@@ -337,15 +336,11 @@ fn feeds_of(alloc: Global, feeds: &[&[i32]]) -> Result<Vec<Vec<i32>>, Fail> {
     Ok(lists)
 }
 
-fn outcome_of<R: Threads + Wait + Abort + Sync>(
-    rt: &R,
-    alloc: Global,
-    accepted: &Accepted,
-    feeds: &[Vec<i32>],
-    periods: u32,
-    workers: u32,
-) -> Result<Outcome, Fail> {
-    Ok(ran(rt, alloc, accepted, feeds, workers, periods, None, &Open)?)
+/// What the sample asks for.
+fn asked_in(alloc: Global, sample: &Sample) -> Result<Asked, Fail> {
+    let accepted = accepted_in(alloc, sample.graph)?;
+    let feeds = feeds_of(alloc, sample.feeds)?;
+    Ok(Asked { accepted, feeds })
 }
 
 fn check_sinks<R: Abort>(rt: &R, outcome: &Outcome, sinks: &[Vec<i32>]) {
@@ -364,13 +359,12 @@ fn check_lists<R: Abort>(rt: &R, found: &[Vec<i32>], wanted: &[Vec<i32>]) {
 fn check_by_all<R: Threads + Wait + Abort + Sync>(
     rt: &R,
     alloc: Global,
-    accepted: &Accepted,
-    feeds: &[Vec<i32>],
+    asked: &Asked,
     periods: u32,
 ) -> Result<(), Fail> {
-    let sinks = plain_sinks(alloc, accepted.graph(), feeds)?;
+    let sinks = plain_sinks(alloc, asked.accepted.graph(), &asked.feeds)?;
     for workers in 1..9 {
-        let outcome = outcome_of(rt, alloc, accepted, feeds, periods, workers)?;
+        let outcome = ran(rt, alloc, asked, workers, periods, None, &Open)?;
         check_sinks(rt, &outcome, &sinks);
     }
     Ok(())
@@ -381,9 +375,8 @@ fn check<R: Threads + Wait + Abort + Sync>(
     alloc: Global,
     sample: &Sample,
 ) -> Result<(), Fail> {
-    let accepted = accepted_in(alloc, sample.graph)?;
-    let feeds = feeds_of(alloc, sample.feeds)?;
-    check_by_all(rt, alloc, &accepted, &feeds, sample.periods)
+    let asked = asked_in(alloc, sample)?;
+    check_by_all(rt, alloc, &asked, sample.periods)
 }
 
 #[test]
@@ -415,7 +408,6 @@ fn check_sums<R: Abort>(
 
 #[test]
 fn the_plain_run_sums(rt: HostRuntime) -> Result<(), Fail> {
-    let accepted = accepted_in(rt.alloc(), SAMPLES[1].graph)?;
-    let feeds = feeds_of(rt.alloc(), SAMPLES[1].feeds)?;
-    check_sums(&rt, rt.alloc(), accepted.graph(), &feeds)
+    let asked = asked_in(rt.alloc(), &SAMPLES[1])?;
+    check_sums(&rt, rt.alloc(), asked.accepted.graph(), &asked.feeds)
 }

@@ -1,6 +1,6 @@
 //! What can be done with the outcome of a run.
 
-use crate::shared::{accepted_in, expect_eq, ran};
+use crate::shared::{asked_for, expect_eq, ran};
 use csdf_core::Move;
 use csdf_floor::Outcome;
 use csdf_run::Open;
@@ -24,11 +24,8 @@ const MOVES: &str = "Begin(0)\nRead(0)\nWrite(0, [5])\nFinish(0)\nClose(0)\n\
 
 /// One period of the pair by one worker.
 fn outcome_of<R: Threads + Wait + Abort + Sync>(rt: &R, alloc: Global) -> Result<Outcome, Fail> {
-    let accepted = accepted_in(alloc, PAIR)?;
-    let mut feeds = Vec::new(alloc);
-    feeds.push(Vec::from_slice(alloc, &[5])?)?;
-    feeds.push(Vec::new(alloc))?;
-    Ok(ran(rt, alloc, &accepted, &feeds, 1, 1, None, &Open)?)
+    let asked = asked_for(alloc, PAIR, &[5])?;
+    Ok(ran(rt, alloc, &asked, 1, 1, None, &Open)?)
 }
 
 /// The moves, one a line.

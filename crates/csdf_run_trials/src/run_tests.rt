@@ -2,10 +2,12 @@ ghost use Rattle.std.specs.Prelude.{◌≤◌, IfOk, length};
 ghost use Rattle.csdf_kernel.specs.Value.{HasFilterInRange};
 ghost use Rattle.csdf_floor.specs.Floor.{IsReady};
 
-use crate::shared::{accepted_in, deliver, done_of, expect_eq, feeds_of, ran, settled, told_of};
+use crate::shared::{
+    Asked, asked_for, deliver, done_of, expect_eq, floor_for, ran, settled, started, told_of,
+};
 use csdf_analysis::Accepted;
 use csdf_core::Refusal;
-use csdf_floor::{DeliverFault, Ending, Floor, Outcome, RunFault, StartFault, are_feeds, may_run};
+use csdf_floor::{DeliverFault, Ending, Floor, Outcome, RunFault, StartFault};
 use csdf_kernel::{Counts, Done, Inputs, Job};
 use csdf_model::Kernel;
 use csdf_run::Open;
@@ -211,20 +213,6 @@ const CASES: [Case; 11] = [
     },
 ];
 
-fn outcome_of<R: Threads + Wait + Abort + Sync>(
-    rt: &R,
-    alloc: Global,
-    accepted: &Accepted,
-    case: &Case,
-    workers: u32,
-) -> Result<Outcome, Fail> {
-    let feeds = feeds_of(alloc, case.feed)?;
-    let (periods, firings) = (case.periods, case.firings);
-    Ok(ran(
-        rt, alloc, accepted, &feeds, workers, periods, firings, &Open,
-    )?)
-}
-
 fn check_told<R: Abort>(
     rt: &R,
     alloc: Global,
@@ -237,18 +225,19 @@ fn check_told<R: Abort>(
     Ok(())
 }
 
-/// Every case by so many workers.
 fn check_by<R: Threads + Wait + Abort + Sync>(
     rt: &R,
     alloc: Global,
     case: &Case,
     workers: u32,
 ) -> Result<(), Fail> {
-    let accepted = accepted_in(alloc, case.graph)?;
-    let outcome = outcome_of(rt, alloc, &accepted, case, workers)?;
-    check_told(rt, alloc, &accepted, &outcome, case.wanted)
+    let asked = asked_for(alloc, case.graph, case.feed)?;
+    let (periods, firings) = (case.periods, case.firings);
+    let outcome = ran(rt, alloc, &asked, workers, periods, firings, &Open)?;
+    check_told(rt, alloc, &asked.accepted, &outcome, case.wanted)
 }
 
+/// Every case by so many workers.
 fn check_all_by<R: Threads + Wait + Abort + Sync>(
     rt: &R,
     alloc: Global,
@@ -261,42 +250,14 @@ fn check_all_by<R: Threads + Wait + Abort + Sync>(
 }
 
 #[test]
-fn runs_by_one_worker(rt: HostRuntime) -> Result<(), Fail> {
-    check_all_by(&rt, rt.alloc(), 1)
-}
-
-#[test]
-fn runs_by_two_workers(rt: HostRuntime) -> Result<(), Fail> {
-    check_all_by(&rt, rt.alloc(), 2)
-}
-
-#[test]
-fn runs_by_eight_workers(rt: HostRuntime) -> Result<(), Fail> {
-    check_all_by(&rt, rt.alloc(), 8)
+fn runs_by_some_workers(rt: HostRuntime) -> Result<(), Fail> {
+    for workers in [1, 2, 8] {
+        check_all_by(&rt, rt.alloc(), workers)?;
+    }
+    Ok(())
 }
 
 // ---- a floor driven by hand
-
-fn floor_of<R: Abort>(
-    rt: &R,
-    alloc: Global,
-    accepted: &Accepted,
-    feed: &[i32],
-) -> Result<Floor, Fail> {
-    let feeds = feeds_of(alloc, feed)?;
-    assert!(rt; are_feeds(accepted.graph(), &feeds));
-    assert!(rt; may_run(accepted, 2));
-    Ok(Floor::new(alloc, accepted, &feeds, 2, None)?)
-}
-
-fn started(alloc: Global, floor: &mut Floor, actor: u32, firing: u32) -> Result<Job, Fail>
-    ensures { IfOk result IsReady }
-{
-    match floor.start(alloc, actor, firing) {
-        Ok(job) => Ok(job),
-        Err(fault) => Err(fault.into()),
-    }
-}
 
 /// Does the job, and delivers it.
 fn finish(alloc: Global, floor: &mut Floor, job: Job) -> Result<(), Fail>
@@ -339,8 +300,8 @@ fn altered(alloc: Global, job: &Job, inputs: &[i32]) -> Result<Job, Fail>
 
 /// A floor over these tokens, on which nothing has fired.
 fn floor_over<R: Abort>(rt: &R, alloc: Global, feed: &[i32]) -> Result<Floor, Fail> {
-    let accepted = accepted_in(alloc, ACCUMULATED)?;
-    floor_of(rt, alloc, &accepted, feed)
+    let asked = asked_for(alloc, ACCUMULATED, feed)?;
+    floor_for(rt, alloc, &asked, 2)
 }
 
 /// Starts and computes the firing, whose counts and inputs are these.
@@ -493,45 +454,29 @@ fn drive(alloc: Global, floor: &mut Floor, firings: &[(u32, u32)]) -> Result<(),
     Ok(())
 }
 
-/// A floor on which one token is missing for the last firings, driven to its end.
-fn dry_floor<R: Abort>(rt: &R, alloc: Global) -> Result<Floor, Fail> {
-    let mut floor = floor_over(rt, alloc, &[1, 2, 3, 4, 5])?;
-    drive(alloc, &mut floor, &[(0, 0), (0, 1), (1, 0), (0, 2), (2, 0)])?;
+/// A floor over these tokens, on which these firings were made.
+fn floor_after<R: Abort>(
+    rt: &R,
+    alloc: Global,
+    feed: &[i32],
+    firings: &[(u32, u32)],
+) -> Result<Floor, Fail> {
+    let mut floor = floor_over(rt, alloc, feed)?;
+    drive(alloc, &mut floor, firings)?;
     Ok(floor)
 }
 
-/// What a floor is settled for.
-#[derive(Drop)]
-struct Asked {
-    accepted: Accepted,
-    feeds: Vec<Vec<i32>>,
-}
+/// One token is missing for the last firings, and these are all others.
+const DRY_FEED: [i32; 5] = [1, 2, 3, 4, 5];
 
-fn asked_for(alloc: Global, feed: &[i32]) -> Result<Asked, Fail> {
-    let feeds = feeds_of(alloc, feed)?;
-    let accepted = accepted_in(alloc, ACCUMULATED)?;
-    Ok(Asked { accepted, feeds })
-}
-
-/// The end of the floor with these totals.
-fn settled_for<R: Abort>(
-    rt: &R,
-    alloc: Global,
-    asked: &Asked,
-    floor: Floor,
-    firings: Option<u32>,
-    totals: &[u32],
-) -> Result<Outcome, RunFault> {
-    let (accepted, feeds) = (&asked.accepted, &asked.feeds);
-    settled(rt, alloc, floor, accepted, feeds, 2, firings, totals)
-}
+const DRY_FIRINGS: [(u32, u32); 5] = [(0, 0), (0, 1), (1, 0), (0, 2), (2, 0)];
 
 const DRY: &str = "6 \nending dry\nx written 5 taken 3 held 2 peak 3 capacity 3 closed\n\
     y written 1 taken 1 held 0 peak 1 capacity 1 open\n";
 
 fn check_dry<R: Abort>(rt: &R, alloc: Global, asked: &Asked) -> Result<(), Fail> {
-    let floor = dry_floor(rt, alloc)?;
-    match settled_for(rt, alloc, asked, floor, None, &[3, 1, 1]) {
+    let floor = floor_after(rt, alloc, &DRY_FEED, &DRY_FIRINGS)?;
+    match settled(rt, alloc, floor, asked, 2, None, &[3, 1, 1]) {
         Ok(outcome) => {
             expect_eq(&rt, outcome.ending, Ending::Dry);
             check_told(rt, alloc, &asked.accepted, &outcome, DRY)
@@ -542,52 +487,67 @@ fn check_dry<R: Abort>(rt: &R, alloc: Global, asked: &Asked) -> Result<(), Fail>
 
 #[test]
 fn a_dry_floor_is_settled(rt: HostRuntime) -> Result<(), Fail> {
-    let asked = asked_for(rt.alloc(), &[1, 2, 3, 4, 5])?;
+    let asked = asked_for(rt.alloc(), ACCUMULATED, &DRY_FEED)?;
     check_dry(&rt, rt.alloc(), &asked)
 }
 
+/// A floor's feed and firings, and for what it is settled: a feed, a limit on firings, and totals.
+struct Mixed {
+    feed: &'static [i32],
+    made: &'static [(u32, u32)],
+    asked: &'static [i32],
+    limit: Option<u32>,
+    totals: &'static [u32],
+}
+
+const MIXED: [Mixed; 4] = [
+    // another total
+    Mixed {
+        feed: &DRY_FEED,
+        made: &DRY_FIRINGS,
+        asked: &DRY_FEED,
+        limit: None,
+        totals: &[3, 1, 0],
+    },
+    // another feed
+    Mixed {
+        feed: &DRY_FEED,
+        made: &DRY_FIRINGS,
+        asked: &[1, 2, 3, 4, 6],
+        limit: None,
+        totals: &[3, 1, 1],
+    },
+    // another limit
+    Mixed {
+        feed: &DRY_FEED,
+        made: &DRY_FIRINGS,
+        asked: &DRY_FEED,
+        limit: Some(9),
+        totals: &[3, 1, 1],
+    },
+    // a floor that can go on
+    Mixed {
+        feed: &[1, 2, 3, 4, 5, 6],
+        made: &[(0, 0)],
+        asked: &[1, 2, 3, 4, 5, 6],
+        limit: None,
+        totals: &[1, 0, 0],
+    },
+];
+
 /// The floor is not at the end of what is asked.
-fn check_mixed<R: Abort>(
-    rt: &R,
-    alloc: Global,
-    floor: Floor,
-    asked: &Asked,
-    firings: Option<u32>,
-    totals: &[u32],
-) {
-    let answer = settled_for(rt, alloc, asked, floor, firings, totals);
+fn check_mixed<R: Abort>(rt: &R, alloc: Global, asked: &Asked, row: &Mixed) -> Result<(), Fail> {
+    let floor = floor_after(rt, alloc, row.feed, row.made)?;
+    let answer = settled(rt, alloc, floor, asked, 2, row.limit, row.totals);
     assert!(rt; matches!(answer, Err(RunFault::Mixed)));
-}
-
-#[test]
-fn another_total_is_mixed(rt: HostRuntime) -> Result<(), Fail> {
-    let asked = asked_for(rt.alloc(), &[1, 2, 3, 4, 5])?;
-    let floor = dry_floor(&rt, rt.alloc())?;
-    check_mixed(&rt, rt.alloc(), floor, &asked, None, &[3, 1, 0]);
     Ok(())
 }
 
 #[test]
-fn another_feed_is_mixed(rt: HostRuntime) -> Result<(), Fail> {
-    let asked = asked_for(rt.alloc(), &[1, 2, 3, 4, 6])?;
-    let floor = dry_floor(&rt, rt.alloc())?;
-    check_mixed(&rt, rt.alloc(), floor, &asked, None, &[3, 1, 1]);
-    Ok(())
-}
-
-#[test]
-fn another_limit_is_mixed(rt: HostRuntime) -> Result<(), Fail> {
-    let asked = asked_for(rt.alloc(), &[1, 2, 3, 4, 5])?;
-    let floor = dry_floor(&rt, rt.alloc())?;
-    check_mixed(&rt, rt.alloc(), floor, &asked, Some(9), &[3, 1, 1]);
-    Ok(())
-}
-
-#[test]
-fn a_floor_that_can_go_on_is_mixed(rt: HostRuntime) -> Result<(), Fail> {
-    let asked = asked_for(rt.alloc(), &[1, 2, 3, 4, 5, 6])?;
-    let mut floor = floor_over(&rt, rt.alloc(), &[1, 2, 3, 4, 5, 6])?;
-    fire(rt.alloc(), &mut floor, 0, 0)?;
-    check_mixed(&rt, rt.alloc(), floor, &asked, None, &[1, 0, 0]);
+fn other_floors_are_mixed(rt: HostRuntime) -> Result<(), Fail> {
+    for row in &MIXED {
+        let asked = asked_for(rt.alloc(), ACCUMULATED, row.asked)?;
+        check_mixed(&rt, rt.alloc(), &asked, row)?;
+    }
     Ok(())
 }

@@ -7,6 +7,7 @@ ghost use Rattle.csdf_floor.specs.Floor.{IsReady};
 use csdf_analysis::{Accepted, accept};
 use csdf_floor::{Floor, Outcome, RunFault, are_feeds, may_run, printed_report, settle};
 use csdf_graph::read_graph;
+use csdf_journal::Keeping;
 use csdf_kernel::{Counts, Done, Inputs, Job, eval};
 use csdf_model::Kernel;
 use csdf_run::{Gate, run};
@@ -39,13 +40,57 @@ pub(crate) fn accepted_in(alloc: Global, text: &str) -> Result<Accepted, Fail> {
     }
 }
 
-/// The feed of actor 0, and empty ones of two actors more.
-pub(crate) fn feeds_of(alloc: Global, feed: &[i32]) -> Result<Vec<Vec<i32>>, Fail> {
+/// The feed of actor 0, and empty ones of the others.
+fn feeds_of(alloc: Global, feed: &[i32], actors: usize) -> Result<Vec<Vec<i32>>, Fail> {
     let mut lists = Vec::new(alloc);
     lists.push(Vec::from_slice(alloc, feed)?)?;
-    lists.push(Vec::new(alloc))?;
-    lists.push(Vec::new(alloc))?;
+    for _ in 1..actors {
+        lists.push(Vec::new(alloc))?;
+    }
     Ok(lists)
+}
+
+/// What a floor or a run is asked for: a graph, and a feed for each actor.
+#[derive(Drop)]
+pub(crate) struct Asked {
+    pub(crate) accepted: Accepted,
+    pub(crate) feeds: Vec<Vec<i32>>,
+}
+
+/// The graph of the file, whose only source is actor 0, over this feed.
+pub(crate) fn asked_for(alloc: Global, text: &str, feed: &[i32]) -> Result<Asked, Fail> {
+    let accepted = accepted_in(alloc, text)?;
+    let feeds = feeds_of(alloc, feed, accepted.graph().actors().len())?;
+    Ok(Asked { accepted, feeds })
+}
+
+/// A floor for so many periods, on which nothing has fired.
+pub(crate) fn floor_for(
+    rt: &impl Abort,
+    alloc: Global,
+    asked: &Asked,
+    periods: u32,
+) -> Result<Floor, Fail> {
+    let (accepted, feeds) = (&asked.accepted, &asked.feeds);
+    assert!(rt; are_feeds(accepted.graph(), feeds));
+    assert!(rt; 1 <= periods);
+    assert!(rt; may_run(accepted, periods));
+    Ok(Floor::new(alloc, accepted, feeds, periods, None)?)
+}
+
+/// The same where it is said whether the moves are kept.
+pub(crate) fn floor_that_keeps(
+    rt: &impl Abort,
+    alloc: Global,
+    asked: &Asked,
+    periods: u32,
+    keeping: Keeping,
+) -> Result<Floor, Fail> {
+    let (accepted, feeds) = (&asked.accepted, &asked.feeds);
+    assert!(rt; are_feeds(accepted.graph(), feeds));
+    assert!(rt; 1 <= periods);
+    assert!(rt; may_run(accepted, periods));
+    Ok(Floor::with_journal(alloc, accepted, feeds, periods, None, keeping)?)
 }
 
 /// Asserts that what is found is as wanted: a call of this is proved in a fraction of the time that the
@@ -151,6 +196,21 @@ pub(crate) fn told_of(
     Ok(text)
 }
 
+/// Starts the actor's firing.
+pub(crate) fn started(
+    alloc: Global,
+    floor: &mut Floor,
+    actor: u32,
+    firing: u32,
+) -> Result<Job, Fail>
+    ensures { IfOk result IsReady }
+{
+    match floor.start(alloc, actor, firing) {
+        Ok(job) => Ok(job),
+        Err(fault) => Err(fault.into()),
+    }
+}
+
 /// Does the job.
 pub(crate) fn done_of(alloc: Global, job: Job) -> Result<Done, Fail>
     requires { IsReady job }
@@ -168,17 +228,17 @@ pub(crate) fn deliver(alloc: Global, floor: &mut Floor, done: &Done) -> Result<(
     }
 }
 
-/// Runs the graph over the feeds.
+/// Runs the graph over its feeds.
 pub(crate) fn ran<R: Threads + Wait + Abort + Sync, G: Gate>(
     rt: &R,
     alloc: Global,
-    accepted: &Accepted,
-    feeds: &[Vec<i32>],
+    asked: &Asked,
     workers: u32,
     periods: u32,
     firings: Option<u32>,
     gate: &G,
 ) -> Result<Outcome, RunFault> {
+    let (accepted, feeds) = (&asked.accepted, &asked.feeds);
     assert!(rt; are_feeds(accepted.graph(), feeds));
     assert!(rt; 1 <= workers && workers <= 8);
     assert!(rt; 1 <= periods);
@@ -191,12 +251,12 @@ pub(crate) fn settled<R: Abort>(
     rt: &R,
     alloc: Global,
     floor: Floor,
-    accepted: &Accepted,
-    feeds: &[Vec<i32>],
+    asked: &Asked,
     periods: u32,
     firings: Option<u32>,
     totals: &[u32],
 ) -> Result<Outcome, RunFault> {
+    let (accepted, feeds) = (&asked.accepted, &asked.feeds);
     assert!(rt; are_feeds(accepted.graph(), feeds));
     assert!(rt; 1 <= periods);
     assert!(rt; totals.len() == accepted.graph().actors().len());

@@ -100,79 +100,65 @@ fn check_told<R: Threads + Wait + Abort + Sync>(
     Ok(())
 }
 
-#[test]
-fn a_file_that_is_not_toml(rt: HostRuntime) -> Result<(), Fail> {
-    let fault = TextsFault::Graph(GraphFault::NotToml);
-    check_refused(&rt, rt.alloc(), "[[actor", &[], fault)
-}
-
-#[test]
-fn a_graph_that_is_not_accepted(rt: HostRuntime) -> Result<(), Fail> {
-    let fault = TextsFault::Accept(AcceptFault::Unbalanced(1));
-    check_refused(&rt, rt.alloc(), DISAGREEING, &[], fault)
-}
-
-#[test]
-fn one_text_for_two_sources(rt: HostRuntime) -> Result<(), Fail> {
-    check_refused(
-        &rt,
-        rt.alloc(),
+/// A graph, its texts, and why they are refused.
+const REFUSED: [(&str, &[&str], TextsFault); 6] = [
+    ("[[actor", &[], TextsFault::Graph(GraphFault::NotToml)),
+    (
+        DISAGREEING,
+        &[],
+        TextsFault::Accept(AcceptFault::Unbalanced(1)),
+    ),
+    // one text and three texts for two sources
+    (TWO_SOURCES, &["x\n"], TextsFault::FeedCount),
+    (TWO_SOURCES, &["1\n", "10\n", ""], TextsFault::FeedCount),
+    // a second text that is no number, and two
+    (
         TWO_SOURCES,
-        &["x\n"],
-        TextsFault::FeedCount,
-    )
-}
-
-#[test]
-fn three_texts_for_two_sources(rt: HostRuntime) -> Result<(), Fail> {
-    check_refused(
-        &rt,
-        rt.alloc(),
+        &["1\n", "x\n"],
+        TextsFault::Feed(1, TokenFault::Syntax(1)),
+    ),
+    (
         TWO_SOURCES,
-        &["1\n", "10\n", ""],
-        TextsFault::FeedCount,
-    )
-}
+        &["x\n", "y\n"],
+        TextsFault::Feed(0, TokenFault::Syntax(1)),
+    ),
+];
 
 #[test]
-fn a_second_text_that_is_no_number(rt: HostRuntime) -> Result<(), Fail> {
-    let fault = TextsFault::Feed(1, TokenFault::Syntax(1));
-    check_refused(&rt, rt.alloc(), TWO_SOURCES, &["1\n", "x\n"], fault)
+fn texts_are_refused(rt: HostRuntime) -> Result<(), Fail> {
+    for (graph, feeds, fault) in &REFUSED {
+        check_refused(&rt, rt.alloc(), *graph, *feeds, *fault)?;
+    }
+    Ok(())
 }
 
-#[test]
-fn two_texts_that_are_no_numbers(rt: HostRuntime) -> Result<(), Fail> {
-    let fault = TextsFault::Feed(0, TokenFault::Syntax(1));
-    check_refused(&rt, rt.alloc(), TWO_SOURCES, &["x\n", "y\n"], fault)
-}
-
-#[test]
-fn a_sum_of_two_texts(rt: HostRuntime) -> Result<(), Fail> {
-    let report = "ending complete\n\
-                  x written 1 taken 1 held 0 peak 1 capacity 1 closed\n\
-                  y written 1 taken 1 held 0 peak 1 capacity 1 closed\n\
-                  z written 1 taken 1 held 0 peak 1 capacity 1 closed\n";
-    check_told(
-        &rt,
-        rt.alloc(),
+/// A graph, its texts, those of its sinks, and the report.
+const TOLD: [(&str, &[&str], &[&str], &str); 2] = [
+    // a sum of two texts
+    (
         TWO_SOURCES,
         &["1\n", "10\n"],
         &["11\n"],
-        report,
-    )
-}
-
-#[test]
-fn a_text_for_each_of_two_sinks(rt: HostRuntime) -> Result<(), Fail> {
-    let report = "ending complete\n\
-                  x written 1 taken 1 held 0 peak 1 capacity 1 closed\n\
-                  y written 1 taken 1 held 0 peak 1 capacity 1 closed\n";
-    check_told(
-        &rt,
-        rt.alloc(),
+        "ending complete\n\
+         x written 1 taken 1 held 0 peak 1 capacity 1 closed\n\
+         y written 1 taken 1 held 0 peak 1 capacity 1 closed\n\
+         z written 1 taken 1 held 0 peak 1 capacity 1 closed\n",
+    ),
+    // a text for each of two sinks
+    (
         TWO_SINKS,
         &["-7\n8\n"],
         &["-7\n", "8\n"],
-        report,
-    )
+        "ending complete\n\
+         x written 1 taken 1 held 0 peak 1 capacity 1 closed\n\
+         y written 1 taken 1 held 0 peak 1 capacity 1 closed\n",
+    ),
+];
+
+#[test]
+fn texts_are_told(rt: HostRuntime) -> Result<(), Fail> {
+    for (graph, feeds, sinks, report) in &TOLD {
+        check_told(&rt, rt.alloc(), *graph, *feeds, *sinks, *report)?;
+    }
+    Ok(())
 }
