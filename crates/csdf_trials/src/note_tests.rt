@@ -13,12 +13,17 @@ fn note(rt: &impl AllocGlobal, file: &TokenFile) -> Result<String, Fail> {
     Ok(text)
 }
 
+/// Asserts what is said of a token file.
+fn expect_told(rt: &(impl Abort + AllocGlobal), file: &TokenFile, want: &str) -> Result<(), Fail> {
+    let found = note(rt, file)?;
+    expect_eq_of(rt, found.as_str(), want, want);
+    Ok(())
+}
+
 /// Asserts what is said of a token file with these bytes.
 fn expect_note(rt: &(impl Abort + AllocGlobal), bytes: &[u8], want: &str) -> Result<(), Fail> {
     let bytes = Vec::from_slice(rt.alloc(), bytes)?;
-    let found = note(rt, &TokenFile::Bytes(bytes))?;
-    expect_eq_of(rt, found.as_str(), want, want);
-    Ok(())
+    expect_told(rt, &TokenFile::Bytes(bytes), want)
 }
 
 /// The bytes of a token file, and its line.
@@ -65,25 +70,12 @@ fn lines_of_token_files_are_told(rt: HostRuntime) -> Result<(), Fail> {
 
 #[test]
 fn unread_token_files_are_told(rt: HostRuntime) -> Result<(), Fail> {
-    let missing = note(&rt, &TokenFile::Missing)?;
-    expect_eq(
-        &rt,
-        missing.as_str(),
-        "src reads d/src.in, which is missing\n",
-    );
-    let folder = note(&rt, &TokenFile::Folder)?;
-    expect_eq(
-        &rt,
-        folder.as_str(),
-        "src reads d/src.in, which is a folder\n",
-    );
-    let long = note(&rt, &TokenFile::TooLong)?;
-    expect_eq(
-        &rt,
-        long.as_str(),
-        "src reads d/src.in, which has more than 16777216 bytes\n",
-    );
-    Ok(())
+    let missing = "src reads d/src.in, which is missing\n";
+    expect_told(&rt, &TokenFile::Missing, missing)?;
+    let folder = "src reads d/src.in, which is a folder\n";
+    expect_told(&rt, &TokenFile::Folder, folder)?;
+    let long = "src reads d/src.in, which has more than 16777216 bytes\n";
+    expect_told(&rt, &TokenFile::TooLong, long)
 }
 
 #[test]

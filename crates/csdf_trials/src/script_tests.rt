@@ -415,29 +415,33 @@ fn faults_of_graphs_have_a_line(rt: HostRuntime) -> Result<(), Fail> {
     Ok(())
 }
 
-#[test]
-fn refusals_have_a_line(rt: HostRuntime) -> Result<(), Fail> {
-    expect_told(&rt, &ToolFault::Deadlock, "csdf: graph: deadlock", 1)?;
-    expect_told(&rt, &ToolFault::TooTight, "csdf: graph: too tight", 1)?;
-    let line = "csdf: script: line 99999";
-    expect_told(&rt, &ToolFault::Line(99_999), line, 1)?;
-    expect_told(&rt, &ToolFault::TooLong, "csdf: input too long", 1)
-}
+/// Faults that name nothing, their lines, and their statuses.
+const FAULTS: [(ToolFault, &str, u8); 9] = [
+    (ToolFault::Deadlock, "csdf: graph: deadlock", 1),
+    (ToolFault::TooTight, "csdf: graph: too tight", 1),
+    (ToolFault::Line(99_999), "csdf: script: line 99999", 1),
+    (ToolFault::TooLong, "csdf: input too long", 1),
+    (ToolFault::Mixed, "csdf: run: mixed", 3),
+    (ToolFault::Worker, "csdf: run: worker", 3),
+    (ToolFault::Memory, "csdf: memory", 3),
+    (
+        ToolFault::Device(Stream::Input),
+        "csdf: device: standard input",
+        3,
+    ),
+    (
+        ToolFault::Device(Stream::Output),
+        "csdf: device: standard output",
+        3,
+    ),
+];
 
-/// Asserts the lines of two devices that failed.
-fn expect_devices_told(rt: &(impl Abort + AllocGlobal)) -> Result<(), Fail> {
-    let input = ToolFault::Device(Stream::Input);
-    expect_told_once(rt, input, "csdf: device: standard input", 3)?;
-    let output = ToolFault::Device(Stream::Output);
-    expect_told_once(rt, output, "csdf: device: standard output", 3)
-}
-
 #[test]
-fn failures_have_a_line(rt: HostRuntime) -> Result<(), Fail> {
-    expect_told(&rt, &ToolFault::Mixed, "csdf: run: mixed", 3)?;
-    expect_told(&rt, &ToolFault::Worker, "csdf: run: worker", 3)?;
-    expect_told(&rt, &ToolFault::Memory, "csdf: memory", 3)?;
-    expect_devices_told(&rt)
+fn faults_have_a_line(rt: HostRuntime) -> Result<(), Fail> {
+    for (fault, line, status) in &FAULTS {
+        expect_told(&rt, fault, *line, *status)?;
+    }
+    Ok(())
 }
 
 #[test]

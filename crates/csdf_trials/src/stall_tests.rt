@@ -5,53 +5,71 @@ use csdf_analysis::{Bounds, Ratio, Stall, Wait, demand_of, repetition, stall_of}
 use std::process::Abort;
 use std::test::Fail;
 
-fn stall_in(rt: &HostRuntime, text: &str, bounds: Bounds) -> Result<Stall, Fail> {
+fn stall_in(rt: &impl AllocGlobal, text: &str, bounds: Bounds) -> Result<Stall, Fail> {
     let graph = graph(rt, text)?;
     let vector = repetition(rt.alloc(), &graph)?;
     Ok(stall_of(rt.alloc(), &graph, &vector, bounds)?)
 }
 
-/// Asserts the capacities, how often each actor has fired, what each channel holds, and what each actor
-/// waits for.
-fn check_stall(
-    rt: &impl Abort,
-    stall: &Stall,
-    bounds: &[u32],
-    counts: &[u32],
-    held: &[u32],
-    waits: &[Option<Wait>],
-) {
-    expect_eq(rt, stall.bounds.as_slice(), bounds);
-    expect_eq(rt, stall.counts.as_slice(), counts);
-    expect_eq(rt, stall.held.as_slice(), held);
-    expect_eq(rt, stall.waits.as_slice(), waits);
+/// Where a period of a graph stands still: the capacities, how often each actor has fired, what each channel
+/// holds, and what each actor waits for.
+struct Row {
+    text: &'static str,
+    bounds: Bounds,
+    capacities: &'static [u32],
+    counts: &'static [u32],
+    held: &'static [u32],
+    waits: &'static [Option<Wait>],
 }
 
-#[test]
-fn a_cycle_without_tokens_waits_for_them(rt: HostRuntime) -> Result<(), Fail> {
-    let stall = stall_in(&rt, STUCK_CYCLE, Bounds::Full)?;
-    let waits = [Some(Wait::Tokens(1)), Some(Wait::Tokens(0))];
-    check_stall(&rt, &stall, &[1, 1], &[0, 0], &[0, 0], &waits);
+const STALLS: [Row; 3] = [
+    // a cycle without tokens
+    Row {
+        text: STUCK_CYCLE,
+        bounds: Bounds::Full,
+        capacities: &[1, 1],
+        counts: &[0, 0],
+        held: &[0, 0],
+        waits: &[Some(Wait::Tokens(1)), Some(Wait::Tokens(0))],
+    },
+    // a full channel
+    Row {
+        text: TIGHT_CHAIN,
+        bounds: Bounds::Given,
+        capacities: &[3, 2],
+        counts: &[1, 0, 0],
+        held: &[2, 0],
+        waits: &[
+            Some(Wait::Room(0)),
+            Some(Wait::Tokens(0)),
+            Some(Wait::Tokens(1)),
+        ],
+    },
+    // a whole period, which waits for nothing
+    Row {
+        text: CHAIN,
+        bounds: Bounds::Full,
+        capacities: &[6, 2],
+        counts: &[3, 2, 1],
+        held: &[0, 0],
+        waits: &[None, None, None],
+    },
+];
+
+fn check_stall(rt: &(impl Abort + AllocGlobal), row: &Row) -> Result<(), Fail> {
+    let stall = stall_in(rt, row.text, row.bounds)?;
+    expect_eq(rt, stall.bounds.as_slice(), row.capacities);
+    expect_eq(rt, stall.counts.as_slice(), row.counts);
+    expect_eq(rt, stall.held.as_slice(), row.held);
+    expect_eq(rt, stall.waits.as_slice(), row.waits);
     Ok(())
 }
 
 #[test]
-fn a_full_channel_is_waited_for(rt: HostRuntime) -> Result<(), Fail> {
-    let stall = stall_in(&rt, TIGHT_CHAIN, Bounds::Given)?;
-    let waits = [
-        Some(Wait::Room(0)),
-        Some(Wait::Tokens(0)),
-        Some(Wait::Tokens(1)),
-    ];
-    check_stall(&rt, &stall, &[3, 2], &[1, 0, 0], &[2, 0], &waits);
-    Ok(())
-}
-
-#[test]
-fn a_whole_period_waits_for_nothing(rt: HostRuntime) -> Result<(), Fail> {
-    let stall = stall_in(&rt, CHAIN, Bounds::Full)?;
-    let waits = [None, None, None];
-    check_stall(&rt, &stall, &[6, 2], &[3, 2, 1], &[0, 0], &waits);
+fn periods_stand_still(rt: HostRuntime) -> Result<(), Fail> {
+    for row in &STALLS {
+        check_stall(&rt, row)?;
+    }
     Ok(())
 }
 
