@@ -381,6 +381,7 @@ impl Core {
     ghost use Rattle.csdf_core.specs.Shows.{Plays};
     ghost use Rattle.csdf_core.specs.Step.{count, stage, given, is_source, begun_count, held, reserved, refusal};
     ghost use Rattle.csdf_core.specs.Moves.{Begin};
+    ghost use Rattle.csdf_core.specs.Plan.{consume_at, from_at, produce_at, to_at};
     ghost use Rattle.csdf_core.specs.Rows.{gift};
 
     /// Whether the source's file has the tokens of its firings, which give so many from now on.
@@ -580,7 +581,11 @@ impl Core {
     /// one entry.
     pub fn has_one_phase(&self, actor: u32) -> bool
         requires { actor < length self.now.plan.sources }
-        ensures { IsTrue result → HasPhases self.now.plan.channels actor 1 }
+        ensures each { IsTrue result → HasPhases self.now.plan.channels actor 1 }
+        ensures takes { (c : ℕ) → c < length self.now.plan.channels → to_at self.now.plan.channels c ≡ actor
+            → length (consume_at self.now.plan.channels c) ≡ 1 → IsTrue result }
+        ensures gives { (c : ℕ) → c < length self.now.plan.channels → from_at self.now.plan.channels c ≡ actor
+            → length (produce_at self.now.plan.channels c) ≡ 1 → IsTrue result }
     {
         self.layout.phases(actor) == 1
     }
