@@ -31,3 +31,4 @@ pub mod MadeFloors
 pub mod OneFirings
 pub mod MoreFirings
 pub mod LoopMakings
+pub mod Drafted

@@ -10,3 +10,4 @@ pub mod Outcome
 pub mod Report
 pub mod Periods
 pub mod Making
+pub mod Drafts

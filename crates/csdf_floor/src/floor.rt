@@ -13,11 +13,13 @@ ghost use Rattle.csdf_floor.specs.declared.fault.DeliverFault.TheVariants.{Memor
 ghost use Rattle.csdf_floor.specs.Journal.{IsHonest};
 ghost use Rattle.csdf_floor.specs.Work.{AreFeeds, HasFewFirings, feeds_in, program};
 ghost use Rattle.csdf_floor.specs.Making.{made_moves, closes_made};
+ghost use Rattle.csdf_floor.specs.Drafts.{IsDraftOf};
 ghost use Rattle.csdf_floor.specs.Outcome.{HasTotals, IsEndOf, IsOutcome, journal_in};
 ghost use Rattle.csdf_floor.specs.Floor.{HasGone, IsFloor, IsReady, IsStartAnswer, IsUnderWay, IsDeliverAnswer, closes, closes_after, ending_of};
 ghost use Rattle.csdf_floor.specs.Floor.{present_task, start_refusal, task_of};
 
 use crate::book::Book;
+use crate::draft::Draft;
 use crate::ending::ending_of;
 use crate::fault::{DeliverFault, StartFault};
 use crate::outcome::Outcome;
@@ -249,6 +251,63 @@ impl Floor {
         let n = self.book.make_many(actor, most, counts, outputs)?;
         let producer = actor;
         self.book.close_outputs(producer);
+        Ok(n)
+    }
+
+    /// Puts the actor's next firings into the draft, where the actor stands at this firing: as many as can
+    /// be made at once, and at most so many. The draft has none where they take fewer products than
+    /// `heavy`, where the journal is kept, and for an actor of several phases, with a channel to itself or
+    /// that is a source. An error, that memory ran out, leaves none in it as well.
+    pub fn draft(
+        &self,
+        actor: u32,
+        firing: u32,
+        most: u32,
+        heavy: u64,
+        draft: &mut Draft,
+    ) -> Result<(), StartFault>
+        ensures answer { IsStartAnswer (start_refusal self.now actor firing) result }
+        ensures draft { OnOk result (0 < draft.new.firings → IsDraftOf self.now actor draft.new) }
+        ensures most { OnOk result (draft.new.firings ≤ most) }
+        ensures none { OnErr result (draft.new.firings ≡ 0) }
+        ensures open { draft.new.is_made ≡ false }
+    {
+        if let Some(refused) = self.start_refusal(actor, firing) {
+            draft.clear();
+            return Err(refused);
+        }
+        self.book.draft_into(actor, most, heavy, draft)?;
+        Ok(())
+    }
+
+    /// As [`Floor::make`]. Where the draft was evaluated and is one of the actor's next firings, and of at
+    /// most so many, these are made, and nothing is evaluated.
+    pub fn make_from(
+        &mut self,
+        actor: u32,
+        firing: u32,
+        most: u32,
+        draft: &Draft,
+        counts: &mut Counts,
+        outputs: &mut Outputs,
+    ) -> Result<u32, StartFault>
+        ensures answer { IsStartAnswer (start_refusal self.old actor firing) result }
+        ensures most { IfOk result (λ n. n ≤ most) }
+        ensures some { IfOk result (λ n. 0 < most → 0 < n) }
+        ensures gone { IfOk result (λ n. 0 < n → HasGone self.old self.new (made_moves self.old actor n ++ closes_made self.old actor n)) }
+        ensures none { IfOk result (λ n. n ≡ 0 → self.new ≡ self.old) }
+        ensures unchanged { OnErr result (self.new ≡ self.old) }
+    {
+        if let Some(refused) = self.start_refusal(actor, firing) {
+            return Err(refused);
+        }
+        if most == 0 {
+            return Ok(0);
+        }
+        let n = self
+            .book
+            .make_many_from(actor, most, draft, counts, outputs)?;
+        self.book.close_outputs(actor);
         Ok(n)
     }
 

@@ -4,6 +4,8 @@
 
 mod book;
 mod certain;
+mod draft;
+mod drafting;
 mod ending;
 mod fault;
 mod floor;
@@ -19,6 +21,7 @@ mod same;
 mod settling;
 mod work;
 
+pub use draft::Draft;
 pub use ending::Ending;
 pub use fault::{DeliverFault, RunFault, StartFault};
 pub use floor::Floor;

@@ -71,7 +71,7 @@ impl Book {
     }
 
     /// Copies what the actor's next n firings read into its buffer, which is as long.
-    fn peek(&mut self, actor: u32, n: u32)
+    pub(crate) fn peek(&mut self, actor: u32, n: u32)
         requires can { CanFire self.old.shown.core.plan self.old.shown.core.now actor n }
         requires buffer { length (slice_index_or self.old.reads actor [])
             ≡ needs_of self.old.shown.core.plan.channels actor (count self.old.shown.core.now actor) n }
@@ -159,7 +159,7 @@ impl Book {
 
     /// Makes the actor's next n firings, each of which writes so many tokens: the kernel's values of
     /// what is in the actor's buffer, which is what they read.
-    fn fire(&mut self, actor: u32, n: u32, each: usize, tokens: &[i32])
+    pub(crate) fn fire(&mut self, actor: u32, n: u32, each: usize, tokens: &[i32])
         requires can { CanFire self.old.shown.core.plan self.old.shown.core.now actor n }
         requires phases { HasPhases self.old.shown.core.plan.channels actor 1 }
         requires each { each ≡ gift actor (count self.old.shown.core.now actor) self.old.shown.core.plan.channels }

@@ -1,0 +1,21 @@
+use Rattle.std.proofs.Common.{◌≡◌, ℕ, [], get_or, sym, subst, refl, ◌∙◌}
+use Rattle.csdf_core.specs.Step.{count}
+use Rattle.csdf_floor.specs.Making.{made_value}
+use Rattle.csdf_floor.specs.Drafts.{Suits}
+use Rattle.csdf_floor.specs.Floor.{FloorView}
+use Rattle.csdf_floor.specs.Inside.{BookView}
+use Rattle.csdf_floor.specs.Work.{program}
+use Rattle.csdf_floor.proofs.Drafted.{drafted_is}
+use Rattle.csdf_floor.proofs.book.Book.make_suited.Goals as goal
+
+pub fire-requires-clause-just : goal.fire-requires-clause-just
+fire-requires-clause-just c =
+    let plan : c.peek.new.self.shown.core.plan ≡ (program c.peek.new.self.shown.work).plan =
+    subst (λ (b : BookView). b.shown.core.plan ≡ (program b.shown.work).plan) c.self.view_is c.self.invariant.kept.plan in
+    let suits : Suits c.peek.new.self.shown c.args.actor c.args.draft.now =
+    subst (λ (f : FloorView). Suits f c.args.actor c.args.draft.now) (sym (c.peek.ensures.shown ∙ c.in_ok-make_room_for.ensures.shown)) c.requires.suits in
+    subst (λ (n : ℕ). c.values.result.now
+    ≡ made_value (program c.peek.new.self.shown.work) c.args.actor (count c.peek.new.self.shown.core.now c.args.actor) n
+    (get_or c.peek.new.self.reads c.args.actor [])) (sym c.firings-n.ensures)
+    (drafted_is c.peek.new.self.shown c.args.actor c.args.draft.now (get_or c.peek.new.self.reads c.args.actor []) c.values.result.now plan suits
+    (sym c.inputs-2.ensures ∙ c.if-not-has_in_buffer.ensures.0 refl) c.values.ensures)

@@ -1,0 +1,135 @@
+//! Firings that are evaluated before they are made.
+
+ghost use Rattle.std.specs.Prelude.{◌≡◌, ◌<◌, ◌≤◌, ◌*◌, IsTrue, OnOk, OnErr, false, length, true};
+ghost use Rattle.csdf_kernel.specs.Value.{values_of};
+
+use crate::same::is_same_kernel;
+use csdf_kernel::{Counts, Outputs, eval_block};
+use csdf_model::Kernel;
+use std::alloc::{AllocError, Global};
+use std::marker::Model;
+
+/// Several firings of an actor that are evaluated before they are made: what they compute from, and then
+/// their values. It needs nothing but what is in it. A contract sees no values: all else determines them.
+#[derive(Drop)]
+pub struct Draft {
+    pub(crate) kernel: Kernel,
+    pub(crate) counts: Counts,
+    pub(crate) need: usize,
+    pub(crate) firings: u32,
+    pub(crate) inputs: Vec<i32>,
+    pub(crate) outputs: Outputs,
+    pub(crate) is_made: bool,
+}
+
+impl Model for Draft {
+    ghost use Rattle.std.specs.Prelude.{◌≡◌, ◌<◌, true};
+    ghost use Rattle.csdf_kernel.specs.Value.{values_of};
+    ghost use Rattle.csdf_floor.specs.Drafts.{DraftView, IsSound};
+
+    ghost Value = { DraftView };
+
+    ghost view = { λ d. record { kernel = d.kernel; counts = d.counts.items; need = d.need; firings = d.firings; inputs = d.inputs.items; is_made = d.is_made } };
+
+    ghost invariant = { λ d. (0 < d.firings → IsSound d.kernel d.counts.items d.need d.firings d.inputs.items)
+        × (d.is_made ≡ true → d.outputs.items ≡ values_of d.kernel d.counts.items d.need d.firings d.inputs.items) };
+}
+
+impl Draft {
+    /// A draft of no firing.
+    pub fn new(alloc: Global) -> Draft
+        ensures firings { result.firings ≡ 0 }
+        ensures is_made { result.is_made ≡ false }
+    {
+        Draft {
+            kernel: Kernel::Sink,
+            counts: Counts::new(alloc),
+            need: 0,
+            firings: 0,
+            inputs: Vec::new(alloc),
+            outputs: Outputs::new(alloc),
+            is_made: false,
+        }
+    }
+
+    /// How many firings.
+    pub fn firings(&self) -> u32
+        ensures { result ≡ self.now.firings }
+    {
+        self.firings
+    }
+
+    /// What each of them computes from, end to end.
+    pub(crate) fn inputs(&self) -> &[i32]
+        ensures { result.now ≡ self.now.inputs }
+    {
+        &self.inputs
+    }
+
+    /// Whether they are firings of this kernel, with these inputs each, of which there are so many in all.
+    pub(crate) fn is_of(&self, kernel: &Kernel, need: usize, inputs: usize) -> bool
+        ensures kernel { IsTrue result → self.now.kernel ≡ kernel.now }
+        ensures need { IsTrue result → self.now.need ≡ need }
+        ensures inputs { IsTrue result → length self.now.inputs ≡ inputs }
+    {
+        if !is_same_kernel(&self.kernel, kernel) {
+            return false;
+        }
+        if self.need != need {
+            return false;
+        }
+        self.inputs.len() == inputs
+    }
+
+    /// How many tokens each of them writes to each output.
+    pub(crate) fn counts(&self) -> &[u32]
+        ensures { result.now ≡ self.now.counts }
+    {
+        self.counts.as_slice()
+    }
+
+    /// From now on it has no firing.
+    pub(crate) fn clear(&mut self)
+        ensures firings { self.new.firings ≡ 0 }
+        ensures is_made { self.new.is_made ≡ false }
+    {
+        self.is_made = false;
+        self.firings = 0;
+    }
+
+    /// The kernel's values, end to end, where the draft was evaluated.
+    pub(crate) fn values(&self) -> &[i32]
+        requires { self.now.is_made ≡ true }
+        ensures { result.now ≡ values_of self.now.kernel self.now.counts self.now.need self.now.firings self.now.inputs }
+    {
+        self.outputs.as_slice()
+    }
+
+    /// Evaluates the firings. Where there are none it does nothing.
+    ///
+    /// An error says that memory ran out; then they are not evaluated.
+    pub fn evaluate(&mut self) -> Result<(), AllocError>
+        ensures kernel { self.new.kernel ≡ self.old.kernel }
+        ensures counts { self.new.counts ≡ self.old.counts }
+        ensures need { self.new.need ≡ self.old.need }
+        ensures firings { self.new.firings ≡ self.old.firings }
+        ensures inputs { self.new.inputs ≡ self.old.inputs }
+        ensures made { OnOk result (0 < self.old.firings → self.new.is_made ≡ true) }
+        ensures none { OnErr result (self.new.is_made ≡ false) }
+    {
+        self.is_made = false;
+        if self.firings == 0 {
+            return Ok(());
+        }
+        eval_block(
+            &self.kernel,
+            self.counts.as_slice(),
+            self.need,
+            self.firings,
+            self.inputs.as_slice(),
+            &mut self.outputs,
+        )?;
+        self.is_made = true;
+        Ok(())
+    }
+}

@@ -1,0 +1,223 @@
+//! Drafts of an actor's next firings, and how firings are made from them.
+
+ghost use Rattle.std.specs.Prelude.{◌≡◌, ◌↔◌, ◌<◌, ◌≤◌, ◌*◌, IsTrue, IfOk, IfSome, OnOk, OnErr, None, [], false, true, length, slice_index_or};
+ghost use Rattle.csdf_model.specs.declared.parts.Kernel.TheVariants.{Sink};
+ghost use Rattle.csdf_core.specs.declared.stage.Stage.TheVariants.{Idle};
+ghost use Rattle.csdf_core.specs.Blocks.{AreReadEach, CanFire, needs_of};
+ghost use Rattle.csdf_core.specs.Moves.{Begin};
+ghost use Rattle.csdf_core.specs.Phases.{HasPhases};
+ghost use Rattle.csdf_core.specs.Ports.{outputs_at};
+ghost use Rattle.csdf_core.specs.Rows.{need};
+ghost use Rattle.csdf_core.specs.Step.{count, is_source, refusal, stage};
+ghost use Rattle.csdf_floor.specs.Drafts.{IsDraftOf, Suits, taps_of};
+ghost use Rattle.csdf_floor.specs.Making.{HasMade, made_moves};
+ghost use Rattle.csdf_floor.specs.Work.{program};
+
+use crate::book::Book;
+use crate::draft::Draft;
+use crate::same::are_same_tokens;
+use csdf_core::{Block, Core};
+use csdf_kernel::{Counts, Outputs};
+use csdf_model::Kernel;
+use std::alloc::{AllocError, Global};
+
+/// How many taps a filter has; none for another kernel.
+fn taps_of(kernel: &Kernel) -> u32
+    ensures { result ≡ taps_of kernel.now }
+{
+    match kernel {
+        Kernel::Fir { taps, .. } => *taps,
+        _ => 0,
+    }
+}
+
+/// Puts what the actor's next n firings read, which is so much, in the place of what the list holds.
+fn read_ahead(
+    core: &Core,
+    actor: u32,
+    n: u32,
+    needed: usize,
+    inputs: &mut Vec<i32>,
+) -> Result<(), AllocError>
+    requires can { CanFire core.now.plan core.now.now actor n }
+    requires needed { needed ≡ needs_of core.now.plan.channels actor (count core.now.now actor) n }
+    ensures read { OnOk result (AreReadEach core.now.plan core.now.now actor (count core.now.now actor) n inputs.new.items) }
+    ensures long { OnOk result (length inputs.new.items ≡ needed) }
+{
+    inputs.resize(needed, 0)?;
+    core.peek(actor, n, inputs.as_mut_slice());
+    Ok(())
+}
+
+impl Book {
+    /// How many tokens n firings of the actor read, which has one phase.
+    fn needed(&self, actor: u32, n: u32) -> usize
+        requires exists { actor < length self.now.shown.core.plan.sources }
+        requires phases { HasPhases self.now.shown.core.plan.channels actor 1 }
+        ensures all { result ≡ needs_of self.now.shown.core.plan.channels actor (count self.now.shown.core.now actor) n }
+        ensures each { result ≡ n * need actor (count self.now.shown.core.now actor) self.now.shown.core.plan.channels }
+    {
+        n as usize * self.core.need(actor)
+    }
+
+    /// Whether the draft has what the actor's next firings compute from, but for their tokens.
+    fn suits(&self, actor: u32, draft: &Draft) -> bool
+        requires { actor < length self.now.shown.core.plan.sources }
+        ensures { IsTrue result → Suits self.now.shown actor draft.now }
+    {
+        if self.journal.keeps() || self.work.is_source(actor) {
+            return false;
+        }
+        let n = draft.firings();
+        if !self.core.has_one_phase(actor) || !self.core.can_fire(actor, n) {
+            return false;
+        }
+        let fired = self.core.fired(actor);
+        if !self.work.are_counts(actor, fired, draft.counts()) {
+            return false;
+        }
+        let needed = self.needed(actor, n);
+        draft.is_of(self.work.kernel(actor), self.core.need(actor), needed)
+    }
+
+    /// Whether these are the tokens in the actor's buffer.
+    fn has_in_buffer(&self, actor: u32, tokens: &[i32]) -> bool
+        requires { actor < length self.now.shown.core.plan.sources }
+        ensures { IsTrue result ↔ (tokens.now ≡ slice_index_or self.now.reads actor []) }
+    {
+        are_same_tokens(tokens, &self.reads[actor as usize])
+    }
+
+    /// Makes the firings of the draft, which was evaluated and suits the actor, where these are the
+    /// tokens that they read. False where they are not; then nothing is made.
+    fn make_suited(&mut self, alloc: Global, actor: u32, draft: &Draft) -> Result<bool, AllocError>
+        requires suits { Suits self.old.shown actor draft.now }
+        requires made { draft.now.is_made ≡ true }
+        ensures made { IfOk result (λ is_made. IsTrue is_made
+            → HasMade self.old.shown self.new.shown actor draft.now.firings (made_moves self.old.shown actor draft.now.firings)) }
+        ensures room { IfOk result (λ is_made. IsTrue is_made → length (outputs_at self.old.shown.core.plan.channels actor) ≤ self.new.room) }
+        ensures none { IfOk result (λ is_made. is_made ≡ false → self.new.shown ≡ self.old.shown) }
+        ensures unchanged { OnErr result (self.new.shown ≡ self.old.shown) }
+    {
+        let n = draft.firings();
+        self.make_room_for(alloc, actor, n, draft.inputs().len())?;
+        self.peek(actor, n);
+        if !self.has_in_buffer(actor, draft.inputs()) {
+            return Ok(false);
+        }
+        let each = self.core.gives(actor);
+        self.fire(actor, n, each, draft.values());
+        Ok(true)
+    }
+
+    /// Makes the firings of the draft, where they are the actor's next ones and were evaluated. False
+    /// where not; then nothing is made.
+    fn make_drafted(&mut self, alloc: Global, actor: u32, draft: &Draft) -> Result<bool, AllocError>
+        requires exists { actor < length self.old.shown.core.plan.sources }
+        ensures made { IfOk result (λ is_made. IsTrue is_made
+            → HasMade self.old.shown self.new.shown actor draft.now.firings (made_moves self.old.shown actor draft.now.firings)) }
+        ensures room { IfOk result (λ is_made. IsTrue is_made → length (outputs_at self.old.shown.core.plan.channels actor) ≤ self.new.room) }
+        ensures none { IfOk result (λ is_made. is_made ≡ false → self.new.shown ≡ self.old.shown) }
+        ensures unchanged { OnErr result (self.new.shown ≡ self.old.shown) }
+    {
+        if !draft.is_made || !self.suits(actor, draft) {
+            return Ok(false);
+        }
+        self.make_suited(alloc, actor, draft)
+    }
+
+    /// As [`Book::make_many`]: from the draft where it is one of the actor's next firings, of which it
+    /// has some and at most so many.
+    pub(crate) fn make_many_from(
+        &mut self,
+        actor: u32,
+        most: u32,
+        draft: &Draft,
+        counts: &mut Counts,
+        outputs: &mut Outputs,
+    ) -> Result<u32, AllocError>
+        requires exists { actor < length self.old.shown.core.plan.sources }
+        requires idle { stage self.old.shown.core.now actor ≡ Idle }
+        requires accepted { refusal self.old.shown.core.plan self.old.shown.core.now (Begin actor) ≡ None }
+        requires some { 0 < most }
+        ensures some { IfOk result (λ n. 0 < n) }
+        ensures most { IfOk result (λ n. n ≤ most) }
+        ensures made { IfOk result (λ n. HasMade self.old.shown self.new.shown actor n (made_moves self.old.shown actor n)) }
+        ensures room { OnOk result (length (outputs_at self.old.shown.core.plan.channels actor) ≤ self.new.room) }
+        ensures unchanged { OnErr result (self.new.shown ≡ self.old.shown) }
+    {
+        let n = draft.firings();
+        if n == 0 || n > most {
+            return self.make_many(actor, most, counts, outputs);
+        }
+        if self.make_drafted(*outputs.allocator(), actor, draft)? {
+            return Ok(n);
+        }
+        self.make_many(actor, most, counts, outputs)
+    }
+
+    /// How many products so many firings of the actor take, as each of its outputs gets what they read:
+    /// none where it is no filter.
+    fn products(&self, actor: u32, n: u32) -> u64
+        requires { actor < length self.now.shown.core.plan.sources }
+        ensures { result ≡ n * need actor (count self.now.shown.core.now actor) self.now.shown.core.plan.channels
+            * taps_of (slice_index_or (program self.now.shown.work).kernels actor Sink) }
+    {
+        let each = u64::from(n) * self.core.need(actor) as u64;
+        each * u64::from(taps_of(self.work.kernel(actor)))
+    }
+
+    /// The actor's next firings, as many as can be made at once and at most so many, where they can be
+    /// drafted and take so many products at least.
+    fn draftable(&self, actor: u32, most: u32, heavy: u64) -> Option<Block>
+        requires { actor < length self.now.shown.core.plan.sources }
+        ensures some { IfSome result (λ block. 0 < block.firings) }
+        ensures most { IfSome result (λ block. block.firings ≤ most) }
+        ensures can { IfSome result (λ block. CanFire self.now.shown.core.plan self.now.shown.core.now actor block.firings) }
+        ensures needed { IfSome result (λ block. block.needed
+            ≡ needs_of self.now.shown.core.plan.channels actor (count self.now.shown.core.now actor) block.firings) }
+        ensures keeps { IfSome result (λ block. self.now.shown.keeps ≡ false) }
+        ensures phases { IfSome result (λ block. HasPhases self.now.shown.core.plan.channels actor 1) }
+        ensures other { IfSome result (λ block. is_source (program self.now.shown.work).plan actor ≡ false) }
+    {
+        if self.work.is_source(actor) || self.products(actor, most) < heavy {
+            return None;
+        }
+        let block = self.block(actor, most);
+        if block.firings == 0 || self.products(actor, block.firings) < heavy {
+            return None;
+        }
+        Some(block)
+    }
+
+    /// Puts the actor's next firings into the draft, as many as can be made at once and at most so many,
+    /// where they take so many products at least. Else the draft has none.
+    pub(crate) fn draft_into(
+        &self,
+        actor: u32,
+        most: u32,
+        heavy: u64,
+        draft: &mut Draft,
+    ) -> Result<(), AllocError>
+        requires exists { actor < length self.now.shown.core.plan.sources }
+        ensures draft { OnOk result (0 < draft.new.firings → IsDraftOf self.now.shown actor draft.new) }
+        ensures most { OnOk result (draft.new.firings ≤ most) }
+        ensures open { draft.new.is_made ≡ false }
+        ensures none { OnErr result (draft.new.firings ≡ 0) }
+    {
+        draft.is_made = false;
+        draft.firings = 0;
+        let Some(block) = self.draftable(actor, most, heavy) else {
+            return Ok(());
+        };
+        let n = block.firings;
+        self.work
+            .counts_into(actor, self.core.fired(actor), &mut draft.counts)?;
+        let needed = self.needed(actor, n);
+        read_ahead(&self.core, actor, n, needed, &mut draft.inputs)?;
+        draft.kernel = *self.work.kernel(actor);
+        draft.need = self.core.need(actor);
+        draft.firings = n;
+        Ok(())
+    }
+}
