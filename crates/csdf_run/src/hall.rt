@@ -109,6 +109,7 @@ impl<K: Asked> Hall<K> {
             ready: self.ready.load(SeqCst),
             next: 0,
             light: if self.is_alone { u64::MAX } else { 0 },
+            drafted: 0,
         }
     }
 
@@ -128,15 +129,19 @@ impl<K: Asked> Hall<K> {
         }
     }
 
-    /// Whether this worker makes the actor's firings one after another under the lock.
+    /// Whether this worker makes the actor's firings one after another.
     pub(crate) fn makes_blocks(&self, stand: &Stand, actor: u32) -> bool {
-        (self.is_alone || stand.tends) && stand.light & bit_of(actor) != 0
+        let bit = bit_of(actor);
+        let tends = self.is_alone || stand.tends;
+        (tends && stand.light & bit != 0) || stand.drafted & bit != 0
     }
 
     /// Whether this worker can go on by making an actor's firings under the lock, once what is in hand is
     /// delivered.
     pub(crate) fn has_blocks(&self, stand: &Stand) -> bool {
-        (self.is_alone || stand.tends) && (self.seen(stand) | stand.next) & stand.light != 0
+        let near = self.seen(stand) | stand.next;
+        let tends = self.is_alone || stand.tends;
+        (tends && near & stand.light != 0) || near & stand.drafted != 0
     }
 
     /// Tells where to look, under the lock. True where the teller is to wake a worker.
@@ -145,7 +150,7 @@ impl<K: Asked> Hall<K> {
             return false;
         }
         let spare = watched.spare();
-        put(&self.ready, watched.hints.ready());
+        put(&self.ready, watched.ready());
         put(&self.spare, spare);
         watched
             .policy
@@ -187,8 +192,43 @@ impl<K: Asked> Hall<K> {
         }
     }
 
-    /// Makes firings of an actor one after another, the claimed one first, in one hold of the lock. All
-    /// of them pass the gate. Nothing is in hand then.
+    /// The worker leaves the lock to evaluate what it has drafted, and tends no longer. The lock is held.
+    fn leave(&self, watched: &mut Watched<K>, stand: &mut Stand) {
+        watched.policy.rests(stand.tends);
+        stand.tends = false;
+        if self.tell(watched, Teller::Fires) {
+            self.wake();
+        }
+    }
+
+    /// Evaluates the firings of an actor that were drafted, the claimed one first, and makes them in one
+    /// hold of the lock.
+    fn make_drafted<R: Wait, G: Gate>(
+        &self,
+        rt: &R,
+        gate: &G,
+        stand: &mut Stand,
+        hand: &mut Hand,
+        claim: Claim,
+    ) -> BlockTurn
+        requires open { (a k : ℕ) → G.passed gate.now a k }
+        ensures idle { hand.new.is_made ≡ false }
+        ensures claim { IfOk result.made (λ made. made.claim ≡ claim) }
+        ensures some { IfOk result.made (λ made. 0 < made.count) }
+        ensures fits { IfOk result.made (λ made. CanEnd claim made.count) }
+    {
+        hand.evaluate_draft(gate);
+        let mut guard = self.watched.lock(rt);
+        let watched = &mut *guard;
+        let made = watched.make_drafted(gate, claim, hand);
+        *stand = watched.stand(stand.tends, None);
+        let wakes = self.tell(watched, Teller::Looks);
+        BlockTurn { made, wakes }
+    }
+
+    /// Makes firings of an actor one after another, the claimed one first: light ones in one hold of the
+    /// lock, heavy ones in two, and evaluates them in between. All of them pass the gate. Nothing is in
+    /// hand then.
     pub(crate) fn make<R: Wait, G: Gate>(
         &self,
         rt: &R,
@@ -208,6 +248,11 @@ impl<K: Asked> Hall<K> {
         let _ = place;
         let mut guard = self.watched.lock(rt);
         let watched = &mut *guard;
+        if !self.is_alone && watched.draft(claim, hand) {
+            self.leave(watched, stand);
+            drop(guard);
+            return self.make_drafted(rt, gate, stand, hand, claim);
+        }
         let made = watched.make(gate, claim, hand);
         *stand = watched.stand(stand.tends, None);
         let wakes = self.tell(watched, Teller::Looks);

@@ -8,18 +8,20 @@ ghost use Rattle.csdf_run.specs.Hand.{claim_in};
 
 use crate::claims::Claim;
 use crate::gate::Gate;
-use csdf_floor::{Floor, StartFault};
+use csdf_floor::{Draft, Floor, StartFault};
 use csdf_kernel::{Job, Outputs, eval_into};
 use std::alloc::{AllocError, Global};
 use std::marker::Model;
 
 /// A job, and its outputs once it was evaluated behind the gate. Only [`Hand::evaluate`] says so of a job,
 /// and no other call lends out tokens to deliver than [`Hand::tokens`]. A contract sees the job and
-/// whether it was made: the job determines the outputs.
+/// whether it was made: the job determines the outputs. Beside it there is a draft of firings that are
+/// made at once, which the floor looks at again before it makes them.
 #[derive(Drop)]
 pub(crate) struct Hand {
     job: Job,
     outputs: Outputs,
+    draft: Draft,
     is_made: bool,
 }
 
@@ -44,6 +46,7 @@ impl Hand {
         Hand {
             job: Job::blank(alloc),
             outputs: Outputs::new(alloc),
+            draft: Draft::new(alloc),
             is_made: false,
         }
     }
@@ -105,8 +108,31 @@ impl Hand {
         }
     }
 
+    /// Drafts firings of an actor, the claimed one first: at most so many, which take so many products at
+    /// least. False where there are none.
+    pub(crate) fn draft(&mut self, floor: &Floor, claim: Claim, most: u32, heavy: u64) -> bool
+        ensures { self.new ≡ self.old }
+    {
+        let draft = &mut self.draft;
+        match floor.draft(claim.actor, claim.firing, most, heavy, draft) {
+            Ok(()) => draft.firings() > 0,
+            Err(_fault) => false,
+        }
+    }
+
+    /// Evaluates the draft, all of whose firings pass the gate. Where memory runs out it is not evaluated.
+    pub(crate) fn evaluate_draft<G: Gate>(&mut self, gate: &G)
+        requires open { (a k : ℕ) → G.passed gate.now a k }
+        ensures { self.new ≡ self.old }
+    {
+        let _ = gate;
+        match self.draft.evaluate() {
+            Ok(()) | Err(_) => {}
+        }
+    }
+
     /// Makes firings of an actor on the floor, the claimed one first: at most so many, all of which
-    /// pass the gate. Nothing is in hand then.
+    /// pass the gate. They are those of the draft where it was evaluated. Nothing is in hand then.
     pub(crate) fn make<G: Gate>(
         &mut self,
         floor: &mut Floor,
@@ -127,7 +153,8 @@ impl Hand {
         self.is_made = false;
         let counts = &mut self.job.counts;
         let outputs = &mut self.outputs;
-        floor.make(claim.actor, claim.firing, most, counts, outputs)
+        let draft = &self.draft;
+        floor.make_from(claim.actor, claim.firing, most, draft, counts, outputs)
     }
 
     /// Evaluates the job, whose worker has passed the gate.

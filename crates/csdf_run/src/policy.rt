@@ -7,6 +7,10 @@ use csdf_model::Kernel;
 /// How many products, or tokens, make a firing heavy: it takes about as long as to wake a worker.
 const HEAVY: usize = 16_384;
 
+/// How many products make a block of firings heavy, so that it is evaluated without the lock: some 30
+/// microseconds.
+pub(crate) const HEAVY_BLOCK: u64 = 65_536;
+
 /// The workers of a run.
 #[derive(Clone, Copy)]
 pub(crate) struct Crew {
@@ -52,12 +56,17 @@ pub(crate) enum Teller {
 /// under the lock that nothing is spare before it sleeps, or starts a firing and tells in its turn.
 /// Firings of a light actor are made one after another under the lock by the one who tends, or by the one
 /// worker that there is, which makes those of all. An actor is light once it is seen to be so.
+/// Where there are others, a worker leaves the lock to evaluate a block of firings that is heavy: it has
+/// *drafted* it, and tends no longer. Whose last block was drafted is spare too; while it is, nobody looks
+/// for the actor.
 /// None is woken in vain: it is woken for an actor that nobody else looks for, once the claims of the one
 /// who wakes it have ended, and finds it unless another was faster or its start is refused.
 #[derive(Drop)]
 pub(crate) struct Policy {
     heavy: u64,
     light: u64,
+    blocks: u64,
+    drafted: u64,
     is_tended: bool,
     sleeping: u32,
     woken: u32,
@@ -83,6 +92,8 @@ impl Policy {
         Policy {
             heavy: if crew.may_wait { u64::MAX } else { 0 },
             light: if crew.is_alone() { u64::MAX } else { 0 },
+            blocks: 0,
+            drafted: 0,
             is_tended: false,
             sleeping: 0,
             woken: 0,
@@ -129,6 +140,32 @@ impl Policy {
         self.light
     }
 
+    /// The actors whose last firings were drafted.
+    pub(crate) fn blocks(&self) -> u64 {
+        self.blocks
+    }
+
+    /// A worker has claimed an actor, and drafts firings of it, or finds that they are light.
+    pub(crate) fn drafts(&mut self, actor: u32, is_drafted: bool) {
+        let bit = bit_of(actor);
+        if is_drafted {
+            self.blocks |= bit;
+            self.drafted |= bit;
+        } else {
+            self.blocks &= !bit;
+        }
+    }
+
+    /// The drafted firings of an actor are about to be made.
+    pub(crate) fn has_drafted(&mut self, actor: u32) {
+        self.drafted &= !bit_of(actor);
+    }
+
+    /// Those of these actors of whom no firings are drafted.
+    pub(crate) fn undrafted(&self, ready: u64) -> u64 {
+        ready & !self.drafted
+    }
+
     /// A worker that finds nothing to start tends no longer.
     pub(crate) fn rests(&mut self, tended: bool) {
         self.is_tended = self.is_tended && !tended;
@@ -136,10 +173,11 @@ impl Policy {
 
     /// The spare ones of the actors that can begin.
     pub(crate) fn spare(&self, ready: u64) -> u64 {
+        let free = self.undrafted(ready);
         if self.is_tended {
-            ready & self.heavy
+            free & (self.heavy | self.blocks)
         } else {
-            ready
+            free
         }
     }
 

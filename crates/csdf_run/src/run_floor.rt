@@ -127,8 +127,17 @@ impl<K: Asked> RunFloor<K> {
         hand.start(&mut self.floor, actor, firing)
     }
 
+    /// Drafts firings of an actor, the claimed one first: at most so many, which take so many products at
+    /// least. False where there are none.
+    pub(crate) fn draft(&self, claim: Claim, most: u32, heavy: u64, hand: &mut Hand) -> bool
+        ensures { hand.new ≡ hand.old }
+    {
+        hand.draft(&self.floor, claim, most, heavy)
+    }
+
     /// Makes firings of an actor one after another, the claimed one first: at most so many, all of
-    /// which pass the gate. Nothing is in hand then.
+    /// which pass the gate. They are those of the hand's draft where it was evaluated. Nothing is in hand
+    /// then.
     pub(crate) fn make<G: Gate>(
         &mut self,
         gate: &G,

@@ -12,7 +12,7 @@ use crate::claims::{Claim, most_from};
 use crate::gate::Gate;
 use crate::hand::Hand;
 use crate::hints::Hints;
-use crate::policy::Policy;
+use crate::policy::{HEAVY_BLOCK, Policy};
 use crate::run_floor::{Asked, Delivered, Made, RunFloor};
 use csdf_floor::{DeliverFault, StartFault};
 use csdf_kernel::Job;
@@ -29,6 +29,8 @@ pub(crate) struct Stand {
     pub(crate) next: u64,
     /// The actors of whom the worker makes firings under the lock.
     pub(crate) light: u64,
+    /// The actors of whom it drafts firings.
+    pub(crate) drafted: u64,
 }
 
 /// The floor, where to look for the next firing, how many firings are under way, and what the policy goes
@@ -96,6 +98,38 @@ impl<K: Asked> Watched<K> {
         Ok(delivered)
     }
 
+    /// Drafts firings of an actor, the claimed one first, where they are heavy. They count as under way,
+    /// and nobody looks for the actor, until they are made.
+    pub(crate) fn draft(&mut self, claim: Claim, hand: &mut Hand) -> bool
+        ensures { hand.new ≡ hand.old }
+    {
+        let most = most_from(claim.firing);
+        let is_drafted = self.floor.draft(claim, most, HEAVY_BLOCK, hand);
+        if is_drafted {
+            self.running = self.running.saturating_add(1);
+        }
+        self.policy.drafts(claim.actor, is_drafted);
+        is_drafted
+    }
+
+    /// Makes the firings of an actor that were drafted, the claimed one first. Nothing is in hand then.
+    pub(crate) fn make_drafted<G: Gate>(
+        &mut self,
+        gate: &G,
+        claim: Claim,
+        hand: &mut Hand,
+    ) -> Result<Made, StartFault>
+        requires open { (a k : ℕ) → G.passed gate.now a k }
+        ensures idle { hand.new.is_made ≡ false }
+        ensures claim { IfOk result (λ made. made.claim ≡ claim) }
+        ensures some { IfOk result (λ made. 0 < made.count) }
+        ensures fits { IfOk result (λ made. CanEnd claim made.count) }
+    {
+        self.running = self.running.saturating_sub(1);
+        self.policy.has_drafted(claim.actor);
+        self.make(gate, claim, hand)
+    }
+
     /// Makes firings of an actor one after another, the claimed one first, all of which pass the gate.
     /// Nothing is in hand then.
     pub(crate) fn make<G: Gate>(
@@ -130,7 +164,13 @@ impl<K: Asked> Watched<K> {
                 None => 0,
             },
             light: self.policy.light(),
+            drafted: self.policy.blocks(),
         }
+    }
+
+    /// The actors that may be able to begin, but for those of whom firings are drafted.
+    pub(crate) fn ready(&self) -> u64 {
+        self.policy.undrafted(self.hints.ready())
     }
 
     /// The actors that others than the one who tends may take.
