@@ -36,3 +36,4 @@ looked_over() {
 looked_over "the schema of graph files" schema.py
 looked_over "what README, GUIDE and FORMATS show" told.py
 looked_over "the moves of runs" journals.py
+looked_over "blocks of heavy firings" heavy.py
