@@ -3,7 +3,7 @@
 
 ghost use Rattle.std.specs.Prelude.{IfOk};
 
-use crate::shared::{Asked, asked_for, expect_eq, floor_that_keeps};
+use crate::shared::{Asked, asked_for, expect_eq, fired_by, floor_that_keeps};
 use csdf_floor::{Floor, StartFault};
 use csdf_journal::Keeping;
 use csdf_kernel::{Counts, Outputs};
@@ -48,15 +48,6 @@ channel = [
   { name = "x", from = "a", to = "b", produce = [1], consume = [1], capacity = 3 },
 ]
 "#;
-
-/// How many firings the actor has made, where there is one.
-fn fired_by(floor: &Floor, actor: u32) -> u32 {
-    if actor < floor.core().actors() {
-        floor.core().fired(actor)
-    } else {
-        0
-    }
-}
 
 /// Lets each actor in turn make all that it can of ten firings, and tells how many they were; false where
 /// no actor can begin.

@@ -8,6 +8,8 @@ mod block_tests;
 #[cfg(test)]
 mod claim_tests;
 #[cfg(test)]
+mod draft_tests;
+#[cfg(test)]
 mod gate_tests;
 #[cfg(test)]
 mod job_tests;

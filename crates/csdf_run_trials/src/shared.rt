@@ -93,6 +93,15 @@ pub(crate) fn floor_that_keeps(
     Ok(Floor::with_journal(alloc, accepted, feeds, periods, None, keeping)?)
 }
 
+/// How many firings the actor has made, where there is one.
+pub(crate) fn fired_by(floor: &Floor, actor: u32) -> u32 {
+    if actor < floor.core().actors() {
+        floor.core().fired(actor)
+    } else {
+        0
+    }
+}
+
 /// Asserts that what is found is as wanted: a call of this is proved in a fraction of the time that the
 /// macro takes in its place.
 pub(crate) fn expect_eq<T: PartialEq + Debug + Drop>(rt: &impl Abort, found: T, want: T) {
