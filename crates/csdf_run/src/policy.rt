@@ -7,9 +7,15 @@ use csdf_model::Kernel;
 /// How many products, or tokens, make a firing heavy: it takes about as long as to wake a worker.
 const HEAVY: usize = 16_384;
 
-/// How many products make a block of firings heavy, so that it is evaluated without the lock: some 30
+/// How many products make a block of firings heavy, so that it is evaluated without the lock: some 45
 /// microseconds.
-pub(crate) const HEAVY_BLOCK: u64 = 65_536;
+pub(crate) const HEAVY_BLOCK: u64 = 98_304;
+
+/// So many blocks of a run are all looked at, whether they are heavy.
+const LOOKED_AT: u32 = 256;
+
+/// After these one in so many is: a prime number, so that it is now this actor's and now that one's.
+const ONE_IN: u32 = 17;
 
 /// The workers of a run.
 #[derive(Clone, Copy)]
@@ -67,6 +73,7 @@ pub(crate) struct Policy {
     light: u64,
     blocks: u64,
     drafted: u64,
+    looks: u32,
     is_tended: bool,
     sleeping: u32,
     woken: u32,
@@ -94,6 +101,7 @@ impl Policy {
             light: if crew.is_alone() { u64::MAX } else { 0 },
             blocks: 0,
             drafted: 0,
+            looks: 0,
             is_tended: false,
             sleeping: 0,
             woken: 0,
@@ -143,6 +151,16 @@ impl Policy {
     /// The actors whose last firings were drafted.
     pub(crate) fn blocks(&self) -> u64 {
         self.blocks
+    }
+
+    /// Whether to look if the actor's next firings are heavy: where its last ones were, and else not each
+    /// time, since a look costs a tenth of a light firing.
+    pub(crate) fn looks_at(&mut self, actor: u32) -> bool {
+        if self.blocks & bit_of(actor) != 0 {
+            return true;
+        }
+        self.looks = self.looks.wrapping_add(1);
+        self.looks <= LOOKED_AT || self.looks % ONE_IN == 0
     }
 
     /// A worker has claimed an actor, and drafts firings of it, or finds that they are light.

@@ -103,6 +103,9 @@ impl<K: Asked> Watched<K> {
     pub(crate) fn draft(&mut self, claim: Claim, hand: &mut Hand) -> bool
         ensures { hand.new ≡ hand.old }
     {
+        if !self.policy.looks_at(claim.actor) {
+            return false;
+        }
         let most = most_from(claim.firing);
         let is_drafted = self.floor.draft(claim, most, HEAVY_BLOCK, hand);
         if is_drafted {
