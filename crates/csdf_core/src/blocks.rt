@@ -5,7 +5,7 @@ ghost use Rattle.csdf_pool.specs.Pool.{IsPartition};
 ghost use Rattle.csdf_core.specs.Blocks.{needs_of, gifts_of, takes_at, gives_at, takes_in, puts_in, from_front, reads_over, HoldAll, HaveRoomFor, IsPlain};
 ghost use Rattle.csdf_core.specs.Blocks.{HasNoLoop, pool_after, peaks_after, Suffices};
 ghost use Rattle.csdf_core.specs.Phases.{HasPhases, IsInPhase};
-ghost use Rattle.csdf_core.specs.Ports.{inputs_at, outputs_at, tokens_in, tokens_at, raise_over};
+ghost use Rattle.csdf_core.specs.Ports.{inputs_at, outputs_at, take_at, give_at, tokens_in, tokens_at, raise_over};
 
 use crate::firing_core::Core;
 use crate::first_refusal::is_at;
@@ -119,9 +119,11 @@ struct Span {
     high: u32,
 }
 
-/// How many firings that each move so many tokens are possible where this many can be moved.
+/// How many firings that each move so many tokens are possible where this many can be moved, of at most
+/// so many.
 pub(crate) fn times(tokens: u64, each: u64, most: u32) -> u32
-    ensures { result ≤ most }
+    ensures most { result ≤ most }
+    ensures greatest { (n : ℕ) → n ≤ most → n * each ≤ tokens → n ≤ result }
 {
     if each == 0 {
         return most;
@@ -135,7 +137,9 @@ fn held_times(layout: &Layout, pool: &Pool, actor: u32, turn: Turn, most: u32) -
     requires actor { actor < length layout.now.sources }
     requires same { length pool.now.chains ≡ length layout.now.channels }
     requires in_phase { IsInPhase layout.now.channels actor turn.firing turn.phase }
-    ensures { result ≤ most }
+    ensures most { result ≤ most }
+    ensures greatest { (n : ℕ) → n ≤ most
+        → HoldAll (tokens_in pool.now) (λ c. n * take_at layout.now.channels turn.firing c) (inputs_at layout.now.channels actor) → n ≤ result }
 {
     let inputs = layout.inputs(actor);
     let mut n = most;
@@ -151,7 +155,10 @@ fn room_times(layout: &Layout, pool: &Pool, actor: u32, turn: Turn, most: u32) -
     requires actor { actor < length layout.now.sources }
     requires same { length pool.now.chains ≡ length layout.now.channels }
     requires in_phase { IsInPhase layout.now.channels actor turn.firing turn.phase }
-    ensures { result ≤ most }
+    ensures most { result ≤ most }
+    ensures greatest { (n : ℕ) → n ≤ most
+        → HaveRoomFor layout.now.channels (tokens_in pool.now) (λ c. n * give_at layout.now.channels turn.firing c)
+        (outputs_at layout.now.channels actor) → n ≤ result }
 {
     let outputs = layout.outputs(actor);
     let mut n = most;
@@ -435,29 +442,59 @@ impl Core {
         self.finds_all(actor, n)
     }
 
-    /// About how many firings the actor can make: exact where it has one phase.
+    /// How many firings at most keep within the limits on the actor's own and on those of all.
+    fn limited(&self, actor: u32, most: u32) -> u32
+        requires { actor < length self.now.plan.sources }
+        ensures most { result ≤ most }
+        ensures greatest { (n : ℕ) → n ≤ most → count self.now.now actor + n ≤ slice_index self.now.plan.limits actor
+            → IfSome self.now.plan.firings (λ all. begun_count self.now.now + n ≤ all) → n ≤ result }
+    {
+        let left = self.layout.limit(actor).saturating_sub(self.fired(actor));
+        let n = most.min(left);
+        match self.layout.firings() {
+            Some(firings) => times(u64::from(firings).saturating_sub(self.started), 1, n),
+            None => n,
+        }
+    }
+
+    /// How many firings at most find so many tokens each in the source's file, where the actor is one.
+    fn supplied(&self, actor: u32, gift: u64, most: u32) -> u32
+        requires { actor < length self.now.plan.sources }
+        ensures most { result ≤ most }
+        ensures greatest { (n : ℕ) → n ≤ most → (is_source self.now.plan actor ≡ true
+            → given self.now.plan actor (count self.now.now actor) + n * gift ≤ slice_index self.now.plan.supplies actor) → n ≤ result }
+    {
+        if !self.layout.is_source(actor) {
+            return most;
+        }
+        let left = u64::from(self.layout.supply(actor)).saturating_sub(self.written(actor));
+        times(left, gift, most)
+    }
+
+    /// How many firings at most find cells for so many tokens each.
+    fn celled(&self, gift: u64, most: u32) -> u32
+        ensures most { result ≤ most }
+        ensures greatest { (n : ℕ) → n ≤ most → held self.now.now + reserved self.now.plan self.now.now + n * gift ≤ self.now.plan.cells
+            → n ≤ result }
+    {
+        let free = u64::from(self.layout.cells()).saturating_sub(self.used());
+        times(free, gift, most)
+    }
+
+    /// About how many firings the actor can make: no fewer than it can where it has one phase.
     fn guess(&self, actor: u32, most: u32) -> u32
         requires { actor < length self.now.plan.sources }
-        ensures { result ≤ most }
+        ensures most { result ≤ most }
+        ensures greatest { HasPhases self.now.plan.channels actor 1
+            → (n : ℕ) → n ≤ most → CanFire self.now.plan self.now.now actor n → n ≤ result }
     {
-        let layout = &self.layout;
         let gift = self.gives(actor) as u64;
-        let left = layout.limit(actor).saturating_sub(self.fired(actor));
-        let mut n = most.min(left);
-        if let Some(firings) = layout.firings() {
-            n = times(u64::from(firings).saturating_sub(self.started), 1, n);
-        }
-        n = held_times(layout, &self.pool, actor, self.turn(actor), n);
-        n = room_times(layout, &self.pool, actor, self.turn(actor), n);
-        if layout.is_source(actor) {
-            let left = u64::from(layout.supply(actor)).saturating_sub(self.written(actor));
-            n = times(left, gift, n);
-        }
-        times(
-            u64::from(layout.cells()).saturating_sub(self.used()),
-            gift,
-            n,
-        )
+        let turn = self.turn(actor);
+        let limited = self.limited(actor, most);
+        let held = held_times(&self.layout, &self.pool, actor, turn, limited);
+        let roomy = room_times(&self.layout, &self.pool, actor, turn, held);
+        let supplied = self.supplied(actor, gift, roomy);
+        self.celled(gift, supplied)
     }
 
     /// The block of n firings, which the actor can make.
@@ -533,8 +570,8 @@ impl Core {
         span.low
     }
 
-    /// The greatest number of firings, at most so many, that the actor can make.
-    fn greatest(&self, actor: u32, most: u32) -> u32
+    /// The greatest number of firings, at most so many, that the actor can make: found by looks.
+    fn greatest_by_looks(&self, actor: u32, most: u32) -> u32
         ensures most { result ≤ most }
         ensures can { 0 < result → CanFire self.now.plan self.now.now actor result }
         ensures greatest { (n : ℕ) → n ≤ most → CanFire self.now.plan self.now.now actor n → n ≤ result }
@@ -546,6 +583,34 @@ impl Core {
             return 0;
         }
         self.greatest_from_one(actor, most)
+    }
+
+    /// The greatest number of firings, at most so many, that an actor of one phase can make: the guess,
+    /// where it can make as many.
+    fn greatest_alike(&self, actor: u32, most: u32) -> u32
+        requires actor { actor < length self.now.plan.sources }
+        requires phases { HasPhases self.now.plan.channels actor 1 }
+        ensures most { result ≤ most }
+        ensures can { 0 < result → CanFire self.now.plan self.now.now actor result }
+        ensures greatest { (n : ℕ) → n ≤ most → CanFire self.now.plan self.now.now actor n → n ≤ result }
+    {
+        let guess = self.guess(actor, most);
+        if guess == 0 || self.can_fire(actor, guess) {
+            return guess;
+        }
+        self.greatest_by_looks(actor, most)
+    }
+
+    /// The greatest number of firings, at most so many, that the actor can make.
+    fn greatest(&self, actor: u32, most: u32) -> u32
+        ensures most { result ≤ most }
+        ensures can { 0 < result → CanFire self.now.plan self.now.now actor result }
+        ensures greatest { (n : ℕ) → n ≤ most → CanFire self.now.plan self.now.now actor n → n ≤ result }
+    {
+        if (actor as usize) < self.counts.len() && self.has_one_phase(actor) {
+            return self.greatest_alike(actor, most);
+        }
+        self.greatest_by_looks(actor, most)
     }
 
     /// The greatest number of next firings, at most so many, that the actor can make one after the

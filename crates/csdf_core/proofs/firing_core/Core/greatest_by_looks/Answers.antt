@@ -1,7 +1,7 @@
 use Rattle.std.proofs.Common.{arith}
 use Rattle.std.proofs.lemmas.Grind.{common_steps}
 use Rattle.csdf_core.proofs.GreatestBlocks.{none_above}
-use Rattle.csdf_core.proofs.firing_core.Core.greatest.Goals as goal
+use Rattle.csdf_core.proofs.firing_core.Core.greatest_by_looks.Goals as goal
 
 pub returns-then-not-can_fire-clause-greatest : goal.returns-then-not-can_fire-clause-greatest
 returns-then-not-can_fire-clause-greatest c = λ n le can.
