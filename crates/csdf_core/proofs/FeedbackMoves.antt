@@ -1,29 +1,29 @@
 -- Firings of an actor that keeps its state in a channel to itself are their moves, one after another.
-use Rattle.std.proofs.Common.{◌≡◌, ℕ, zero, suc, ◌+◌, ◌-◌, ◌*◌, ◌<◌, ◌≤◌, List, [], ◌∷◌, length, get_or, set, take, drop, refl, ap, ap₂, subst, ◌∙◌}
-use Rattle.std.proofs.Common.{sym, arith, None, set-set, length-set, get_or-set_same, suc-mul}
+use Rattle.std.proofs.Common.{◌≡◌, ℕ, zero, suc, ◌+◌, ◌-◌, ◌*◌, ◌<◌, ◌≤◌, max, inl, inr, List, [], ◌∷◌, ◌++◌, length, get_or, set, take, drop, refl, ap}
+use Rattle.std.proofs.Common.{ap₂, subst, ◌∙◌, sym, arith, None, set-set, length-set, get_or-set_same, suc-mul, append-nil}
 use Rattle.std.specs.Prelude.{ℤ}
-use Rattle.std.proofs.lemmas.List.{set-get_or, length-take-le, length-drop}
-use Rattle.csdf_pool.specs.Pool.{Shared}
+use Rattle.std.proofs.lemmas.Bool.Decides.{eqb_tells}
+use Rattle.std.proofs.lemmas.List.{set-get_or, length-take-le, length-drop, length-append}
 use Rattle.csdf_core.specs.declared.stage.Stage.TheVariants.{Idle, Begun, Fetched, Written}
-use Rattle.csdf_core.specs.Blocks.{gifts_of, firings_of, AreAccepted, answers_to, pool_after, peaks_after, Suffices}
-use Rattle.csdf_core.specs.Feedback.{KeepsState, GoesOn}
+use Rattle.csdf_core.specs.Blocks.{gifts_of, firings_of, AreAccepted, answers_to}
+use Rattle.csdf_core.specs.Feedback.{KeepsState, GoesOn, shares_of}
 use Rattle.csdf_core.specs.Moves.{Begin, Read, Write, Finish}
-use Rattle.csdf_core.specs.Plan.{Plan}
-use Rattle.csdf_core.specs.Ports.{take_at, tokens_in, raise_over, EnoughOver}
+use Rattle.csdf_core.specs.Plan.{Plan, from_at}
+use Rattle.csdf_core.specs.Ports.{take_at, own_take_at, tokens_at}
 use Rattle.csdf_core.specs.Rows.{need, gift, left, AreThere}
-use Rattle.csdf_core.specs.Shows.{Plays}
+use Rattle.csdf_core.specs.Shows.{Plays, raised}
 use Rattle.csdf_core.specs.Step.{count, stage, refusal, first_of, write_table, begun_count, held}
-use Rattle.csdf_core.specs.Transfers.{after_read}
 use Rattle.csdf_core.proofs.Accepting.{reads_free, writes_free, finishes_free}
-use Rattle.csdf_core.proofs.BlockMachines.{Machine, IsGood, view, plays_first, ins, outs, all_told, m_begun, m_fetched, m_written, m_finished}
+use Rattle.csdf_core.proofs.BlockMachines.{Machine, IsGood, view, plays_first, m_begun, m_fetched, m_written, m_finished}
 use Rattle.csdf_core.proofs.BlockMachines.{good_begun, good_fetched, good_written, good_finished, follows_begun, follows_fetched}
 use Rattle.csdf_core.proofs.BlockMachines.{follows_written, follows_finished}
-use Rattle.csdf_core.proofs.BlockMoves.{AreFew, fewer, machine_same}
+use Rattle.csdf_core.proofs.BlockMoves.{AreFew, fewer}
+use Rattle.csdf_core.proofs.BlockPorts.{peak_at}
 use Rattle.csdf_core.proofs.BlockTokens.{outputs_after}
-use Rattle.csdf_core.proofs.FeedbackTokens.{goes_next, state_length, tokens_after, room_after, state_takes, state_needed}
-use Rattle.csdf_core.proofs.Moving.{peaks_here, enough_here, cells_to_write}
+use Rattle.csdf_core.proofs.FeedbackTokens.{own_give_at, given_before, goes_next, state_length, tokens_after, room_after, state_takes, state_needed}
+use Rattle.csdf_core.proofs.GoingTokens.{moved, moved_later, moved_out, own_give_none, fired_at, raised_past}
 use Rattle.csdf_core.proofs.OnePhase.{same_gift}
-use Rattle.csdf_core.proofs.Presents.{present_same}
+use Rattle.csdf_core.proofs.Peaceful.{peaks_stay}
 use Rattle.csdf_core.proofs.Ready.{are_there}
 use Rattle.csdf_core.proofs.RoomLemmas.{held-left, held-joined}
 use Rattle.csdf_core.proofs.Runs.{plays_none}
@@ -36,9 +36,9 @@ pub record IsLoopBlock (plan : Plan) (a k n : ℕ) (v : List ℤ) (m new : Machi
   pub sums : new.sums ≡ set m.sums a (get_or m.sums a 0 + gifts_of plan.channels a k n)
   pub started : new.started ≡ m.started + n
   pub kept : new.kept ≡ m.kept
-  pub cells : new.pool ≡ pool_after plan a k n m.pool v
-  pub peaks : new.peaks ≡ peaks_after plan a k n m.pool v m.peaks
-  pub enough : Suffices plan a k n m.pool v
+  pub none : n ≡ 0 → new.pool ≡ m.pool
+  pub tokens : (c : ℕ) → c < length plan.channels → tokens_at new.now.tokens c ≡ moved plan a k c n v (tokens_at m.now.tokens c)
+  pub peaks : new.peaks ≡ raised m.peaks new.now.tokens
   pub good : IsGood plan new
   pub accepted : AreAccepted plan m.now (firings_of plan.channels a k n v)
   pub plays : Plays (view plan m) (view plan new) (firings_of plan.channels a k n v) (answers_to plan m.now (firings_of plan.channels a k n v))
@@ -115,20 +115,15 @@ module _ (plan : Plan) (a own : ℕ) (keeps : KeepsState plan a own) where
     pub kept4 : m4.kept ≡ m.kept
     kept4 = omega (arith, len)
 
-    pub peaks4 : m4.peaks ≡ raise_over (outs plan a) m4.now.tokens m.peaks
-    peaks4 =
-        sym (peaks_here plan m2.now a v m4.now.tokens m.peaks (raise_over (outs plan a) m4.now.tokens m.peaks) good2.sound.fit good2.sound.peaked
-        good2.sound.high refl refl)
-
     pub number4 : count m4.now a ≡ suc k
     number4 = get_or-set_same m.now.counts a (suc k) 0 (let counted = good.sound.fit.counted in let there = h.there in omega (arith, counted, there))
 
-    -- the firing finds its tokens, and cells
-    pub enough4 : EnoughOver (take_at plan.channels k) (ins plan a) (tokens_in m.pool)
-    enough4 = subst (EnoughOver (take_at plan.channels k) (ins plan a)) (sym good.chains) (enough_here plan m1.now a k good1.sound.fit none2 refl)
-
-    pub cells4 : gift a k plan.channels ≤ length (after_read plan a k m.pool).free
-    cells4 = let c = cells_to_write plan m2.now a (length m2.pool.free) v good2.sound.fit none3 (all_told plan a m2 good2) in omega (arith, c, len)
+    -- a channel's tokens after the firing
+    tokens4 : (c : ℕ) → c < length plan.channels
+        → tokens_at m4.now.tokens c
+        ≡ drop (own_take_at plan.channels a k c) (tokens_at m.now.tokens c)
+        ++ take (own_give_at plan.channels a k c) (drop (given_before plan.channels a k c) v)
+    tokens4 c lt = fired_at a k plan.channels m.now.tokens v c good.sound.fit.queued lt
 
     -- no more is held than before, but for what it gave to others
     held4 : held m4.now + need a k plan.channels ≡ held m.now + gift a k plan.channels
@@ -137,6 +132,33 @@ module _ (plan : Plan) (a own : ℕ) (keeps : KeepsState plan a own) where
         let out = held-left a k plan.channels m.now.tokens good.sound.fit.queued there in
         let put = held-joined a k plan.channels (left a k plan.channels m.now.tokens) v good2.sound.fit.queued len in
         omega (arith, out, put)
+
+    -- no peak after it is passed, but where as many tokens stay
+    low4 : (c : ℕ) → c < length plan.channels → (i : ℕ) (w later : List ℤ) → later ≡ moved plan a (suc k) c i w (tokens_at m4.now.tokens c)
+        → length (tokens_at m4.now.tokens c) ≤ max (get_or m.peaks c 0) (length later)
+    low4 c lt i w later is =
+        let top = peak_at m.peaks m.now.tokens c good.sound.high (let p = good.sound.peaked in omega (arith, p, lt)) in
+        elim (eqb_tells c own) [
+          | inl e ↦
+              (let state = state_length plan a own keeps k n m.now.tokens v good.sound.fit.queued len h.state in
+              let now = ap (λ (d : ℕ). length (tokens_at m4.now.tokens d)) e.1 in
+              let was = ap (λ (d : ℕ). length (tokens_at m.now.tokens d)) e.1 in
+              let s = h.state in
+              omega (arith, top, state, now, was, s))
+          | inr e ↦ elim (eqb_tells (from_at plan.channels c) a) [
+            | inl out ↦
+                (let x = ap length (is ∙ moved_out plan a own keeps (suc k) c i w (tokens_at m4.now.tokens c) lt e.1 out.1) in
+                let y = length-append (tokens_at m4.now.tokens c)
+                (shares_of (given_before plan.channels a (suc k) c) (own_give_at plan.channels a (suc k) c) (gift a (suc k) plan.channels) i w) in
+                omega (arith, x, y))
+            | inr other ↦
+                (let x = ap length (tokens4 c lt ∙ ap (λ (j : ℕ). drop (own_take_at plan.channels a k c) (tokens_at m.now.tokens c)
+                ++ take j (drop (given_before plan.channels a k c) v)) (own_give_none a k plan.channels c other.1)
+                ∙ append-nil (drop (own_take_at plan.channels a k c) (tokens_at m.now.tokens c))) in
+                let y = length-drop (own_take_at plan.channels a k c) (tokens_at m.now.tokens c) in
+                omega (arith, x, y, top))
+          ]
+        ]
 
     pub finds4 : GoesOn plan m4.now a own (suc k) n
     finds4 = record {
@@ -178,9 +200,9 @@ module _ (plan : Plan) (a own : ℕ) (keeps : KeepsState plan a own) where
       sums = sym (ap (set m.sums a) (let e : get_or m.sums a 0 + 0 ≡ get_or m.sums a 0 = omega arith in e) ∙ set-get_or m.sums a 0);
       started = omega arith;
       kept = refl;
-      cells = refl;
-      peaks = refl;
-      enough = tt;
+      none = λ e. refl;
+      tokens = λ c lt. refl;
+      peaks = sym (peaks_stay plan m.now m.peaks m.sums m.started m.kept m.pool good.sound);
       good = good;
       accepted = tt;
       plays = plays_none (view plan m);
@@ -229,6 +251,9 @@ module _ (plan : Plan) (a own : ℕ) (keeps : KeepsState plan a own) where
           let n4 : Machine = m_finished plan a n3 in
           let g4 : IsGood plan n4 = good4 n m v1 good h len1 few1 in
           let summed : a < length m.sums = (let c = good.sound.tallied in let there = h.there in omega (arith, c, there)) in
+          let low : (c : ℕ) → c < length plan.channels
+          → length (tokens_at n4.now.tokens c) ≤ max (get_or m.peaks c 0) (length (tokens_at new.now.tokens c)) = λ c lt.
+          low4 n m v1 good h len1 few1 c lt n w (tokens_at new.now.tokens c) (b.tokens c lt) in
           record {
             counts = b.counts ∙ set-set m.now.counts a (suc k) (suc k + n) ∙ ap (set m.now.counts a) (let e : suc k + n ≡ k + suc n = omega arith in e);
             stages = b.stages ∙ stages4 n m v1 good h len1 few1;
@@ -239,10 +264,13 @@ module _ (plan : Plan) (a own : ℕ) (keeps : KeepsState plan a own) where
                 omega (arith, e) in z);
             started = (let e = b.started in omega (arith, e));
             kept = b.kept ∙ kept4 n m v1 good h len1 few1;
-            cells = b.cells;
-            peaks = b.peaks ∙ ap (peaks_after plan a (suc k) n n4.pool w)
-                (peaks4 n m v1 good h len1 few1 ∙ ap (λ (ts : List (List ℤ)). raise_over (outs plan a) ts m.peaks) (sym g4.chains));
-            enough = (enough4 n m v1 good h len1 few1, cells4 n m v1 good h len1 few1, b.enough);
+            none = λ e. absurd (omega (arith, e));
+            tokens = λ c lt.
+                b.tokens c lt ∙ moved_later plan a own keeps k c n w (tokens_at n4.now.tokens c)
+                ∙ ap (moved plan a k c n w) (tokens4 n m v1 good h len1 few1 c lt);
+            peaks = b.peaks ∙ raised_past m.peaks n4.now.tokens new.now.tokens (g4.sound.fit.queued ∙ sym good.sound.peaked)
+                (b.good.sound.fit.queued ∙ sym good.sound.peaked)
+                (λ c lt. low c (let p = good.sound.peaked in omega (arith, p, lt)));
             good = b.good;
             accepted = (
               none1 n m v1 good h len1 few1,
@@ -256,28 +284,3 @@ module _ (plan : Plan) (a own : ℕ) (keeps : KeepsState plan a own) where
                 (plays_first plan n3 n4 new (Finish a) _ _ _
                 (follows_finished plan a n3 (good3 n m v1 good h len1 few1) (none4 n m v1 good h len1 few1)) b.plays)));
           }
-
--- where the code lands
-pub loop_lands : (plan : Plan) (a k n : ℕ) (v : List ℤ) (m new : Machine) → IsLoopBlock plan a k n v m new → (counts sums peaks : List ℕ) (started : ℕ)
-    (pool : Shared) → counts ≡ set m.now.counts a (k + n) → sums ≡ set m.sums a (get_or m.sums a 0 + gifts_of plan.channels a k n)
-    → peaks ≡ peaks_after plan a k n m.pool v m.peaks → started ≡ m.started + n → pool ≡ pool_after plan a k n m.pool v
-    → new ≡ record {
-      now = record { counts = counts; stages = m.now.stages; opens = m.now.opens; tokens = tokens_in pool };
-      peaks = peaks;
-      sums = sums;
-      started = started;
-      kept = m.kept;
-      pool = pool;
-    }
-loop_lands plan a k n v m new b counts sums peaks started pool counts_is sums_is peaks_are started_is same =
-    machine_same new (record {
-      now = record { counts = counts; stages = m.now.stages; opens = m.now.opens; tokens = tokens_in pool };
-      peaks = peaks;
-      sums = sums;
-      started = started;
-      kept = m.kept;
-      pool = pool;
-    })
-    (present_same new.now (record { counts = counts; stages = m.now.stages; opens = m.now.opens; tokens = tokens_in pool })
-    (b.counts ∙ sym counts_is) b.stages b.opens (sym b.good.chains ∙ ap tokens_in (b.cells ∙ sym same)))
-    (b.peaks ∙ sym peaks_are) (b.sums ∙ sym sums_is) (b.started ∙ sym started_is) b.kept (b.cells ∙ sym same)

@@ -49,5 +49,9 @@ pub mod OnePhase
 pub mod BlockReads
 pub mod GreatestBlocks
 pub mod FeedbackTokens
+pub mod OtherCells
+pub mod GoingSteps
+pub mod GoingTokens
 pub mod FeedbackMoves
 pub mod FeedbackReads
+pub mod GoneOn

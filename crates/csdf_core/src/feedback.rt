@@ -4,13 +4,15 @@
 //! computes them has the state and the other tokens at once ([`Core::peek_on`]), and then makes all moves in one
 //! call ([`Core::go_on`]).
 
-ghost use Rattle.std.specs.Prelude.{ℕ, ◌≡◌, ◌≢◌, ◌+◌, ◌-◌, ◌*◌, ◌<◌, ◌≤◌, ◌↔◌, IsTrue, IfSome, IfNone, length, List, ℤ, sum_by};
+ghost use Rattle.std.specs.Prelude.{ℕ, ◌≡◌, ◌≢◌, ◌+◌, ◌-◌, ◌*◌, ◌<◌, ◌≤◌, ◌↔◌, IsTrue, IfSome, IfNone, length, drop, slice_set, List, ℤ, sum_by};
+ghost use Rattle.csdf_pool.specs.Pool.{IsPartition};
 ghost use Rattle.std.specs.List.{AllByRecursion};
 ghost use Rattle.csdf_core.specs.Blocks.{takes_at, gives_at, gifts_of, HoldAll, HaveRoomFor, AreAccepted, answers_to, firings_of, from_front};
 ghost use Rattle.csdf_core.specs.Feedback.{KeepsState, IsFeedback, CanGoOn, AreReadWith, asks_at, fills_at, before_of, in_order, loop_reads, others_of};
+ghost use Rattle.csdf_core.specs.Feedback.{lasts_at, gone_on};
 ghost use Rattle.csdf_core.specs.Phases.{HasPhases, IsInPhase};
 ghost use Rattle.csdf_core.specs.Plan.{from_at, to_at};
-ghost use Rattle.csdf_core.specs.Ports.{inputs_at, outputs_at, take_at, give_at, tokens_at, tokens_in};
+ghost use Rattle.csdf_core.specs.Ports.{inputs_at, outputs_at, take_at, give_at, tokens_at, tokens_in, takes_over};
 ghost use Rattle.csdf_core.specs.Rows.{gift};
 ghost use Rattle.csdf_core.specs.Shows.{Plays};
 ghost use Rattle.csdf_core.specs.Step.{count, stage};
@@ -18,11 +20,12 @@ ghost use Rattle.csdf_core.specs.Step.{count, stage};
 use crate::blocks::{look_ahead, times};
 use crate::firing_core::Core;
 use crate::first_refusal::is_at;
+use crate::going::put_lasting;
 use crate::layout::Layout;
 use crate::readiness::first_closed;
-use crate::several::{fire_each, given_of, taken_of};
+use crate::several::{drop_tokens, given_of, taken_of};
 use crate::stage::Stage;
-use crate::transfer::{gift_of, need_of};
+use crate::transfer::{gift_of, need_of, raise_peaks};
 use crate::turn::Turn;
 use csdf_pool::Pool;
 
@@ -238,6 +241,67 @@ fn copy_other(pool: &Pool, other: Option<u32>, into: &mut [i32])
     }
 }
 
+/// Takes what n firings read of the input, where there is one, out of it and drops it.
+fn drop_other(layout: &Layout, pool: &mut Pool, actor: u32, other: Option<u32>, turn: Turn, n: u32)
+    requires same { length pool.old.chains ≡ length layout.now.channels }
+    requires in_phase { IsInPhase layout.now.channels actor turn.firing turn.phase }
+    requires few { n ≤ 16_384_000 }
+    requires other { IfSome other (λ c. (c < length layout.now.channels) × (to_at layout.now.channels c ≡ actor)) }
+    requires enough { IfSome other (λ c. n * take_at layout.now.channels turn.firing c ≤ length (tokens_at (tokens_in pool.old) c)) }
+    requires partition { IsPartition pool.old }
+    ensures left { tokens_in pool.new ≡ takes_over (λ c. n * take_at layout.now.channels turn.firing c) (others_of other) (tokens_in pool.old) }
+    ensures free { length pool.old.free ≤ length pool.new.free }
+    ensures partition { IsPartition pool.new }
+    ensures size { pool.new.size ≡ pool.old.size }
+    ensures same { length pool.new.chains ≡ length pool.old.chains }
+{
+    match other {
+        Some(channel) => {
+            let each = layout.takes(channel, turn);
+            drop_tokens(pool, channel, n * each);
+        }
+        None => {}
+    }
+}
+
+/// Moves the tokens of n firings, of which each takes all that the channel to the actor itself holds.
+fn move_on(
+    layout: &Layout,
+    pool: &mut Pool,
+    actor: u32,
+    feedback: Feedback,
+    turn: Turn,
+    n: u32,
+    tokens: &[i32],
+)
+    requires actor { actor < length layout.now.sources }
+    requires in_phase { IsInPhase layout.now.channels actor turn.firing turn.phase }
+    requires same { length pool.old.chains ≡ length layout.now.channels }
+    requires few { n ≤ 16_384_000 }
+    requires own { feedback.channel < length layout.now.channels }
+    requires state { feedback.taken ≤ length (tokens_at (tokens_in pool.old) feedback.channel) }
+    requires other { IfSome feedback.other (λ c. (c < length layout.now.channels) × (to_at layout.now.channels c ≡ actor)) }
+    requires enough { IfSome feedback.other (λ c. n * take_at layout.now.channels turn.firing c
+        ≤ length (tokens_at (slice_set (tokens_in pool.old) feedback.channel (drop feedback.taken (tokens_at (tokens_in pool.old) feedback.channel))) c)) }
+    requires all { length tokens.now ≡ n * gift actor turn.firing layout.now.channels }
+    requires room { 0 < n → sum_by (lasts_at layout.now.channels feedback.channel turn.firing n) (outputs_at layout.now.channels actor)
+        ≤ length pool.old.free + feedback.taken }
+    requires partition { IsPartition pool.old }
+    ensures none { n ≡ 0 → pool.new ≡ pool.old }
+    ensures moved { 0 < n → tokens_in pool.new ≡ gone_on layout.now actor feedback turn.firing n (tokens_in pool.old) tokens.now }
+    ensures partition { IsPartition pool.new }
+    ensures size { pool.new.size ≡ pool.old.size }
+    ensures same { length pool.new.chains ≡ length pool.old.chains }
+{
+    if n == 0 {
+        return;
+    }
+    let own = feedback.channel;
+    drop_tokens(pool, own, feedback.taken);
+    drop_other(layout, pool, actor, feedback.other, turn, n);
+    put_lasting(layout, pool, actor, own, turn, n, tokens);
+}
+
 impl Core {
     /// What the actor keeps its state in: `None` where it has no channel to itself or more than one, where its
     /// firings take and give not as many tokens of it, for an actor of several phases, and for one with more than one
@@ -392,15 +456,8 @@ impl Core {
         let needed = need_of(&self.layout, actor, ahead.next);
         let given = gift_of(&self.layout, actor, ahead.next);
         let layout = &self.layout;
-        fire_each(
-            layout,
-            &mut self.pool,
-            &mut self.peaks,
-            actor,
-            turn,
-            n,
-            tokens,
-        );
+        move_on(layout, &mut self.pool, actor, feedback, turn, n, tokens);
+        raise_peaks(layout, &self.pool, &mut self.peaks, actor);
         let a = actor as usize;
         self.started += u64::from(n);
         self.sums[a] += ahead.given;

@@ -7,6 +7,7 @@ mod filling;
 mod firing_core;
 mod first_refusal;
 mod gathering;
+mod going;
 mod laws;
 mod layout;
 mod moves;

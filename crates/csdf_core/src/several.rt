@@ -142,12 +142,14 @@ pub(crate) fn have_room_each(layout: &Layout, pool: &Pool, actor: u32, turn: Tur
 }
 
 /// Takes the oldest tokens of a channel out and drops them.
-fn drop_tokens(pool: &mut Pool, channel: u32, n: u32)
+pub(crate) fn drop_tokens(pool: &mut Pool, channel: u32, n: u32)
     requires channel { channel < length pool.old.chains }
     requires enough { n ≤ length (tokens_at (tokens_in pool.old) channel) }
     ensures left { tokens_in pool.new ≡ slice_set (tokens_in pool.old) channel (drop n (tokens_at (tokens_in pool.old) channel)) }
     ensures cells { pool.new ≡ after_takes pool.old channel n }
+    ensures free { length pool.new.free ≡ length pool.old.free + n }
     ensures partition { IsPartition pool.new }
+    ensures size { pool.new.size ≡ pool.old.size }
     ensures same { length pool.new.chains ≡ length pool.old.chains }
 {
     pool.drop_front(channel, n);

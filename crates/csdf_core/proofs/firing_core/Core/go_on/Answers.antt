@@ -1,31 +1,46 @@
 use Rattle.std.proofs.lemmas.Grind.{common_steps}
-use Rattle.std.proofs.Common.{◌≡◌, ◌<◌, ◌+◌, ℕ, length, get_or, set, ap, subst, sym, ◌∙◌, refl, arith}
+use Rattle.std.proofs.Common.{◌≡◌, ◌≤◌, ◌<◌, ◌+◌, ◌*◌, ℕ, List, length, get_or, set, drop, ap, subst, sym, ◌∙◌, refl, arith}
+use Rattle.std.specs.Prelude.{ℤ, IfSome, sum_by}
 use Rattle.std.specs.Vec.{with_items}
 use Rattle.std.proofs.lemmas.List.{with_items_is, get_or_default}
-use Rattle.csdf_core.specs.Blocks.{gifts_of, pool_after, peaks_after, Suffices, firings_of, answers_to}
-use Rattle.csdf_core.specs.Feedback.{GoesOn, IsFeedback}
+use Rattle.csdf_core.specs.declared.firing_core.Core.TheInside.{Inside}
+use Rattle.csdf_core.specs.Blocks.{gifts_of, firings_of, answers_to}
+use Rattle.csdf_core.specs.Feedback.{GoesOn, IsFeedback, lasts_at, gone_on}
 use Rattle.csdf_core.specs.Inside.{now_in}
 use Rattle.csdf_core.specs.Plan.{Plan}
-use Rattle.csdf_core.specs.Ports.{tokens_in}
+use Rattle.csdf_core.specs.Ports.{take_at, outputs_at, tokens_in, tokens_at, raise_over}
+use Rattle.csdf_core.specs.Rows.{gift}
 use Rattle.csdf_core.specs.Shows.{Plays}
 use Rattle.csdf_core.specs.State.{Present}
 use Rattle.csdf_core.specs.Step.{count}
 use Rattle.csdf_core.proofs.AmountLemmas.{amounts_finished}
-use Rattle.csdf_core.proofs.BlockMachines.{Machine, IsGood, view}
+use Rattle.csdf_core.proofs.BlockMachines.{Machine, IsGood, view, outs, all_told}
 use Rattle.csdf_core.proofs.BlockMoves.{AreFew}
-use Rattle.csdf_core.proofs.FeedbackMoves.{IsLoopBlock, loop_of, loop_lands}
+use Rattle.csdf_core.proofs.FeedbackMoves.{IsLoopBlock, loop_of}
+use Rattle.csdf_core.proofs.FeedbackReads.{other_there}
+use Rattle.csdf_core.proofs.FeedbackTokens.{state_takes}
+use Rattle.csdf_core.proofs.GoingTokens.{cells_for}
+use Rattle.csdf_core.proofs.GoneOn.{others_left, good_there, plays_there}
+use Rattle.csdf_core.proofs.OnePhase.{gifts_times}
 use Rattle.csdf_core.proofs.PhaseLemmas.{phases_finished}
 use Rattle.csdf_core.proofs.SoundLemmas.{few_started}
 use Rattle.csdf_core.proofs.firing_core.Core.go_on.Goals as goal
 use Rattle.csdf_core.proofs.firing_core.Core.go_on.Goals.{After-look_ahead-ahead, After-index_mut}
 
+abbrev machine : Inside → Machine
+machine core = record {
+  now = now_in core;
+  peaks = core.peaks.items;
+  sums = core.sums.items;
+  started = core.started;
+  kept = core.reserved;
+  pool = core.pool;
+}
+
 -- what is known at the beginning
 module _ (c : After-look_ahead-ahead) where
   abbrev pub early_plan : Plan
   early_plan = c.self.inside.layout
-
-  abbrev pub early_p : Present
-  early_p = now_in c.self.inside
 
   abbrev pub early_a : ℕ
   early_a = c.args.actor
@@ -33,34 +48,24 @@ module _ (c : After-look_ahead-ahead) where
   abbrev pub early_n : ℕ
   early_n = c.args.n
 
+  abbrev pub early_own : ℕ
+  early_own = c.args.feedback.channel
+
   abbrev pub early_k : ℕ
-  early_k = count early_p early_a
+  early_k = count (now_in c.self.inside) early_a
 
-  abbrev pub early_m : Machine
-  early_m = record {
-    now = now_in c.self.inside;
-    peaks = c.self.inside.peaks.items;
-    sums = c.self.inside.sums.items;
-    started = c.self.inside.started;
-    kept = c.self.inside.reserved;
-    pool = c.self.inside.pool;
-  }
+  early_good : IsGood early_plan (machine c.self.inside)
+  early_good = record { sound = c.self.invariant.sound; chains = refl }
 
-  pub early_finds : GoesOn early_plan early_p early_a c.args.feedback.channel early_k early_n
+  pub early_finds : GoesOn early_plan (now_in c.self.inside) early_a early_own early_k early_n
   early_finds = rw (← c.self.view_is) at c.requires.can
 
-  early_told : IsFeedback early_plan early_a c.args.feedback
+  pub early_told : IsFeedback early_plan early_a c.args.feedback
   early_told = rw (← c.self.view_is) at c.requires.feedback
 
-  pub early_all : length c.args.tokens.now ≡ gifts_of early_plan.channels early_a early_k early_n
-  early_all = rw (← c.self.view_is) at c.requires.all
-
-  early_few : AreFew early_plan early_a early_k early_n
-  early_few = λ i lt. c.gives_few.ensures early_a (early_k + i)
-
-  pub early_made : (new : Machine) × IsLoopBlock early_plan early_a early_k early_n c.args.tokens.now early_m new
-  early_made = loop_of early_plan early_a c.args.feedback.channel early_told.keeps early_n c.args.tokens.now early_m
-      (record { sound = c.self.invariant.sound; chains = refl }) early_finds early_all early_few
+  pub early_all : length c.args.tokens.now ≡ early_n * gift early_a early_k early_plan.channels
+  early_all =
+      (rw (← c.self.view_is) at c.requires.all) ∙ gifts_times early_plan.channels early_a early_told.keeps.phases early_k early_n
 
   pub early_firing : c.turn-turn.result.firing ≡ early_k
   early_firing = rw (← c.self.view_is) at c.turn-turn.ensures.firing
@@ -68,11 +73,53 @@ module _ (c : After-look_ahead-ahead) where
   pub early_summed : early_a < length c.self.inside.sums.items
   early_summed = let t = c.self.invariant.sound.tallied in let there = early_finds.there in omega (arith, t, there)
 
-pub fire_each-requires-clause-enough : goal.fire_each-requires-clause-enough
-fire_each-requires-clause-enough c =
-    let at : After-look_ahead-ahead = (goal.at.fire_each-requires-clause-enough c).After-look_ahead-ahead in
-    subst (λ (x : ℕ). Suffices (early_plan at) (early_a at) x (early_n at) c.self.inside.pool c.args.tokens.now) (sym (early_firing at))
-    (early_made at).1.enough
+  pub early_taken : c.args.feedback.taken ≡ take_at early_plan.channels early_k early_own
+  early_taken = early_told.taken ∙ state_takes early_plan early_a early_own early_told.keeps 0 early_k
+
+  -- the free cells are those that the firings need, and those of the state come back
+  pub early_room : 0 < early_n
+      → sum_by (lasts_at early_plan.channels early_own early_k early_n) (outputs_at early_plan.channels early_a)
+      ≤ length c.self.inside.pool.free + c.args.feedback.taken
+  early_room some =
+      let cells = early_finds.cells in
+      let whole = all_told early_plan early_a (machine c.self.inside) early_good in
+      let r = cells_for early_plan early_a early_own early_told.keeps early_k early_n (length c.self.inside.pool.free) some (omega (arith, cells, whole)) in
+      let t = early_taken in
+      omega (arith, r, t)
+
+pub move_on-requires-clause-own : goal.move_on-requires-clause-own
+move_on-requires-clause-own c = (early_told (goal.at.move_on-requires-clause-own c).After-look_ahead-ahead).keeps.there
+
+pub move_on-requires-clause-state : goal.move_on-requires-clause-state
+move_on-requires-clause-state c =
+    let at : After-look_ahead-ahead = (goal.at.move_on-requires-clause-state c).After-look_ahead-ahead in
+    let s = (early_finds at).state in
+    omega (arith, early_taken at, s)
+
+pub move_on-requires-clause-other : goal.move_on-requires-clause-other
+move_on-requires-clause-other c =
+    let at : After-look_ahead-ahead = (goal.at.move_on-requires-clause-other c).After-look_ahead-ahead in
+    other_there (early_plan at).channels (early_a at) (early_own at) c.args.feedback.is_first c.args.feedback.other (early_told at).order
+
+pub move_on-requires-clause-enough : goal.move_on-requires-clause-enough
+move_on-requires-clause-enough c =
+    let at : After-look_ahead-ahead = (goal.at.move_on-requires-clause-enough c).After-look_ahead-ahead in
+    let ts : List (List ℤ) = tokens_in c.self.inside.pool in
+    let left : List ℤ = drop c.args.feedback.taken (tokens_at ts c.args.feedback.channel) in
+    subst (λ (x : ℕ). IfSome c.args.feedback.other (λ d. c.args.n * take_at (early_plan at).channels x d
+    ≤ length (tokens_at (set ts c.args.feedback.channel left) d))) (sym (early_firing at))
+    (others_left (early_plan at) (early_a at) c.args.feedback (early_told at) (early_k at) (early_n at) ts (early_finds at).tokens left)
+
+pub move_on-requires-clause-all : goal.move_on-requires-clause-all
+move_on-requires-clause-all c =
+    let at : After-look_ahead-ahead = (goal.at.move_on-requires-clause-all c).After-look_ahead-ahead in
+    early_all at ∙ ap (λ (x : ℕ). c.args.n * gift c.args.actor x (early_plan at).channels) (sym (early_firing at))
+
+pub move_on-requires-clause-room : goal.move_on-requires-clause-room
+move_on-requires-clause-room c =
+    let at : After-look_ahead-ahead = (goal.at.move_on-requires-clause-room c).After-look_ahead-ahead in
+    subst (λ (x : ℕ). 0 < c.args.n → sum_by (lasts_at (early_plan at).channels (early_own at) x c.args.n) (outputs_at (early_plan at).channels (early_a at))
+    ≤ length c.self.inside.pool.free + c.args.feedback.taken) (sym (early_firing at)) (early_room at)
 
 pub overflow_add-self : goal.overflow_add-self
 overflow_add-self c = omega (arith, few_started _ _ _ _ _ _ _ c.self.invariant.sound, c.from.ensures, c.ranges.n.fits)
@@ -104,14 +151,10 @@ module _ (c : After-index_mut) where
   k = count p a
 
   abbrev pub m : Machine
-  m = record {
-    now = now_in c.self.inside;
-    peaks = c.self.inside.peaks.items;
-    sums = c.self.inside.sums.items;
-    started = c.self.inside.started;
-    kept = c.self.inside.reserved;
-    pool = c.self.inside.pool;
-  }
+  m = machine c.self.inside
+
+  good : IsGood plan m
+  good = record { sound = c.self.invariant.sound; chains = refl }
 
   pub finds : GoesOn plan p a c.args.feedback.channel k n
   finds = rw (← c.self.view_is) at c.requires.can
@@ -126,7 +169,7 @@ module _ (c : After-index_mut) where
   few = λ i lt. c.gives_few.ensures a (k + i)
 
   pub made : (new : Machine) × IsLoopBlock plan a k n c.args.tokens.now m new
-  made = loop_of plan a c.args.feedback.channel told.keeps n c.args.tokens.now m (record { sound = c.self.invariant.sound; chains = refl }) finds all few
+  made = loop_of plan a c.args.feedback.channel told.keeps n c.args.tokens.now m good finds all few
 
   pub firing : c.turn-turn.result.firing ≡ k
   firing = rw (← c.self.view_is) at c.turn-turn.ensures.firing
@@ -134,8 +177,8 @@ module _ (c : After-index_mut) where
   pub summed : a < length c.self.inside.sums.items
   summed = let t = c.self.invariant.sound.tallied in let there = finds.there in omega (arith, t, there)
 
-  items : (with_items c.self.inside.peaks c.fire_each.new.peaks).items ≡ c.fire_each.new.peaks
-  items = with_items_is c.self.inside.peaks c.fire_each.new.peaks (c.fire_each.auto.peaks ∙ c.deref_mut.ensures.len)
+  items : (with_items c.self.inside.peaks c.raise_peaks.new.peaks).items ≡ c.raise_peaks.new.peaks
+  items = with_items_is c.self.inside.peaks c.raise_peaks.new.peaks (c.raise_peaks.auto.peaks ∙ c.deref_mut.ensures.len)
 
   abbrev there : Machine
   there = record {
@@ -143,31 +186,48 @@ module _ (c : After-index_mut) where
       counts = set c.self.inside.counts.items c.args.actor c.look_ahead-ahead.result.next.firing;
       stages = c.self.inside.stages.items;
       opens = c.self.inside.opens.items;
-      tokens = tokens_in c.fire_each.new.pool;
+      tokens = tokens_in c.move_on.new.pool;
     };
-    peaks = (with_items c.self.inside.peaks c.fire_each.new.peaks).items;
+    peaks = (with_items c.self.inside.peaks c.raise_peaks.new.peaks).items;
     sums = set c.self.inside.sums.items c.args.actor (c.index_mut.result.now + c.look_ahead-ahead.result.given);
     started = c.self.inside.started + c.from.result;
     kept = c.self.inside.reserved;
-    pool = c.fire_each.new.pool;
+    pool = c.move_on.new.pool;
   }
 
-  pub lands : made.0 ≡ there
-  lands =
+  counts_are : there.now.counts ≡ set m.now.counts a (k + n)
+  counts_are = ap (set c.self.inside.counts.items c.args.actor) (c.look_ahead-ahead.ensures.firing ∙ ap (λ (x : ℕ). x + n) firing)
+
+  sums_are : there.sums ≡ set m.sums a (get_or m.sums a 0 + gifts_of plan.channels a k n)
+  sums_are =
       let old : c.index_mut.result.now ≡ get_or c.self.inside.sums.items c.args.actor 0 = c.index_mut.ensures.value
       ∙ get_or_default c.self.inside.sums.items c.args.actor c.index_mut.result.now 0 summed in
       let given : c.look_ahead-ahead.result.given ≡ gifts_of plan.channels a k n = c.look_ahead-ahead.ensures.given
       ∙ ap (λ (x : ℕ). gifts_of plan.channels a x n) firing in
       let sum : c.index_mut.result.now + c.look_ahead-ahead.result.given ≡
       get_or c.self.inside.sums.items c.args.actor 0 + gifts_of plan.channels a k n = omega (arith, old, given) in
-      loop_lands plan a k n c.args.tokens.now m made.0 made.1 there.now.counts there.sums there.peaks there.started there.pool
-      (ap (set c.self.inside.counts.items c.args.actor) (c.look_ahead-ahead.ensures.firing ∙ ap (λ (x : ℕ). x + n) firing))
-      (ap (set c.self.inside.sums.items c.args.actor) sum)
-      (items ∙ c.fire_each.ensures.peaks
-      ∙ ap (λ (x : ℕ). peaks_after plan a x n c.self.inside.pool c.args.tokens.now c.deref_mut.result.now) firing
-      ∙ ap (peaks_after plan a k n c.self.inside.pool c.args.tokens.now) c.deref_mut.ensures.value)
-      (ap (λ (x : ℕ). c.self.inside.started + x) c.from.ensures)
-      (c.fire_each.ensures.cells ∙ ap (λ (x : ℕ). pool_after plan a x n c.self.inside.pool c.args.tokens.now) firing)
+      ap (set c.self.inside.sums.items c.args.actor) sum
+
+  peaks_are : there.peaks ≡ raise_over (outs plan a) (tokens_in c.move_on.new.pool) m.peaks
+  peaks_are = items ∙ c.raise_peaks.ensures ∙ ap (raise_over (outs plan a) (tokens_in c.move_on.new.pool)) c.deref_mut.ensures.value
+
+  moved : 0 < n → tokens_in c.move_on.new.pool ≡ gone_on plan a c.args.feedback k n (tokens_in m.pool) c.args.tokens.now
+  moved some =
+      c.move_on.ensures.moved some
+      ∙ ap (λ (x : ℕ). gone_on plan a c.args.feedback x n (tokens_in c.self.inside.pool) c.args.tokens.now) firing
+
+  pub good_now : IsGood plan there
+  good_now =
+      good_there plan a c.args.feedback told n c.args.tokens.now m made.0 good finds all made.1 there.now.counts there.sums there.peaks there.started
+      c.move_on.new.pool c.move_on.ensures.same c.move_on.ensures.size c.move_on.ensures.partition c.move_on.ensures.none moved
+      counts_are sums_are (ap (λ (x : ℕ). c.self.inside.started + x) c.from.ensures) peaks_are
+
+  pub plays_now : Plays (view plan m) (view plan there) (firings_of plan.channels a k n c.args.tokens.now)
+      (answers_to plan p (firings_of plan.channels a k n c.args.tokens.now))
+  plays_now =
+      plays_there plan a c.args.feedback told n c.args.tokens.now m made.0 good finds all made.1 there.now.counts there.sums there.peaks there.started
+      c.move_on.new.pool c.move_on.ensures.same c.move_on.ensures.size c.move_on.ensures.partition c.move_on.ensures.none moved
+      counts_are sums_are (ap (λ (x : ℕ). c.self.inside.started + x) c.from.ensures) peaks_are
 
 pub invariant_of-self : goal.invariant_of-self
 invariant_of-self c =
@@ -181,7 +241,7 @@ invariant_of-self c =
       amounts = amounts_finished layout c.self.inside.counts.items c.self.inside.needs.items c.self.inside.gifts.items c.args.actor
           c.look_ahead-ahead.result.next.firing c.need_of-needed.result c.gift_of-given.result c.self.invariant.amounts within counted
           c.need_of-needed.ensures.value c.gift_of-given.ensures.value c.need_of-needed.ensures.small c.gift_of-given.ensures.small;
-      sound = (subst (IsGood layout) (lands here) (made here).1.good).sound;
+      sound = (good_now here).sound;
     }
 
 pub returns-clause-accepted : goal.returns-clause-accepted
@@ -192,9 +252,7 @@ returns-clause-accepted c =
 pub returns-clause-plays : goal.returns-clause-plays
 returns-clause-plays c =
     let here : After-index_mut = (goal.at.returns-clause-plays c).After-index_mut in
-    rw (← c.self.view_is) (subst (λ (x : Machine). Plays (view (plan here) (m here)) (view (plan here) x)
-    (firings_of (plan here).channels (a here) (k here) (n here) c.args.tokens.now)
-    (answers_to (plan here) (p here) (firings_of (plan here).channels (a here) (k here) (n here) c.args.tokens.now))) (lands here) (made here).1.plays)
+    rw (← c.self.view_is) (plays_now here)
 
 pub index_mut-requires-5 : goal.index_mut-requires-5
 index_mut-requires-5 c = grind (arith, common_steps)
@@ -208,23 +266,17 @@ index_mut-requires-3 c = grind (arith, common_steps)
 pub index_mut-requires-2 : goal.index_mut-requires-2
 index_mut-requires-2 c = grind (arith, common_steps)
 
-pub fire_each-requires-clause-all : goal.fire_each-requires-clause-all
-fire_each-requires-clause-all c = grind (arith, common_steps)
-
 pub index_mut-requires : goal.index_mut-requires
 index_mut-requires c = grind (arith, common_steps)
 
-pub fire_each-requires-clause-in_phase : goal.fire_each-requires-clause-in_phase
-fire_each-requires-clause-in_phase c = grind (arith, common_steps)
+pub move_on-requires-clause-in_phase : goal.move_on-requires-clause-in_phase
+move_on-requires-clause-in_phase c = grind (arith, common_steps)
 
-pub fire_each-requires-clause-actor : goal.fire_each-requires-clause-actor
-fire_each-requires-clause-actor c = grind (arith, common_steps)
+pub move_on-requires-clause-actor : goal.move_on-requires-clause-actor
+move_on-requires-clause-actor c = grind (arith, common_steps)
 
-pub fire_each-requires-clause-peaked : goal.fire_each-requires-clause-peaked
-fire_each-requires-clause-peaked c = grind (arith, common_steps)
-
-pub fire_each-requires-clause-partition : goal.fire_each-requires-clause-partition
-fire_each-requires-clause-partition c = grind (arith, common_steps)
+pub move_on-requires-clause-partition : goal.move_on-requires-clause-partition
+move_on-requires-clause-partition c = grind (arith, common_steps)
 
 pub gift_of-given-requires-clause-in_phase : goal.gift_of-given-requires-clause-in_phase
 gift_of-given-requires-clause-in_phase c = grind (arith, common_steps)
@@ -241,8 +293,8 @@ need_of-needed-requires-clause-actor c = grind (arith, common_steps)
 pub look_ahead-ahead-requires-clause-in_phase : goal.look_ahead-ahead-requires-clause-in_phase
 look_ahead-ahead-requires-clause-in_phase c = grind (arith, common_steps)
 
-pub fire_each-requires-clause-same : goal.fire_each-requires-clause-same
-fire_each-requires-clause-same c = grind (arith, common_steps)
+pub move_on-requires-clause-same : goal.move_on-requires-clause-same
+move_on-requires-clause-same c = grind (arith, common_steps)
 
 pub look_ahead-ahead-requires-clause-actor : goal.look_ahead-ahead-requires-clause-actor
 look_ahead-ahead-requires-clause-actor c = grind (arith, common_steps)
@@ -252,3 +304,12 @@ overflow_cast-given c = grind (arith, common_steps)
 
 pub overflow_cast-needed : goal.overflow_cast-needed
 overflow_cast-needed c = grind (arith, common_steps)
+
+pub raise_peaks-requires-clause-same : goal.raise_peaks-requires-clause-same
+raise_peaks-requires-clause-same c = grind (arith, common_steps)
+
+pub raise_peaks-requires-clause-peaked : goal.raise_peaks-requires-clause-peaked
+raise_peaks-requires-clause-peaked c = grind (arith, common_steps)
+
+pub raise_peaks-requires-clause-actor : goal.raise_peaks-requires-clause-actor
+raise_peaks-requires-clause-actor c = grind (arith, common_steps)
