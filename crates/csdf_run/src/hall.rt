@@ -35,6 +35,7 @@ pub(crate) struct Hall<K: Asked> {
     looking: AtomicU32,
     is_ended: AtomicBool,
     is_alone: bool,
+    drafts: bool,
 }
 
 /// What came of a turn: what was delivered, whether a job was started, and whether another worker is to be
@@ -77,6 +78,7 @@ impl<K: Asked> Hall<K> {
             looking: AtomicU32::new(0),
             is_ended: AtomicBool::new(false),
             is_alone: crew.is_alone(),
+            drafts: crew.drafts(),
         }
     }
 
@@ -92,6 +94,7 @@ impl<K: Asked> Hall<K> {
             looking: _,
             is_ended: _,
             is_alone: _,
+            drafts: _,
         } = self;
         let Watched {
             floor,
@@ -248,7 +251,7 @@ impl<K: Asked> Hall<K> {
         let _ = place;
         let mut guard = self.watched.lock(rt);
         let watched = &mut *guard;
-        if !self.is_alone && watched.draft(claim, hand) {
+        if self.drafts && watched.draft(claim, hand) {
             self.leave(watched, stand);
             drop(guard);
             return self.make_drafted(rt, gate, stand, hand, claim);

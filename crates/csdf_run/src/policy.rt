@@ -31,6 +31,12 @@ impl Crew {
     pub(crate) fn is_alone(self) -> bool {
         self.workers <= 1
     }
+
+    /// Whether blocks of firings that are heavy are evaluated without the lock: where there are two. With
+    /// more they wait for the lock, and for each other to wake up, longer than they evaluate.
+    pub(crate) fn drafts(self) -> bool {
+        self.workers == 2
+    }
 }
 
 /// Whether a firing is worth waking a worker for.
@@ -62,7 +68,7 @@ pub(crate) enum Teller {
 /// under the lock that nothing is spare before it sleeps, or starts a firing and tells in its turn.
 /// Firings of a light actor are made one after another under the lock by the one who tends, or by the one
 /// worker that there is, which makes those of all. An actor is light once it is seen to be so.
-/// Where there are others, a worker leaves the lock to evaluate a block of firings that is heavy: it has
+/// Where there are two workers, one leaves the lock to evaluate a block of firings that is heavy: it has
 /// *drafted* it, and tends no longer. Whose last block was drafted is spare too; while it is, nobody looks
 /// for the actor.
 /// None is woken in vain: it is woken for an actor that nobody else looks for, once the claims of the one
