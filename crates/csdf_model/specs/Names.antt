@@ -1,5 +1,6 @@
 -- Names, and the numbers that stand for them.
-use Rattle.std.specs.Prelude.{ℕ, Bool, false, ◌&&◌, ◌||◌, ◌==◌, nat_le, List, [], ◌∷◌, length, Option, position}
+use Rattle.std.specs.Prelude.{ℕ, Bool, false, ◌&&◌, ◌||◌, ◌==◌, nat_lt, List, [], ◌∷◌, length, Option, position}
+use Rattle.csdf_model.specs.declared.limits.TheConstants.{MAX_NAME_BYTES}
 use Rattle.std.specs.Char.{is_ascii_alphabetic, is_ascii_alphanumeric}
 use Rattle.std.specs.List.{list_all}
 use Rattle.std.specs.Str.{bytes_eq}
@@ -7,10 +8,10 @@ use Rattle.std.specs.Str.{bytes_eq}
 abbrev pub is_word_byte : ℕ → Bool
 is_word_byte c = is_ascii_alphanumeric c || c == 95
 
--- an ASCII letter, and at most 31 letters, digits or underscores
+-- an ASCII letter, and then letters, digits or underscores, of the most bytes of a name at most
 abbrev pub is_name : List ℕ → Bool
 is_name [] = false
-is_name (c ∷ cs) = is_ascii_alphabetic c && (nat_le (length cs) 31 && list_all is_word_byte cs)
+is_name (c ∷ cs) = is_ascii_alphabetic c && (nat_lt (length cs) MAX_NAME_BYTES && list_all is_word_byte cs)
 
 -- the place of a name, which is its number
 abbrev pub number_in : List (List ℕ) → List ℕ → Option ℕ

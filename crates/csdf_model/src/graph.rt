@@ -5,6 +5,7 @@ ghost use Rattle.csdf_model.specs.Graph.{actor_view, channel_view, graph_view, i
 ghost use Rattle.csdf_model.specs.WellFormed.{IsCapacity, IsWellFormed};
 ghost use Rattle.csdf_model.specs.Names.{number_in};
 
+use crate::limits::MAX_CHANNELS;
 use crate::numbers::number_in;
 use crate::parts::{Actor, Channel};
 use crate::ports::{Ports, gathered};
@@ -106,7 +107,7 @@ impl Graph {
     fn ports_of(&self, actor: u32) -> &Ports
         requires { actor < length self.now.actors }
         ensures ports { ports_view result.now ≡ ports_of self.now.channels actor }
-        ensures few { length self.now.channels ≤ 128 }
+        ensures few { length self.now.channels ≤ MAX_CHANNELS }
     {
         &self.ports[actor as usize]
     }
@@ -116,7 +117,7 @@ impl Graph {
         requires { actor < length self.now.actors }
         ensures value { result.now ≡ inputs_of self.now.channels actor }
         ensures within { All (λ c. c < length self.now.channels) result.now }
-        ensures few { length result.now ≤ 128 }
+        ensures few { length result.now ≤ MAX_CHANNELS }
     {
         &self.ports_of(actor).inputs
     }
@@ -126,7 +127,7 @@ impl Graph {
         requires { actor < length self.now.actors }
         ensures value { result.now ≡ outputs_of self.now.channels actor }
         ensures within { All (λ c. c < length self.now.channels) result.now }
-        ensures few { length result.now ≤ 128 }
+        ensures few { length result.now ≤ MAX_CHANNELS }
     {
         &self.ports_of(actor).outputs
     }

@@ -2,12 +2,19 @@
 #![tactic(auto)]
 
 mod graph;
+mod limits;
 mod numbers;
 mod parts;
 mod ports;
 mod rates;
 
 pub use graph::Graph;
+pub use limits::{
+    MAX_ACTORS, MAX_CAPACITY, MAX_CELLS, MAX_CHANNELS, MAX_FIRINGS, MAX_FIRINGS_PER_ACTOR,
+    MAX_FIRINGS_PER_PERIOD, MAX_INITIAL_TOKENS, MAX_NAME_BYTES, MAX_PHASES, MAX_SCRIPT_LIMIT,
+    MAX_SCRIPT_LINES, MAX_SCRIPT_SUPPLY, MAX_SHIFT, MAX_TOKENS_PER_FIRING, MAX_WEIGHT, MAX_WEIGHTS,
+    MIN_WEIGHT,
+};
 pub use numbers::number_in;
 pub use parts::{Actor, Channel, Kernel};
 pub use rates::{rate, total};

@@ -1,5 +1,6 @@
 //! What a graph is made of: actors with their kernels, and channels.
 
+use crate::limits::MAX_WEIGHTS;
 use std::alloc::AllocError;
 
 /// What an actor does with its tokens.
@@ -16,7 +17,7 @@ pub enum Kernel {
     /// A finite impulse response filter. The first `taps` weights count, and the rest are 0; each
     /// sum of products is divided by two to the power of `shift`.
     Fir {
-        weights: [i32; 16],
+        weights: [i32; MAX_WEIGHTS],
         taps: u32,
         shift: u32,
     },

@@ -4,6 +4,7 @@ ghost use Rattle.std.specs.Prelude.{◌≡◌, ◌≤◌, length, map, IfOk};
 ghost use Rattle.csdf_model.specs.Graph.{channel_view, inputs_of, outputs_of, ports_view};
 ghost use Rattle.csdf_model.specs.Kept.{all_ports};
 
+use crate::limits::{MAX_ACTORS, MAX_CHANNELS};
 use crate::parts::Channel;
 use std::alloc::{AllocError, Global};
 
@@ -20,7 +21,7 @@ pub(crate) struct Ports {
 impl Ports {
     /// The channels of this actor. An error says that memory ran out.
     fn of(alloc: Global, channels: &[Channel], actor: u32) -> Result<Ports, AllocError>
-        requires { length channels.now ≤ 128 }
+        requires { length channels.now ≤ MAX_CHANNELS }
         ensures inputs { IfOk result (λ ports. ports.inputs.items ≡ inputs_of (map channel_view channels.now) actor) }
         ensures outputs { IfOk result (λ ports. ports.outputs.items ≡ outputs_of (map channel_view channels.now) actor) }
     {
@@ -36,8 +37,8 @@ pub(crate) fn gathered(
     channels: &[Channel],
     actors: usize,
 ) -> Result<Vec<Ports>, AllocError>
-    requires few_actors { actors ≤ 64 }
-    requires few_channels { length channels.now ≤ 128 }
+    requires few_actors { actors ≤ MAX_ACTORS }
+    requires few_channels { length channels.now ≤ MAX_CHANNELS }
     ensures { IfOk result (λ v. map ports_view v.items ≡ all_ports (map channel_view channels.now) actors) }
 {
     let mut ports = Vec::new(alloc);
@@ -48,7 +49,7 @@ pub(crate) fn gathered(
 }
 
 fn inputs_of(alloc: Global, channels: &[Channel], actor: u32) -> Result<Vec<u32>, AllocError>
-    requires { length channels.now ≤ 128 }
+    requires { length channels.now ≤ MAX_CHANNELS }
     ensures { IfOk result (λ v. v.items ≡ inputs_of (map channel_view channels.now) actor) }
 {
     let mut inputs = Vec::new(alloc);
@@ -61,7 +62,7 @@ fn inputs_of(alloc: Global, channels: &[Channel], actor: u32) -> Result<Vec<u32>
 }
 
 fn outputs_of(alloc: Global, channels: &[Channel], actor: u32) -> Result<Vec<u32>, AllocError>
-    requires { length channels.now ≤ 128 }
+    requires { length channels.now ≤ MAX_CHANNELS }
     ensures { IfOk result (λ v. v.items ≡ outputs_of (map channel_view channels.now) actor) }
 {
     let mut outputs = Vec::new(alloc);

@@ -1,0 +1,55 @@
+//! The limits of graph files, of their scripts and of runs, under the names that clauses have for them too.
+
+/// The most actors of a graph.
+pub const MAX_ACTORS: usize = 64;
+
+/// The most channels of a graph.
+pub const MAX_CHANNELS: usize = 128;
+
+/// The most bytes of a name.
+pub const MAX_NAME_BYTES: usize = 32;
+
+/// The most phases of an actor.
+pub const MAX_PHASES: u32 = 16;
+
+/// The most weights of a filter.
+pub const MAX_WEIGHTS: usize = 16;
+
+/// The least weight of a filter.
+pub const MIN_WEIGHT: i32 = -32_768;
+
+/// The greatest weight of a filter.
+pub const MAX_WEIGHT: i32 = 32_767;
+
+/// The greatest shift of a filter.
+pub const MAX_SHIFT: u32 = 31;
+
+/// The most tokens that a firing puts into a channel, or takes out of one.
+pub const MAX_TOKENS_PER_FIRING: u32 = 64;
+
+/// The most tokens that a channel begins with.
+pub const MAX_INITIAL_TOKENS: usize = 256;
+
+/// The greatest capacity of a channel.
+pub const MAX_CAPACITY: u32 = 65_535;
+
+/// The most cells of a pool: the greatest capacity for each of the most channels.
+pub const MAX_CELLS: u32 = 8_388_480;
+
+/// The greatest limit that a script may set on the firings of each actor.
+pub const MAX_SCRIPT_LIMIT: u32 = 1_000_000;
+
+/// The most tokens that a script may give each source.
+pub const MAX_SCRIPT_SUPPLY: u32 = 1_000_000;
+
+/// The most lines of a script.
+pub const MAX_SCRIPT_LINES: usize = 100_000;
+
+/// The most firings of an actor in a period.
+pub const MAX_FIRINGS_PER_PERIOD: u32 = 1_024;
+
+/// The most firings of an actor in a run.
+pub const MAX_FIRINGS_PER_ACTOR: u32 = 16_384_000;
+
+/// The most firings of all actors in a run: those of an actor for each of the most actors.
+pub const MAX_FIRINGS: u32 = 1_048_576_000;
