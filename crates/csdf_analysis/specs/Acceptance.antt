@@ -1,5 +1,6 @@
 -- Graphs that are accepted, and why others are not.
 use Rattle.std.specs.Prelude.{ℕ, ◌≤◌, List, All, sum, unwrap_or}
+use Rattle.csdf_model.specs.declared.limits.TheConstants.{MAX_CAPACITY}
 use Rattle.csdf_model.specs.Graph.{Graph}
 use Rattle.csdf_model.specs.WellFormed.{IsWellFormed}
 use Rattle.csdf_analysis.specs.declared.fault.AcceptFault.{AcceptFault}
@@ -19,7 +20,7 @@ pub record IsAccepted (a : Accepted) : Type 0 where
   pub well_formed : IsWellFormed a.graph
   pub repetition : IsRepetition a.graph.actors a.graph.channels a.r a.q
   pub least : AreLeastCapacities a.graph.channels a.q a.capacities
-  pub small : All (λ b. b ≤ 65535) a.capacities
+  pub small : All (λ b. b ≤ MAX_CAPACITY) a.capacities
 
 -- the given number of cells, or else the sum of the capacities
 abbrev pub cells_of : Accepted → ℕ

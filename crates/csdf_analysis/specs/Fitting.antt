@@ -1,5 +1,6 @@
 -- What a run plays: channels and the firings of a period, within the limits of a graph.
 use Rattle.std.specs.Prelude.{◌≡◌, ℕ, ◌<◌, ◌≤◌, List, length, All, sum, slice_index}
+use Rattle.csdf_model.specs.declared.limits.TheConstants.{MAX_ACTORS, MAX_CHANNELS, MAX_TOKENS_PER_FIRING}
 use Rattle.csdf_model.specs.Graph.{Actor, Channel, phases_of}
 use Rattle.csdf_model.specs.Rates.{produced}
 use Rattle.csdf_analysis.specs.Repetition.{HaveRoom}
@@ -14,14 +15,14 @@ pub record Period : Type 0 where
 pub record IsBetween (n : ℕ) (c : Channel) : Type 0 where
   pub from : c.from < n
   pub to : c.to < n
-  pub small : All (λ x. x ≤ 64) c.produce
+  pub small : All (λ x. x ≤ MAX_TOKENS_PER_FIRING) c.produce
 
 -- at most 128 channels between the actors, with full capacities up to 65,535, some token put into each in a period, and so many firings that their number fits
 -- 32 bits
 pub record IsFit (channels : List Channel) (q : List ℕ) : Type 0 where
   pub between : All (IsBetween (length q)) channels
-  pub few : length channels ≤ 128
-  pub few_actors : length q ≤ 64
+  pub few : length channels ≤ MAX_CHANNELS
+  pub few_actors : length q ≤ MAX_ACTORS
   pub room : HaveRoom q channels
   pub some_put : All (λ c. 1 ≤ produced c (slice_index q c.from)) channels
   pub total : sum q ≤ 1048576

@@ -1,5 +1,6 @@
 -- How the least capacities are found: channel by channel, in file order.
 use Rattle.std.specs.Prelude.{◌≡◌, ◌⊎◌, ℕ, ◌<◌, ◌≤◌, List, All, map, slice_index, slice_get, Some, unwrap_or}
+use Rattle.csdf_model.specs.declared.limits.TheConstants.{MAX_CAPACITY}
 use Rattle.csdf_model.specs.Graph.{Channel}
 use Rattle.csdf_analysis.specs.Repetition.{full_capacity}
 use Rattle.csdf_analysis.specs.Period.{CompletesPeriod}
@@ -26,5 +27,5 @@ pub record IsLowered (channels : List Channel) (q : List ℕ) (c : ℕ) (bounds 
   pub completes : CompletesPeriod channels q bounds
   pub agrees : Agrees channels bounds
   pub ahead : (i : ℕ) (d : Channel) → c ≤ i → slice_get channels i ≡ Some d → slice_index bounds i ≡ first_bound q d
-  pub small : All (λ b. b ≤ 65535) bounds
+  pub small : All (λ b. b ≤ MAX_CAPACITY) bounds
   pub least : (w : List ℕ) → CompletesPeriod channels q w → Agrees channels w → AreSameBelow c bounds w ⊎ IsBeforeBelow c bounds w

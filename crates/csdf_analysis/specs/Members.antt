@@ -2,6 +2,7 @@
 use Rattle.std.specs.Prelude.{◌≡◌, ℕ, ◌*◌, ◌/◌, ◌<◌, ◌≤◌, ◌==◌, if◌then◌else◌, List, [], ◌∷◌, ◌++◌, length, map, All, Option, Some, None, slice_index}
 use Rattle.std.specs.Prelude.{slice_index_or}
 use Rattle.std.specs.List.{range_with_len}
+use Rattle.csdf_model.specs.declared.limits.TheConstants.{MAX_CYCLES_PER_PERIOD}
 use Rattle.csdf_model.specs.Graph.{Actor, Channel}
 use Rattle.csdf_analysis.specs.declared.members.Member.{Member}
 use Rattle.csdf_analysis.specs.declared.members.Merge.{Merge}
@@ -30,7 +31,7 @@ entry_at members a = (slice_index_or members a nobody).entry
 -- each of n actors has an entry from 1 to 1,024
 pub record AreEntries (n : ℕ) (members : List Member) : Type 0 where
   pub each_actor : length members ≡ n
-  pub within : All (λ m. (1 ≤ m.entry) × (m.entry ≤ 1024)) members
+  pub within : All (λ m. (1 ≤ m.entry) × (m.entry ≤ MAX_CYCLES_PER_PERIOD)) members
 
 -- the entries balance the channels, whose ends are of one group; and every vector that balances them is on each group a multiple of the entries
 pub record AreMembers (actors : List Actor) (channels : List Channel) (members : List Member) : Type 0 where
@@ -54,8 +55,8 @@ moved m a = record { group = if a.group == m.gone then m.into else a.group; entr
 
 -- the members after a merge, each entry at most 1,024; or nothing where some entry would be greater
 abbrev pub Moves : Merge → List Member → Option (List Member) → Type 0
-Moves m members None = (a : ℕ) × (a < length members) × (1024 < entry_at (map (moved m) members) a)
-Moves m members (Some next) = (next ≡ map (moved m) members) × All (λ a. a.entry ≤ 1024) next
+Moves m members None = (a : ℕ) × (a < length members) × (MAX_CYCLES_PER_PERIOD < entry_at (map (moved m) members) a)
+Moves m members (Some next) = (next ≡ map (moved m) members) × All (λ a. a.entry ≤ MAX_CYCLES_PER_PERIOD) next
 
 -- the group of one member goes into that of another, where a cycle of the one, as often as its entry, puts in so many tokens, and of the other takes out so
 -- many: the factors are what a greatest common divisor leaves of these

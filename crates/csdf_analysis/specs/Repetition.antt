@@ -1,5 +1,6 @@
 -- The least repetition vector: how often each actor fires in a period (Lee and Messerschmitt 1987).
 use Rattle.std.specs.Prelude.{◌≡◌, ℕ, suc, ◌+◌, ◌*◌, ◌<◌, ◌≤◌, List, length, take, All, EachIndex, slice_index, slice_get, Some}
+use Rattle.csdf_model.specs.declared.limits.TheConstants.{MAX_CYCLES_PER_PERIOD, MAX_TOKENS_PER_FIRING, MAX_INITIAL_TOKENS, MAX_CAPACITY}
 use Rattle.csdf_model.specs.Graph.{Actor, Channel, phases_of}
 use Rattle.csdf_model.specs.Rates.{produced, consumed}
 use Rattle.csdf_analysis.specs.declared.fault.AcceptFault.{AcceptFault}
@@ -27,7 +28,7 @@ pub record IsVector (actors : List Actor) (r : List ℕ) : Type 0 where
 
 -- each entry is at most 1,024
 abbrev pub IsSmall : List ℕ → Type 0
-IsSmall r = All (λ n. n ≤ 1024) r
+IsSmall r = All (λ n. n ≤ MAX_CYCLES_PER_PERIOD) r
 
 -- it balances all channels, and no vector that does so has a smaller entry anywhere
 pub record IsLeastRepetition (actors : List Actor) (channels : List Channel) (r : List ℕ) : Type 0 where
@@ -47,12 +48,12 @@ full_capacity q c = length c.initial + produced c (slice_index q c.from)
 -- a channel from one of n actors, with rates up to 64 and up to 256 initial tokens
 pub record IsWithin (n : ℕ) (c : Channel) : Type 0 where
   pub from : c.from < n
-  pub small : All (λ x. x ≤ 64) c.produce
-  pub few_initial : length c.initial ≤ 256
+  pub small : All (λ x. x ≤ MAX_TOKENS_PER_FIRING) c.produce
+  pub few_initial : length c.initial ≤ MAX_INITIAL_TOKENS
 
 -- each full capacity is at most 65,535
 abbrev pub HaveRoom : List ℕ → List Channel → Type 0
-HaveRoom q channels = All (λ c. full_capacity q c ≤ 65535) channels
+HaveRoom q channels = All (λ c. full_capacity q c ≤ MAX_CAPACITY) channels
 
 -- the least vector and its firings, within the limits
 pub record IsRepetition (actors : List Actor) (channels : List Channel) (r q : List ℕ) : Type 0 where
@@ -78,7 +79,7 @@ pub record IsFirstUnbalanced (actors : List Actor) (channels : List Channel) (c 
 pub record IsFirstOver (q : List ℕ) (channels : List Channel) (c : ℕ) : Type 0 where
   pub channel : Channel
   pub place : slice_get channels c ≡ Some channel
-  pub above : 65535 < full_capacity q channel
+  pub above : MAX_CAPACITY < full_capacity q channel
   pub before : HaveRoom q (take c channels)
 
 -- the least vector is within the limit, and this channel is the first whose full capacity is not

@@ -1,5 +1,6 @@
 -- Graphs whose channels have room for the tokens of several periods.
 use Rattle.std.specs.Prelude.{◌≡◌, ◌≢◌, ◌⊎◌, ℕ, ◌+◌, ◌*◌, ◌<◌, ◌≤◌, min, max, List, [], ◌∷◌, length, map, slice_index, slice_get, unwrap_or, Option, Some, None, All}
+use Rattle.csdf_model.specs.declared.limits.TheConstants.{MAX_CAPACITY}
 use Rattle.csdf_model.specs.Graph.{Channel, Graph, with_capacity}
 use Rattle.csdf_model.specs.Rates.{produced}
 use Rattle.csdf_analysis.specs.declared.fault.AcceptFault.{AcceptFault}
@@ -14,7 +15,7 @@ use Rattle.csdf_analysis.specs.Laws.{IsWithinAll}
 
 -- the initial tokens of a channel and all that its producer puts in within so many periods, and at most 65,535
 abbrev pub room_for : List ℕ → ℕ → Channel → ℕ
-room_for q periods c = min (length c.initial + periods * produced c (slice_index q c.from)) 65535
+room_for q periods c = min (length c.initial + periods * produced c (slice_index q c.from)) MAX_CAPACITY
 
 -- the given capacity of a channel, or else this room
 abbrev pub capacity_with_room : List ℕ → ℕ → Channel → ℕ
@@ -61,7 +62,7 @@ RoomIsRefused =
 abbrev pub RoomHoldsPeriods : Type 0
 RoomHoldsPeriods =
     (g : Graph) (r q n : List ℕ) (periods i : ℕ) (c : Channel) → IsWellFormed g → IsRepetition g.actors g.channels r q → slice_get g.channels i ≡ Some c
-    → room_for q periods c < 65535 → slice_index n c.from < periods * slice_index q c.from → held_after c.from n c ≤ room_for q periods c
+    → room_for q periods c < MAX_CAPACITY → slice_index n c.from < periods * slice_index q c.from → held_after c.from n c ≤ room_for q periods c
 
 -- a channel that was given a capacity
 abbrev pub IsGiven : Channel → Type 0

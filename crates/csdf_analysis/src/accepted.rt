@@ -9,7 +9,7 @@ use crate::calls::capacities::capacities;
 use crate::calls::repetition::repetition;
 use crate::fault::AcceptFault;
 use crate::vector::Vector;
-use csdf_model::Graph;
+use csdf_model::{Graph, MAX_CAPACITY};
 use std::alloc::{AllocError, Global};
 use std::marker::Model;
 
@@ -45,7 +45,7 @@ impl Model for Accepted {
 fn judged(alloc: Global, graph: &Graph) -> Result<(Vector, Vec<u32>), AcceptFault>
     ensures repetition { IfOk result (λ found. IsRepetition graph.now.actors graph.now.channels found.0.r.items found.0.q.items) }
     ensures least { IfOk result (λ found. AreLeastCapacities graph.now.channels found.0.q.items found.1.items) }
-    ensures small { IfOk result (λ found. All (λ b. b ≤ 65535) found.1.items) }
+    ensures small { IfOk result (λ found. All (λ b. b ≤ MAX_CAPACITY) found.1.items) }
     ensures refusal { IfErr result (IsNotAccepted graph.now) }
 {
     let vector = repetition(alloc, graph)?;

@@ -8,7 +8,7 @@ ghost use Rattle.csdf_analysis.specs.Members.{IsLink, AreEntries, AreMembers, Is
 use crate::fault::AcceptFault;
 use crate::gcd::gcd;
 use crate::members::{Member, Merge, alone, merged};
-use csdf_model::{Actor, Channel};
+use csdf_model::{Actor, Channel, MAX_CHANNELS};
 use std::alloc::{AllocError, Global};
 
 /// How many phases an actor has, and none where there is no such actor.
@@ -89,7 +89,7 @@ pub(crate) fn balanced(
     channels: &[Channel],
 ) -> Result<Vec<Member>, AcceptFault>
     requires channels { All (IsLink (map actor_view actors.now)) (map channel_view channels.now) }
-    requires few { length channels.now ≤ 128 }
+    requires few { length channels.now ≤ MAX_CHANNELS }
     ensures members { IfOk result (λ v. AreMembers (map actor_view actors.now) (map channel_view channels.now) v.items) }
     ensures refusal { IfErr result (IsRefused (map actor_view actors.now) (map channel_view channels.now)) }
 {

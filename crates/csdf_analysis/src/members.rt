@@ -3,10 +3,8 @@
 ghost use Rattle.std.specs.Prelude.{◌≡◌, ◌≤◌, ◌<◌, MatchOption, IfOk, option_map};
 ghost use Rattle.csdf_analysis.specs.Members.{factor, moved, Moves, alone};
 
+use csdf_model::MAX_CYCLES_PER_PERIOD;
 use std::alloc::{AllocError, Global};
-
-/// The greatest entry of a vector of cycles.
-pub(crate) const GREATEST_ENTRY: u32 = 1024;
 
 /// An actor while channels join actors to groups: the number of its group, and its entry in the
 /// least vector that balances the group's channels.
@@ -40,10 +38,10 @@ impl Merge {
 
     /// The member once the groups are one, or nothing where its entry would be too great.
     fn moved(self, member: Member) -> Option<Member>
-        ensures { MatchOption result (1024 < (moved self member).entry) (λ next. (next ≡ moved self member) × (next.entry ≤ 1024)) }
+        ensures { MatchOption result (MAX_CYCLES_PER_PERIOD < (moved self member).entry) (λ next. (next ≡ moved self member) × (next.entry ≤ MAX_CYCLES_PER_PERIOD)) }
     {
         let entry = u64::from(member.entry) * u64::from(self.factor(member.group));
-        if entry > u64::from(GREATEST_ENTRY) {
+        if entry > u64::from(MAX_CYCLES_PER_PERIOD) {
             return None;
         }
         let group = if member.group == self.gone {

@@ -4,7 +4,7 @@ ghost use Rattle.std.specs.Prelude.{◌≡◌, ◌<◌, ◌≤◌, ℕ, IfOk, le
 ghost use Rattle.csdf_analysis.specs.Waking.{AreActors, AreNeighbours, AreWoken, ConsumersIn, IsConsumerFrom, IsIn, IsProducerTo, ProducersIn};
 
 use crate::mask::{joined, with_actor};
-use csdf_model::Graph;
+use csdf_model::{Graph, MAX_ACTORS};
 use std::alloc::{AllocError, Global};
 
 /// The actors that put tokens into the actor's inputs, itself among them where a channel begins and
@@ -44,7 +44,7 @@ pub fn consumers_of(graph: &Graph, actor: u32) -> u64
 /// The actor and those at the other ends of its channels.
 fn neighbours_of(graph: &Graph, actor: u32) -> u64
     requires exists { actor < length graph.now.actors }
-    requires few { length graph.now.actors ≤ 64 }
+    requires few { length graph.now.actors ≤ MAX_ACTORS }
     ensures woken { AreWoken graph.now.channels actor result }
     ensures actors { AreActors (length graph.now.actors) result }
 {

@@ -8,7 +8,7 @@ ghost use Rattle.csdf_analysis.specs.Waking.{AreActors, AreWoken, IsIn};
 use crate::balance::phases_of;
 use crate::mask::joined;
 use crate::neighbours::neighbours;
-use csdf_model::{Channel, Graph};
+use csdf_model::{Channel, Graph, MAX_ACTORS, MAX_CHANNELS, MAX_TOKENS_PER_FIRING};
 use std::alloc::{AllocError, Global};
 use std::marker::Model;
 
@@ -55,7 +55,7 @@ impl<'a> Net<'a> {
     /// The number of actors.
     pub(crate) fn actors(&self) -> usize
         ensures count { result ≡ length self.now.firings }
-        ensures few { result ≤ 64 }
+        ensures few { result ≤ MAX_ACTORS }
         ensures fit { IsFit self.now.channels self.now.firings }
         ensures phased { IsPhased self.now.actors self.now.channels self.now.firings }
     {
@@ -65,7 +65,7 @@ impl<'a> Net<'a> {
     /// The number of channels.
     pub(crate) fn channels(&self) -> usize
         ensures count { result ≡ length self.now.channels }
-        ensures few { result ≤ 128 }
+        ensures few { result ≤ MAX_CHANNELS }
     {
         self.graph.channels().len()
     }
@@ -88,7 +88,7 @@ impl<'a> Net<'a> {
         requires exists { number < length self.now.channels }
         requires phase { (c : ChannelModel) → slice_get self.now.channels number ≡ Some c → phase < phases_of self.now.actors c.from }
         ensures value { (c : ChannelModel) → slice_get self.now.channels number ≡ Some c → result ≡ slice_index c.produce phase }
-        ensures small { result ≤ 64 }
+        ensures small { result ≤ MAX_TOKENS_PER_FIRING }
         ensures phased { IsPhased self.now.actors self.now.channels self.now.firings }
         ensures fit { IsFit self.now.channels self.now.firings }
     {

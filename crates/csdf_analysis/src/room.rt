@@ -10,11 +10,8 @@ use crate::accepted::{Accepted, accept};
 use crate::calls::repetition::repetition;
 use crate::fault::AcceptFault;
 use crate::vector::Vector;
-use csdf_model::{Channel, Graph};
+use csdf_model::{Channel, Graph, MAX_CAPACITY};
 use std::alloc::Global;
-
-/// The greatest capacity of a channel.
-const GREATEST_CAPACITY: u64 = 65_535;
 
 /// The most tokens that a channel without a capacity of its own is to carry in the periods that
 /// [`auto_room`] answers.
@@ -24,18 +21,18 @@ const MOST_CARRIED: u32 = 4_096;
 /// at most 65,535.
 fn room_for(channel: &Channel, q: &[u32], periods: u32) -> u32
     requires channel { IsWithin (length q.now) (channel_view channel.now) }
-    requires full { full_capacity q.now (channel_view channel.now) ≤ 65535 }
+    requires full { full_capacity q.now (channel_view channel.now) ≤ MAX_CAPACITY }
     ensures { result ≡ room_for q.now periods (channel_view channel.now) }
 {
     let period = channel.produced(q[channel.from as usize]);
     let tokens = channel.initial.len() as u64 + u64::from(periods) * period;
-    tokens.min(GREATEST_CAPACITY) as u32
+    tokens.min(u64::from(MAX_CAPACITY)) as u32
 }
 
 /// The channel's given capacity, or else its room for so many periods.
 fn capacity_with_room(channel: &Channel, q: &[u32], periods: u32) -> u32
     requires channel { IsWithin (length q.now) (channel_view channel.now) }
-    requires full { full_capacity q.now (channel_view channel.now) ≤ 65535 }
+    requires full { full_capacity q.now (channel_view channel.now) ≤ MAX_CAPACITY }
     ensures { result ≡ capacity_with_room q.now periods (channel_view channel.now) }
 {
     match channel.capacity {
@@ -148,7 +145,7 @@ pub fn accept_in_room(alloc: Global, graph: Graph, room: Room) -> Result<Accepte
 /// How many tokens a period puts into the channel, or 0 where it has a capacity of its own.
 fn carried(channel: &Channel, q: &[u32]) -> u32
     requires channel { IsWithin (length q.now) (channel_view channel.now) }
-    requires full { full_capacity q.now (channel_view channel.now) ≤ 65535 }
+    requires full { full_capacity q.now (channel_view channel.now) ≤ MAX_CAPACITY }
     ensures { result ≡ carried q.now (channel_view channel.now) }
 {
     match channel.capacity {

@@ -11,6 +11,7 @@ ghost use Rattle.csdf_analysis.specs.Running.{CanComplete, HasRoom, HasTokens, I
 
 use crate::mask::{lowest, without_actor};
 use crate::net::Net;
+use csdf_model::MAX_CAPACITY;
 use std::alloc::{AllocError, Global};
 
 /// Where a run stands: the capacities that bound it, how often each actor has fired and in which
@@ -74,7 +75,7 @@ fn put(net: &Net, actor: u32, phase: u32, lengths: &mut [u32])
     requires exists { actor < length net.now.firings }
     requires phase { phase < phases_of net.now.actors actor }
     requires each_channel { length lengths.old ≡ length net.now.channels }
-    requires small { (i : ℕ) (c : ChannelModel) → slice_get net.now.channels i ≡ Some c → slice_index lengths.old i ≤ 65535 }
+    requires small { (i : ℕ) (c : ChannelModel) → slice_get net.now.channels i ≡ Some c → slice_index lengths.old i ≤ MAX_CAPACITY }
     ensures { (i : ℕ) (c : ChannelModel) → slice_get net.now.channels i ≡ Some c
         → slice_index lengths.new i ≡ (if c.from == actor then slice_index lengths.old i + slice_index c.produce phase else slice_index lengths.old i) }
 {

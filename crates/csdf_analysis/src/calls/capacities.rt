@@ -10,7 +10,7 @@ use crate::calls::raise::{completes, raise};
 use crate::calls::repetition::full_capacity;
 use crate::fault::AcceptFault;
 use crate::vector::Vector;
-use csdf_model::{Channel, Graph};
+use csdf_model::{Channel, Graph, MAX_CAPACITY};
 use std::alloc::{AllocError, Global};
 
 /// The initial tokens of each channel and all that its producer puts in within a period.
@@ -50,7 +50,7 @@ pub(crate) fn first_bounds(
 /// The channel's given capacity, or else its full one.
 fn first_bound(channel: &Channel, q: &[u32]) -> u32
     requires channel { IsWithin (length q.now) (channel_view channel.now) }
-    requires room { full_capacity q.now (channel_view channel.now) ≤ 65535 }
+    requires room { full_capacity q.now (channel_view channel.now) ≤ MAX_CAPACITY }
     ensures { result ≡ first_bound q.now (channel_view channel.now) }
 {
     match channel.capacity {
@@ -90,7 +90,7 @@ fn lowered(
 pub fn capacities(alloc: Global, graph: &Graph, vector: &Vector) -> Result<Vec<u32>, AcceptFault>
     requires { IsRepetition graph.now.actors graph.now.channels vector.now.r.items vector.now.q.items }
     ensures least { IfOk result (λ v. AreLeastCapacities graph.now.channels vector.now.q.items v.items) }
-    ensures small { IfOk result (λ v. All (λ b. b ≤ 65535) v.items) }
+    ensures small { IfOk result (λ v. All (λ b. b ≤ MAX_CAPACITY) v.items) }
     ensures refusal { IfErr result (HasNoCapacities graph.now.channels vector.now.q.items) }
 {
     let full = full_capacities(alloc, graph.channels(), &vector.q)?;

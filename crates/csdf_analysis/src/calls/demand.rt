@@ -11,7 +11,7 @@ use crate::demand::{Demand, Ratio};
 use crate::fault::AcceptFault;
 use crate::gcd::gcd;
 use crate::members::Member;
-use csdf_model::{Actor, Channel, Graph};
+use csdf_model::{Actor, Channel, Graph, MAX_CHANNELS};
 use std::alloc::Global;
 
 /// The ratio in lowest terms.
@@ -63,7 +63,7 @@ fn members_before(
     number: u32,
 ) -> Result<Vec<Member>, AcceptFault>
     requires channels { All (IsLink (map actor_view actors.now)) (map channel_view channels.now) }
-    requires few { length channels.now ≤ 128 }
+    requires few { length channels.now ≤ MAX_CHANNELS }
     requires exists { number < length channels.now }
     ensures members { IfOk result (λ v. AreMembers (map actor_view actors.now) (take number (map channel_view channels.now)) v.items) }
     ensures refusal { IfErr result (IsRefused (map actor_view actors.now) (take number (map channel_view channels.now))) }

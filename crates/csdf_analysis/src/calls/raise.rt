@@ -9,7 +9,7 @@ use crate::mask::all;
 use crate::net::Net;
 use crate::run::Run;
 use crate::vector::Vector;
-use csdf_model::Graph;
+use csdf_model::{Graph, MAX_CAPACITY};
 use std::alloc::{AllocError, Global};
 
 /// The same numbers in a list of their own.
@@ -88,7 +88,7 @@ pub fn raise(
 ) -> Result<(u32, u32), AllocError>
     requires vector { IsRepetition graph.now.actors graph.now.channels vector.now.r.items vector.now.q.items }
     requires exists { c < length graph.now.channels }
-    requires small { All (λ b. b ≤ 65535) bounds.now }
+    requires small { All (λ b. b ≤ MAX_CAPACITY) bounds.now }
     requires completes { CompletesPeriod graph.now.channels vector.now.q.items bounds.now }
     ensures least { IfOk result (λ found. IsLeastCapacity graph.now.channels vector.now.q.items bounds.now c found.0) }
     ensures firings { IfOk result (λ found. found.1 ≡ sum vector.now.q.items) }

@@ -10,11 +10,11 @@ use crate::balance::balanced;
 use crate::fault::AcceptFault;
 use crate::members::Member;
 use crate::vector::Vector;
-use csdf_model::{Actor, Channel, Graph};
+use csdf_model::{Actor, Channel, Graph, MAX_CAPACITY, MAX_CHANNELS, MAX_CYCLES_PER_PERIOD};
 use std::alloc::{AllocError, Global};
 
 /// The greatest full capacity of a channel.
-const GREATEST_CAPACITY: u64 = 65_535;
+const GREATEST_CAPACITY: u64 = MAX_CAPACITY as u64;
 
 fn entries(alloc: Global, members: &[Member]) -> Result<Vec<u32>, AllocError>
     ensures { IfOk result (λ v. v.items ≡ map (λ m. m.entry) members.now) }
@@ -25,9 +25,9 @@ fn entries(alloc: Global, members: &[Member]) -> Result<Vec<u32>, AllocError>
 /// The least vector of cycles.
 fn cycles(alloc: Global, actors: &[Actor], channels: &[Channel]) -> Result<Vec<u32>, AcceptFault>
     requires channels { All (IsLink (map actor_view actors.now)) (map channel_view channels.now) }
-    requires few { length channels.now ≤ 128 }
+    requires few { length channels.now ≤ MAX_CHANNELS }
     ensures least { IfOk result (λ r. IsLeastRepetition (map actor_view actors.now) (map channel_view channels.now) r.items) }
-    ensures small { IfOk result (λ r. All (λ n. n ≤ 1024) r.items) }
+    ensures small { IfOk result (λ r. All (λ n. n ≤ MAX_CYCLES_PER_PERIOD) r.items) }
     ensures refusal { IfErr result (IsRefused (map actor_view actors.now) (map channel_view channels.now)) }
 {
     let members = balanced(alloc, actors, channels)?;
@@ -39,7 +39,7 @@ fn cycles(alloc: Global, actors: &[Actor], channels: &[Channel]) -> Result<Vec<u
 fn firings(alloc: Global, actors: &[Actor], r: &[u32]) -> Result<Vec<u32>, AllocError>
     requires actors { All IsActor (map actor_view actors.now) }
     requires each_actor { length r.now ≡ length actors.now }
-    requires small { All (λ n. n ≤ 1024) r.now }
+    requires small { All (λ n. n ≤ MAX_CYCLES_PER_PERIOD) r.now }
     ensures { IfOk result (λ q. AreFirings (map actor_view actors.now) r.now q.items) }
 {
     let mut q = Vec::new(alloc);
@@ -62,7 +62,7 @@ pub(crate) fn full_capacity(channel: &Channel, q: &[u32]) -> u64
 /// An error is the first channel with a greater one.
 fn check_capacities(channels: &[Channel], q: &[u32]) -> Result<(), u32>
     requires channels { All (IsWithin (length q.now)) (map channel_view channels.now) }
-    requires few { length channels.now ≤ 128 }
+    requires few { length channels.now ≤ MAX_CHANNELS }
     ensures room { IfOk result (λ _. HaveRoom q.now (map channel_view channels.now)) }
     ensures over { IfErr result (IsFirstOver q.now (map channel_view channels.now)) }
 {
