@@ -45,11 +45,19 @@ pub const MAX_SCRIPT_SUPPLY: u32 = 1_000_000;
 /// The most lines of a script.
 pub const MAX_SCRIPT_LINES: usize = 100_000;
 
-/// The most firings of an actor in a period.
-pub const MAX_FIRINGS_PER_PERIOD: u32 = 1_024;
+/// The most times that an actor goes through its phases in a period.
+pub const MAX_CYCLES_PER_PERIOD: u32 = 1_024;
 
-/// The most firings of an actor in a run.
+/// The most firings of an actor in a run: those of the most phases, as often as they may be gone
+/// through, in each of the most periods.
 pub const MAX_FIRINGS_PER_ACTOR: u32 = 16_384_000;
+
+/// The most periods that a run may be asked for by their number: every graph may have them.
+pub const MAX_PERIODS: u32 = 1_000;
+
+/// The most periods that channels may be given room for: in each, one token or more goes through a
+/// channel, which has the greatest capacity at most.
+pub const MAX_ROOM: u32 = 65_535;
 
 /// The most firings of all actors in a run: those of an actor for each of the most actors.
 pub const MAX_FIRINGS: u32 = 1_048_576_000;
