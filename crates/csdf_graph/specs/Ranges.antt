@@ -4,6 +4,8 @@ use Rattle.std.specs.Prelude.{option_map, if◌then◌else◌, Result, Ok, Err}
 use Rattle.csdf_graph.specs.declared.fault.GraphFault.{GraphFault}
 use Rattle.csdf_graph.specs.declared.fault.GraphFault.TheVariants as fault
 use Rattle.csdf_graph.specs.declared.fault.At.TheVariants as at
+use Rattle.csdf_model.specs.declared.limits.TheConstants.{MAX_ACTORS, MAX_CHANNELS, MAX_PHASES, MAX_WEIGHTS, MAX_SHIFT, MAX_TOKENS_PER_FIRING}
+use Rattle.csdf_model.specs.declared.limits.TheConstants.{MAX_INITIAL_TOKENS, MAX_CAPACITY, MAX_CELLS}
 use Rattle.csdf_model.specs.declared.parts.Kernel.{Kernel}
 use Rattle.csdf_model.specs.declared.parts.Kernel.TheVariants as kernel
 use Rattle.csdf_graph.specs.declared.ranges.RangedChannel.{RangedChannel as RangedCode}
@@ -26,11 +28,11 @@ abbrev pub signed_within : ℕ → ℤ → Option ℤ
 signed_within bits (pos n) = if nat_lt n (2 ^ bits) then Some (pos n) else None
 signed_within bits (negsuc n) = if nat_lt n (2 ^ bits) then Some (negsuc n) else None
 
--- the weights, with zeros up to 16
+-- the weights, with zeros up to the most
 unfoldable pub weights_within : List ℤ → Option (List ℤ)
 weights_within ws =
-    if nat_le 1 (length ws) && nat_le (length ws) 16
-    then option_map (λ zs. zs ++ replicate (16 - length ws) (pos 0)) (all_some (signed_within 15) ws)
+    if nat_le 1 (length ws) && nat_le (length ws) MAX_WEIGHTS
+    then option_map (λ zs. zs ++ replicate (MAX_WEIGHTS - length ws) (pos 0)) (all_some (signed_within 15) ws)
     else None
 
 unfoldable pub kernel_within : KernelDraft → Option Kernel
@@ -40,13 +42,13 @@ kernel_within copy = Some kernel.Copy
 kernel_within sum = Some kernel.Sum
 kernel_within (fir ws s) = do
   weights ← weights_within ws
-  shift ← number_within 0 31 s
+  shift ← number_within 0 MAX_SHIFT s
   Some (kernel.Fir weights (length ws) shift)
 
 unfoldable pub actor_within : ActorDraft → Option Actor
 actor_within a = do
   kernel ← kernel_within a.kernel
-  phases ← number_within 1 16 a.phases
+  phases ← number_within 1 MAX_PHASES a.phases
   Some (record { name = a.name; kernel = kernel; phases = phases })
 
 -- a channel in range, with its ends by name
@@ -71,14 +73,14 @@ ranged_view d = record {
 }
 
 abbrev pub rates_within : List ℤ → Option (List ℕ)
-rates_within = all_some (number_within 0 64)
+rates_within = all_some (number_within 0 MAX_TOKENS_PER_FIRING)
 
 unfoldable pub tokens_within : List ℤ → Option (List ℤ)
-tokens_within zs = if nat_le (length zs) 256 then all_some (signed_within 31) zs else None
+tokens_within zs = if nat_le (length zs) MAX_INITIAL_TOKENS then all_some (signed_within 31) zs else None
 
 abbrev pub capacity_within : ℕ → Option ℤ → Option (Option ℕ)
 capacity_within held None = Some None
-capacity_within held (Some z) = option_map Some (number_within (max 1 held) 65535 z)
+capacity_within held (Some z) = option_map Some (number_within (max 1 held) MAX_CAPACITY z)
 
 unfoldable pub channel_within : ChannelDraft → Option RangedChannel
 channel_within d = do
@@ -103,9 +105,9 @@ pub record Ranged : Type 0 where
 abbrev pub file_view : FileCode → Ranged
 file_view f = record { actors = map actor_view f.actors.items; channels = map ranged_view f.channels.items; cells = f.cells }
 
--- 1 to 64 actors, and at most 128 channels
+-- some actors, and no more actors or channels than the most
 abbrev pub counts_fit : Draft → Bool
-counts_fit d = (nat_le 1 (length d.actors) && nat_le (length d.actors) 64) && nat_le (length d.channels) 128
+counts_fit d = (nat_le 1 (length d.actors) && nat_le (length d.actors) MAX_ACTORS) && nat_le (length d.channels) MAX_CHANNELS
 
 -- how many tokens the channels begin with
 abbrev pub initial_count : List ChannelDraft → ℕ
@@ -114,7 +116,7 @@ initial_count channels = sum_by (λ (d : ChannelDraft). length d.initial) channe
 -- a number of cells has room for all initial tokens
 abbrev pub cells_within : List ChannelDraft → Option ℤ → Option (Option ℕ)
 cells_within channels None = Some None
-cells_within channels (Some z) = option_map Some (number_within (initial_count channels) 8388480 z)
+cells_within channels (Some z) = option_map Some (number_within (initial_count channels) MAX_CELLS z)
 
 unfoldable pub range_of : Draft → Result Ranged GraphFault
 range_of d =

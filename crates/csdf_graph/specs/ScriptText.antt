@@ -12,6 +12,7 @@ use Rattle.csdf_graph.specs.Optional.{◌>>=◌}
 use Rattle.csdf_graph.specs.Passes.{or_fault}
 use Rattle.csdf_graph.specs.Tree.{found_or, has_only, integer_or, optional_integer_at, texts_or_none}
 use Rattle.csdf_graph.specs.Ranges.{number_within}
+use Rattle.csdf_model.specs.declared.limits.TheConstants.{MAX_SCRIPT_LIMIT, MAX_SCRIPT_SUPPLY, MAX_SCRIPT_LINES, MAX_FIRINGS}
 use Rattle.csdf_model.specs.Graph.{Graph}
 use Rattle.csdf_graph.specs.GraphText.{file_of, IsGraphOf}
 
@@ -41,8 +42,8 @@ script_keys = codes "limit" ∷ codes "supply" ∷ codes "firings" ∷ codes "mo
 -- the table has its keys, of their kinds, and no others
 unfoldable pub script_draft : Members → Option ScriptDraft
 script_draft ms = if has_only script_keys ms then (do
-  limit ← integer_or (pos 1000000) (codes "limit") ms
-  supply ← integer_or (pos 1000000) (codes "supply") ms
+  limit ← integer_or (pos MAX_SCRIPT_LIMIT) (codes "limit") ms
+  supply ← integer_or (pos MAX_SCRIPT_SUPPLY) (codes "supply") ms
   firings ← optional_integer_at (codes "firings") ms
   lines ← texts_or_none (codes "moves") ms
   Some (record { limit = limit; supply = supply; firings = firings; lines = lines })) else None
@@ -55,10 +56,10 @@ optional_within high (Some z) = option_map Some (number_within 0 high z)
 -- its numbers and the count of its lines are within their limits
 unfoldable pub script_within : ScriptDraft → Option Script
 script_within d = do
-  limit ← number_within 0 1000000 d.limit
-  supply ← number_within 0 1000000 d.supply
-  firings ← optional_within 1048576000 d.firings
-  if nat_le (length d.lines) 100000 then Some (record { limit = limit; supply = supply; firings = firings; lines = d.lines }) else None
+  limit ← number_within 0 MAX_SCRIPT_LIMIT d.limit
+  supply ← number_within 0 MAX_SCRIPT_SUPPLY d.supply
+  firings ← optional_within MAX_FIRINGS d.firings
+  if nat_le (length d.lines) MAX_SCRIPT_LINES then Some (record { limit = limit; supply = supply; firings = firings; lines = d.lines }) else None
 
 -- the table `script` of a file, which has no keys where it is absent
 abbrev pub script_table : Members → Option Members

@@ -78,7 +78,8 @@ fn output_count(channels: &[Channel], number: usize) -> usize
         .count()
 }
 
-fn ports_fit(kernel: Kernel, inputs: usize, outputs: usize) -> bool
+/// Whether an actor of this kernel may have so many inputs and outputs.
+pub fn ports_fit(kernel: Kernel, inputs: usize, outputs: usize) -> bool
     ensures { result ≡ ports_fit kernel inputs outputs }
 {
     match kernel {

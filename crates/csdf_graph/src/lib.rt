@@ -14,6 +14,7 @@ mod script_text;
 mod shape;
 mod tree;
 
+pub use checks::ports_fit;
 pub use fault::{At, GraphFault};
 pub use graph_and_script::{GraphAndScript, read_graph_and_script};
 pub use names::is_name;

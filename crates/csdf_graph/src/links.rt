@@ -9,13 +9,13 @@ ghost use Rattle.csdf_graph.specs.Links.{linked, linked_at};
 
 use crate::fault::{GraphFault, Misfit, answer_of, fault_place};
 use crate::ranges::RangedChannel;
-use csdf_model::{Channel, number_in};
+use csdf_model::{Channel, MAX_ACTORS, number_in};
 use indexmap::IndexSet;
 use std::alloc::Global;
 
 /// The number of the actor with the name.
 fn end_of(names: &IndexSet<String>, name: &str) -> Option<u32>
-    requires { length names.now.keys ≤ 64 }
+    requires { length names.now.keys ≤ MAX_ACTORS }
     ensures { result ≡ number_in (map string_bytes names.now.keys) name.now }
 {
     match number_in(names, name) {
@@ -30,7 +30,7 @@ fn linked(
     names: &IndexSet<String>,
     channel: RangedChannel<'_>,
 ) -> Result<Channel, Misfit>
-    requires { length names.now.keys ≤ 64 }
+    requires { length names.now.keys ≤ MAX_ACTORS }
     ensures { Reads channel_view result (linked (map string_bytes names.now.keys) (ranged_view channel.entry)) }
 {
     let from = end_of(names, channel.from).ok_or(Misfit::Fault)?;
@@ -53,7 +53,7 @@ fn channel_linked(
     place: usize,
     channel: RangedChannel<'_>,
 ) -> Result<Channel, GraphFault>
-    requires { length names.now.keys ≤ 64 }
+    requires { length names.now.keys ≤ MAX_ACTORS }
     ensures { Gives channel_view result (linked_at (map string_bytes names.now.keys) place (ranged_view channel.entry)) }
 {
     let fault = GraphFault::UnknownActor(fault_place(place));
@@ -66,7 +66,7 @@ pub(crate) fn linked_channels(
     names: &IndexSet<String>,
     channels: Vec<RangedChannel<'_>>,
 ) -> Result<Vec<Channel>, GraphFault>
-    requires { length names.now.keys ≤ 64 }
+    requires { length names.now.keys ≤ MAX_ACTORS }
     ensures { Gives (λ v. map channel_view v.items) result (each (linked_at (map string_bytes names.now.keys)) 0 (map ranged_view channels.entry.items)) }
 {
     let mut linked = Vec::new(alloc);

@@ -7,6 +7,7 @@ ghost use Rattle.csdf_model.specs.Names.{is_word_byte, is_name};
 ghost use Rattle.csdf_graph.specs.Names.{is_free, at, names_of};
 
 use crate::fault::{At, GraphFault, fault_place};
+use csdf_model::MAX_NAME_BYTES;
 use indexmap::IndexSet;
 use std::alloc::Global;
 
@@ -47,7 +48,7 @@ pub fn is_name(text: &str) -> bool
 {
     match text.as_bytes() {
         [first, rest @ ..] => first.is_ascii_alphabetic()
-            && rest.len() <= 31
+            && rest.len() < MAX_NAME_BYTES
             && are_word_bytes(rest),
         [] => false,
     }

@@ -10,7 +10,10 @@ ghost use Rattle.csdf_graph.specs.Ranges.{initial_count, cells_within, channel_w
 
 use crate::fault::{At, GraphFault, Misfit, answer_of, fault_place};
 use crate::shape::{ActorDraft, ChannelDraft, Draft, KernelDraft};
-use csdf_model::{Actor, Kernel};
+use csdf_model::{
+    Actor, Kernel, MAX_ACTORS, MAX_CAPACITY, MAX_CELLS, MAX_CHANNELS, MAX_INITIAL_TOKENS,
+    MAX_PHASES, MAX_SHIFT, MAX_TOKENS_PER_FIRING, MAX_WEIGHTS,
+};
 use std::alloc::{AllocError, Global};
 
 pub(crate) fn number_within(low: u32, high: u32, number: i64) -> Option<u32>
@@ -59,7 +62,7 @@ fn numbers_within(
 fn tokens_within(alloc: Global, numbers: &[i64]) -> Result<Option<Vec<i32>>, AllocError>
     ensures { IfOk result (λ o. option_map (λ v. v.items) o ≡ tokens_within numbers.now) }
 {
-    if numbers.len() > 256 {
+    if numbers.len() > MAX_INITIAL_TOKENS {
         return Ok(None);
     }
     tokens_of(alloc, numbers)
@@ -78,23 +81,23 @@ fn tokens_of(alloc: Global, numbers: &[i64]) -> Result<Option<Vec<i32>>, AllocEr
     Ok(Some(tokens))
 }
 
-/// The weights, with zeros up to 16.
+/// The weights, with zeros up to the most.
 #[tactic(auto, unfolding(crate::specs::Ranges::weights_within))]
-fn weights_within(numbers: &[i64]) -> Option<[i32; 16]>
+fn weights_within(numbers: &[i64]) -> Option<[i32; MAX_WEIGHTS]>
     ensures value { result ≡ weights_within numbers.now }
-    ensures few { OnSome result (length numbers.now ≤ 16) }
+    ensures few { OnSome result (length numbers.now ≤ MAX_WEIGHTS) }
 {
-    if numbers.is_empty() || numbers.len() > 16 {
+    if numbers.is_empty() || numbers.len() > MAX_WEIGHTS {
         return None;
     }
     padded(numbers)
 }
 
-fn padded(numbers: &[i64]) -> Option<[i32; 16]>
-    requires { length numbers.now ≤ 16 }
-    ensures { result ≡ option_map (λ zs. zs ++ replicate (16 - length numbers.now) (pos 0)) (all_some (signed_within 15) numbers.now) }
+fn padded(numbers: &[i64]) -> Option<[i32; MAX_WEIGHTS]>
+    requires { length numbers.now ≤ MAX_WEIGHTS }
+    ensures { result ≡ option_map (λ zs. zs ++ replicate (MAX_WEIGHTS - length numbers.now) (pos 0)) (all_some (signed_within 15) numbers.now) }
 {
-    let mut weights = [0; 16];
+    let mut weights = [0; MAX_WEIGHTS];
     for (i, number) in numbers.iter().enumerate() {
         weights[i] = weight_of(*number)?;
     }
@@ -116,7 +119,7 @@ fn kernel_within(draft: &KernelDraft) -> Option<Kernel>
         } => {
             let weights = weights_within(numbers)?;
             let taps = numbers.len() as u32;
-            let shift = number_within(0, 31, *shift)?;
+            let shift = number_within(0, MAX_SHIFT, *shift)?;
             Some(Kernel::Fir {
                 weights,
                 taps,
@@ -131,7 +134,7 @@ fn actor_within(alloc: Global, draft: &ActorDraft<'_>) -> Result<Actor, Misfit>
     ensures { Reads actor_view result (actor_within (draft_of_actor draft.now)) }
 {
     let kernel = kernel_within(&draft.kernel).ok_or(Misfit::Fault)?;
-    let phases = number_within(1, 16, draft.phases).ok_or(Misfit::Fault)?;
+    let phases = number_within(1, MAX_PHASES, draft.phases).ok_or(Misfit::Fault)?;
     let name = String::from_str(alloc, draft.name)?;
     Ok(Actor {
         name,
@@ -176,7 +179,7 @@ fn capacity_within(held: usize, capacity: Option<i64>) -> Option<Option<u32>>
     let Some(capacity) = capacity else {
         return Some(None);
     };
-    let capacity = number_within(1, 65535, capacity)?;
+    let capacity = number_within(1, MAX_CAPACITY, capacity)?;
     if (capacity as usize) < held {
         None
     } else {
@@ -189,8 +192,9 @@ fn channel_within<'a>(alloc: Global, draft: &ChannelDraft<'a>) -> Result<RangedC
     ensures { Reads ranged_view result (channel_within (draft_of_channel draft.now)) }
 {
     let capacity = capacity_within(draft.initial.len(), draft.capacity).ok_or(Misfit::Fault)?;
-    let produce = numbers_within(alloc, 0, 64, &draft.produce)?.ok_or(Misfit::Fault)?;
-    let consume = numbers_within(alloc, 0, 64, &draft.consume)?.ok_or(Misfit::Fault)?;
+    let most = MAX_TOKENS_PER_FIRING;
+    let produce = numbers_within(alloc, 0, most, &draft.produce)?.ok_or(Misfit::Fault)?;
+    let consume = numbers_within(alloc, 0, most, &draft.consume)?.ok_or(Misfit::Fault)?;
     let initial = tokens_within(alloc, &draft.initial)?.ok_or(Misfit::Fault)?;
     Ok(RangedChannel {
         name: draft.name,
@@ -249,7 +253,7 @@ fn cells_within(channels: &[ChannelDraft<'_>], cells: Option<i64>) -> Option<Opt
     let Some(cells) = cells else {
         return Some(None);
     };
-    let cells = number_within(0, 8388480, cells)?;
+    let cells = number_within(0, MAX_CELLS, cells)?;
     if have_room(channels, cells as usize) {
         Some(Some(cells))
     } else {
@@ -269,7 +273,10 @@ pub(crate) struct Ranged<'a> {
 pub(crate) fn range_of<'a>(alloc: Global, draft: &Draft<'a>) -> Result<Ranged<'a>, GraphFault>
     ensures { Gives file_view result (range_of (draft_view draft.now)) }
 {
-    if draft.actors.is_empty() || draft.actors.len() > 64 || draft.channels.len() > 128 {
+    if draft.actors.is_empty()
+        || draft.actors.len() > MAX_ACTORS
+        || draft.channels.len() > MAX_CHANNELS
+    {
         return Err(GraphFault::Range(At::File));
     }
     let Some(cells) = cells_within(&draft.channels, draft.cells) else {

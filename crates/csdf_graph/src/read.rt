@@ -18,7 +18,7 @@ use crate::links::linked_channels;
 use crate::names::{Kind, numbered};
 use crate::ranges::{Ranged, range_of};
 use crate::shape::{ActorDraft, ChannelDraft, Draft, draft_of};
-use csdf_model::{Actor, Channel, Graph};
+use csdf_model::{Actor, Channel, Graph, MAX_ACTORS};
 use indexmap::IndexSet;
 use std::alloc::{AllocError, Global};
 use toml::Table;
@@ -66,7 +66,7 @@ fn parts_of(
     names: &IndexSet<String>,
     ranged: Ranged<'_>,
 ) -> Result<Parts, GraphFault>
-    requires { length names.now.keys ≤ 64 }
+    requires { length names.now.keys ≤ MAX_ACTORS }
     ensures { Gives parts_view result (parts_of (map string_bytes names.now.keys) (file_view ranged.entry)) }
 {
     let channels = linked_channels(alloc, names, ranged.channels)?;

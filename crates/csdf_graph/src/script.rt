@@ -2,6 +2,7 @@
 
 ghost use Rattle.std.specs.Prelude.{◌≤◌};
 ghost use Rattle.std.specs.Option.{ForSome};
+ghost use Rattle.csdf_model.specs.declared.limits.TheConstants.{MAX_SCRIPT_LIMIT, MAX_SCRIPT_SUPPLY, MAX_FIRINGS};
 
 /// A list of moves in words, one a line, and what they are played with.
 #[derive(Debug, Drop)]
@@ -14,7 +15,7 @@ pub struct Script {
     pub firings: Option<u32>,
     /// The lines, in file order.
     pub lines: Vec<String>,
-    pub ghost limit_within: { limit ≤ 1_000_000 },
-    pub ghost supply_within: { supply ≤ 1_000_000 },
-    pub ghost firings_within: { ForSome firings (λ n. n ≤ 1_048_576_000) },
+    pub ghost limit_within: { limit ≤ MAX_SCRIPT_LIMIT },
+    pub ghost supply_within: { supply ≤ MAX_SCRIPT_SUPPLY },
+    pub ghost firings_within: { ForSome firings (λ n. n ≤ MAX_FIRINGS) },
 }

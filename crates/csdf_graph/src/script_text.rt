@@ -10,6 +10,7 @@ use crate::ranges::number_within;
 use crate::read::file_of;
 use crate::script::Script;
 use crate::tree::{has_only, integer_or, optional_integer_at, texts_or_none, value_at};
+use csdf_model::{MAX_FIRINGS, MAX_SCRIPT_LIMIT, MAX_SCRIPT_LINES, MAX_SCRIPT_SUPPLY};
 use std::alloc::{AllocError, Global};
 use toml::Table;
 
@@ -22,6 +23,12 @@ struct ScriptDraft<'a> {
     lines: Vec<&'a str>,
 }
 
+/// The limit of a script that sets none.
+const DEFAULT_LIMIT: i64 = MAX_SCRIPT_LIMIT as i64;
+
+/// The tokens of each source of a script that says no number.
+const DEFAULT_SUPPLY: i64 = MAX_SCRIPT_SUPPLY as i64;
+
 const SCRIPT_KEYS: [&str; 4] = ["limit", "supply", "firings", "moves"];
 
 #[tactic(auto, unfolding(crate::specs::ScriptText::script_draft))]
@@ -31,8 +38,8 @@ fn draft_of(alloc: Global, table: &Table) -> Result<ScriptDraft<'_>, Misfit>
     if !has_only(table, &SCRIPT_KEYS) {
         return Err(Misfit::Fault);
     }
-    let limit = integer_or(1_000_000, table, "limit").ok_or(Misfit::Fault)?;
-    let supply = integer_or(1_000_000, table, "supply").ok_or(Misfit::Fault)?;
+    let limit = integer_or(DEFAULT_LIMIT, table, "limit").ok_or(Misfit::Fault)?;
+    let supply = integer_or(DEFAULT_SUPPLY, table, "supply").ok_or(Misfit::Fault)?;
     let firings = optional_integer_at(table, "firings").ok_or(Misfit::Fault)?;
     let lines = texts_or_none(alloc, table, "moves")?.ok_or(Misfit::Fault)?;
     Ok(ScriptDraft {
@@ -50,8 +57,8 @@ fn file_draft(alloc: Global, file: &Table) -> Result<ScriptDraft<'_>, Misfit>
 {
     let Some(value) = value_at(file, "script") else {
         return Ok(ScriptDraft {
-            limit: 1_000_000,
-            supply: 1_000_000,
+            limit: DEFAULT_LIMIT,
+            supply: DEFAULT_SUPPLY,
             firings: None,
             lines: Vec::new(alloc),
         });
@@ -88,10 +95,10 @@ fn owned(alloc: Global, texts: &[&str]) -> Result<Vec<String>, AllocError>
 fn script_within(alloc: Global, draft: &ScriptDraft<'_>) -> Result<Script, Misfit>
     ensures { Reads script_view result (script_within (draft_view draft.now)) }
 {
-    let limit = number_within(0, 1_000_000, draft.limit).ok_or(Misfit::Fault)?;
-    let supply = number_within(0, 1_000_000, draft.supply).ok_or(Misfit::Fault)?;
-    let firings = optional_within(1_048_576_000, draft.firings).ok_or(Misfit::Fault)?;
-    if draft.lines.len() > 100_000 {
+    let limit = number_within(0, MAX_SCRIPT_LIMIT, draft.limit).ok_or(Misfit::Fault)?;
+    let supply = number_within(0, MAX_SCRIPT_SUPPLY, draft.supply).ok_or(Misfit::Fault)?;
+    let firings = optional_within(MAX_FIRINGS, draft.firings).ok_or(Misfit::Fault)?;
+    if draft.lines.len() > MAX_SCRIPT_LINES {
         return Err(Misfit::Fault);
     }
     let lines = owned(alloc, &draft.lines)?;

@@ -15,9 +15,9 @@ pub returns-in_err-firings : goal.returns-in_err-firings
 unfolding script_within
 returns-in_err-firings c = grind (arith, common_steps)
 
-pub returns-then-len-gt100000 : goal.returns-then-len-gt100000
+pub returns-then-len-gt-MAX_SCRIPT_LINES : goal.returns-then-len-gt-MAX_SCRIPT_LINES
 unfolding script_within
-returns-then-len-gt100000 c = grind (arith, common_steps)
+returns-then-len-gt-MAX_SCRIPT_LINES c = grind (arith, common_steps)
 
 pub returns-in_err-lines : goal.returns-in_err-lines
 unfolding script_within
