@@ -17,6 +17,7 @@ use crate::numbers::range_misfit;
 use crate::ports::ports_misfit;
 use crate::rates::{length_misfit, zero_misfit};
 use csdf_graph::{At, GraphFault, is_name};
+use csdf_model::{MAX_ACTORS, MAX_CHANNELS};
 use std::alloc::{AllocError, Global};
 use toml::Table;
 
@@ -119,11 +120,11 @@ fn push_other(
 /// Appends what the check of a fault finds elsewhere, in the actors and channels that a graph may
 /// have.
 fn push_others(text: &mut String, file: &Table, fault: GraphFault) -> Result<(), AllocError> {
-    for number in 0..64 {
-        push_other(text, file, fault, At::Actor(number))?;
+    for number in 0..MAX_ACTORS {
+        push_other(text, file, fault, At::Actor(number as u32))?;
     }
-    for number in 0..128 {
-        push_other(text, file, fault, At::Channel(number))?;
+    for number in 0..MAX_CHANNELS {
+        push_other(text, file, fault, At::Channel(number as u32))?;
     }
     Ok(())
 }

@@ -2,6 +2,11 @@
 
 use crate::misfit::{Found, Misfit, Wanted, entries_at, table_at};
 use csdf_graph::At;
+use csdf_model::{
+    MAX_ACTORS, MAX_CAPACITY, MAX_CELLS, MAX_CHANNELS, MAX_FIRINGS, MAX_INITIAL_TOKENS, MAX_PHASES,
+    MAX_SCRIPT_LIMIT, MAX_SCRIPT_LINES, MAX_SCRIPT_SUPPLY, MAX_SHIFT, MAX_TOKENS_PER_FIRING,
+    MAX_WEIGHT, MAX_WEIGHTS, MIN_WEIGHT,
+};
 use toml::Table;
 
 /// A key whose value is outside these limits.
@@ -54,13 +59,12 @@ fn entry_misfit(
 fn count_misfit(
     table: &Table,
     key: &'static str,
-    least: u32,
-    most: u32,
+    least: i64,
+    most: i64,
 ) -> Option<Misfit<'static>> {
     let count = table.get(key)?.as_array()?.len();
-    if count < least as usize || count > most as usize {
-        let found = Found::Entries(count);
-        Some(outside(key, found, i64::from(least), i64::from(most)))
+    if (count as i64) < least || (count as i64) > most {
+        Some(outside(key, Found::Entries(count), least, most))
     } else {
         None
     }
@@ -94,39 +98,44 @@ fn first(misfits: [Option<Misfit<'static>>; 4]) -> Option<Misfit<'static>> {
 
 fn file_misfit(file: &Table) -> Option<Misfit<'static>> {
     first([
-        count_misfit(file, "actor", 1, 64),
-        count_misfit(file, "channel", 0, 128),
-        number_misfit(file, "cells", held(file), 8_388_480),
+        count_misfit(file, "actor", 1, MAX_ACTORS as i64),
+        count_misfit(file, "channel", 0, MAX_CHANNELS as i64),
+        number_misfit(file, "cells", held(file), i64::from(MAX_CELLS)),
         None,
     ])
 }
 
 fn actor_misfit(actor: &Table) -> Option<Misfit<'static>> {
     first([
-        count_misfit(actor, "weights", 1, 16),
-        entry_misfit(actor, "weights", -32_768, 32_767),
-        number_misfit(actor, "shift", 0, 31),
-        number_misfit(actor, "phases", 1, 16),
+        count_misfit(actor, "weights", 1, MAX_WEIGHTS as i64),
+        entry_misfit(
+            actor,
+            "weights",
+            i64::from(MIN_WEIGHT),
+            i64::from(MAX_WEIGHT),
+        ),
+        number_misfit(actor, "shift", 0, i64::from(MAX_SHIFT)),
+        number_misfit(actor, "phases", 1, i64::from(MAX_PHASES)),
     ])
 }
 
 fn channel_misfit(channel: &Table) -> Option<Misfit<'static>> {
     let rates = first([
-        entry_misfit(channel, "produce", 0, 64),
-        entry_misfit(channel, "consume", 0, 64),
-        count_misfit(channel, "initial", 0, 256),
-        entry_misfit(channel, "initial", -2_147_483_648, 2_147_483_647),
+        entry_misfit(channel, "produce", 0, i64::from(MAX_TOKENS_PER_FIRING)),
+        entry_misfit(channel, "consume", 0, i64::from(MAX_TOKENS_PER_FIRING)),
+        count_misfit(channel, "initial", 0, MAX_INITIAL_TOKENS as i64),
+        entry_misfit(channel, "initial", i64::from(i32::MIN), i64::from(i32::MAX)),
     ]);
     let least = initial_count(channel).max(1);
-    rates.or_else(|| number_misfit(channel, "capacity", least, 65_535))
+    rates.or_else(|| number_misfit(channel, "capacity", least, i64::from(MAX_CAPACITY)))
 }
 
 fn script_misfit(script: &Table) -> Option<Misfit<'static>> {
     first([
-        number_misfit(script, "limit", 0, 1_000_000),
-        number_misfit(script, "supply", 0, 1_000_000),
-        number_misfit(script, "firings", 0, 1_048_576_000),
-        count_misfit(script, "moves", 0, 100_000),
+        number_misfit(script, "limit", 0, i64::from(MAX_SCRIPT_LIMIT)),
+        number_misfit(script, "supply", 0, i64::from(MAX_SCRIPT_SUPPLY)),
+        number_misfit(script, "firings", 0, i64::from(MAX_FIRINGS)),
+        count_misfit(script, "moves", 0, MAX_SCRIPT_LINES as i64),
     ])
 }
 

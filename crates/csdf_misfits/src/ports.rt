@@ -1,7 +1,8 @@
 //! Kernels without the channels that they ask.
 
 use crate::misfit::{Found, Misfit, entries_at, table_at, text_at};
-use csdf_graph::At;
+use csdf_graph::{At, ports_fit};
+use csdf_model::Kernel;
 use toml::{Table, Value};
 
 /// Whether a channel has the actor with this name at this end.
@@ -20,29 +21,30 @@ fn count_at(file: &Table, end: &str, actor: &str) -> usize {
         .count()
 }
 
-/// Whether these are the channels that a kernel asks.
-fn are_fit(kernel: &str, inputs: usize, outputs: usize) -> bool {
-    match kernel {
-        "source" => inputs == 0 && outputs >= 1,
-        "sink" => inputs >= 1 && outputs == 0,
-        _ => inputs >= 1 && outputs >= 1,
+/// The kernel of a word; for a filter, which asks the same channels, the sum.
+fn kernel_of(word: &str) -> Kernel {
+    match word {
+        "source" => Kernel::Source,
+        "sink" => Kernel::Sink,
+        "copy" => Kernel::Copy,
+        _ => Kernel::Sum,
     }
 }
 
 /// What a kernel asks, in words.
-fn asked_of(kernel: &str) -> &'static str {
+fn asked_of(kernel: Kernel) -> &'static str {
     match kernel {
-        "source" => "no input and at least one output, as a source has",
-        "sink" => "at least one input and no output, as a sink has",
-        _ => "at least one of each",
+        Kernel::Source => "no input and at least one output, as a source has",
+        Kernel::Sink => "at least one input and no output, as a sink has",
+        Kernel::Copy | Kernel::Sum | Kernel::Fir { .. } => "at least one of each",
     }
 }
 
 /// The channels of the actor with this name, where its kernel asks others.
-fn unfit_ports(file: &Table, name: &str, kernel: &str) -> Option<Misfit<'static>> {
+fn unfit_ports(file: &Table, name: &str, kernel: Kernel) -> Option<Misfit<'static>> {
     let inputs = count_at(file, "to", name);
     let outputs = count_at(file, "from", name);
-    if are_fit(kernel, inputs, outputs) {
+    if ports_fit(kernel, inputs, outputs) {
         return None;
     }
     let found = Found::Ports(inputs, outputs);
@@ -53,5 +55,5 @@ fn unfit_ports(file: &Table, name: &str, kernel: &str) -> Option<Misfit<'static>
 pub(crate) fn ports_misfit(file: &Table, number: u32) -> Option<Misfit<'_>> {
     let actor = table_at(file, At::Actor(number))?;
     let name = text_at(actor, "name")?;
-    unfit_ports(file, name, text_at(actor, "kernel")?)
+    unfit_ports(file, name, kernel_of(text_at(actor, "kernel")?))
 }
