@@ -16,6 +16,7 @@ use crate::several::{fire_each, has_no_loop, have_room_each, hold_each};
 use crate::stage::Stage;
 use crate::transfer::{gift_of, need_of, raise_peaks};
 use crate::turn::{Turn, turn_after};
+use csdf_model::{MAX_FIRINGS_PER_ACTOR, MAX_PHASES};
 use csdf_pool::Pool;
 
 /// What so many firings of an actor move in all, and the firing after them.
@@ -32,10 +33,10 @@ fn alike(layout: &Layout, actor: u32, turn: Turn, n: u32) -> Ahead
     requires actor { actor < length layout.now.sources }
     requires phases { HasPhases layout.now.channels actor 1 }
     requires in_phase { IsInPhase layout.now.channels actor turn.firing turn.phase }
-    requires few { turn.firing + n ≤ 16_384_000 }
+    requires few { turn.firing + n ≤ MAX_FIRINGS_PER_ACTOR }
     ensures firing { result.next.firing ≡ turn.firing + n }
     ensures in_phase { IsInPhase layout.now.channels actor result.next.firing result.next.phase }
-    ensures low { result.next.phase < 16 }
+    ensures low { result.next.phase < MAX_PHASES }
     ensures needed { result.needed ≡ needs_of layout.now.channels actor turn.firing n }
     ensures given { result.given ≡ gifts_of layout.now.channels actor turn.firing n }
     ensures small { result.given ≤ 8192 * n }
@@ -56,11 +57,11 @@ fn alike(layout: &Layout, actor: u32, turn: Turn, n: u32) -> Ahead
 fn one_by_one(layout: &Layout, actor: u32, turn: Turn, n: u32) -> Ahead
     requires actor { actor < length layout.now.sources }
     requires in_phase { IsInPhase layout.now.channels actor turn.firing turn.phase }
-    requires low { turn.phase < 16 }
-    requires few { turn.firing + n ≤ 16_384_000 }
+    requires low { turn.phase < MAX_PHASES }
+    requires few { turn.firing + n ≤ MAX_FIRINGS_PER_ACTOR }
     ensures firing { result.next.firing ≡ turn.firing + n }
     ensures in_phase { IsInPhase layout.now.channels actor result.next.firing result.next.phase }
-    ensures low { result.next.phase < 16 }
+    ensures low { result.next.phase < MAX_PHASES }
     ensures needed { result.needed ≡ needs_of layout.now.channels actor turn.firing n }
     ensures given { result.given ≡ gifts_of layout.now.channels actor turn.firing n }
     ensures small { result.given ≤ 8192 * n }
@@ -85,11 +86,11 @@ fn one_by_one(layout: &Layout, actor: u32, turn: Turn, n: u32) -> Ahead
 pub(crate) fn look_ahead(layout: &Layout, actor: u32, turn: Turn, n: u32) -> Ahead
     requires actor { actor < length layout.now.sources }
     requires in_phase { IsInPhase layout.now.channels actor turn.firing turn.phase }
-    requires low { turn.phase < 16 }
-    requires few { turn.firing + n ≤ 16_384_000 }
+    requires low { turn.phase < MAX_PHASES }
+    requires few { turn.firing + n ≤ MAX_FIRINGS_PER_ACTOR }
     ensures firing { result.next.firing ≡ turn.firing + n }
     ensures in_phase { IsInPhase layout.now.channels actor result.next.firing result.next.phase }
-    ensures low { result.next.phase < 16 }
+    ensures low { result.next.phase < MAX_PHASES }
     ensures needed { result.needed ≡ needs_of layout.now.channels actor turn.firing n }
     ensures given { result.given ≡ gifts_of layout.now.channels actor turn.firing n }
     ensures small { result.given ≤ 8192 * n }
@@ -203,7 +204,7 @@ fn hold_all(layout: &Layout, pool: &Pool, actor: u32, needed: u64) -> bool
 fn have_room(layout: &Layout, pool: &Pool, actor: u32, given: u64) -> bool
     requires actor { actor < length layout.now.sources }
     requires same { length pool.now.chains ≡ length layout.now.channels }
-    requires small { given ≤ 8192 * 16_384_000 }
+    requires small { given ≤ 8192 * MAX_FIRINGS_PER_ACTOR }
     ensures { IsTrue result ↔ HaveRoomFor layout.now.channels (tokens_in pool.now) (λ _. given) (outputs_at layout.now.channels actor) }
 {
     let outputs = layout.outputs(actor);
@@ -222,8 +223,8 @@ fn hold_theirs(layout: &Layout, pool: &Pool, actor: u32, turn: Turn, n: u32, nee
     requires actor { actor < length layout.now.sources }
     requires same { length pool.now.chains ≡ length layout.now.channels }
     requires in_phase { IsInPhase layout.now.channels actor turn.firing turn.phase }
-    requires low { turn.phase < 16 }
-    requires few { turn.firing + n ≤ 16_384_000 }
+    requires low { turn.phase < MAX_PHASES }
+    requires few { turn.firing + n ≤ MAX_FIRINGS_PER_ACTOR }
     requires needed { needed ≡ needs_of layout.now.channels actor turn.firing n }
     ensures { IsTrue result ↔ HoldAll (tokens_in pool.now) (takes_at layout.now.channels turn.firing n) (inputs_at layout.now.channels actor) }
 {
@@ -240,10 +241,10 @@ fn have_theirs(layout: &Layout, pool: &Pool, actor: u32, turn: Turn, n: u32, giv
     requires actor { actor < length layout.now.sources }
     requires same { length pool.now.chains ≡ length layout.now.channels }
     requires in_phase { IsInPhase layout.now.channels actor turn.firing turn.phase }
-    requires low { turn.phase < 16 }
-    requires few { turn.firing + n ≤ 16_384_000 }
+    requires low { turn.phase < MAX_PHASES }
+    requires few { turn.firing + n ≤ MAX_FIRINGS_PER_ACTOR }
     requires given { given ≡ gifts_of layout.now.channels actor turn.firing n }
-    requires small { given ≤ 8192 * 16_384_000 }
+    requires small { given ≤ 8192 * MAX_FIRINGS_PER_ACTOR }
     ensures { IsTrue result ↔ HaveRoomFor layout.now.channels (tokens_in pool.now) (gives_at layout.now.channels turn.firing n)
         (outputs_at layout.now.channels actor) }
 {
@@ -292,8 +293,8 @@ fn copy_reads(layout: &Layout, pool: &Pool, actor: u32, turn: Turn, n: u32, into
     requires actor { actor < length layout.now.sources }
     requires same { length pool.now.chains ≡ length layout.now.channels }
     requires in_phase { IsInPhase layout.now.channels actor turn.firing turn.phase }
-    requires low { turn.phase < 16 }
-    requires few { turn.firing + n ≤ 16_384_000 }
+    requires low { turn.phase < MAX_PHASES }
+    requires few { turn.firing + n ≤ MAX_FIRINGS_PER_ACTOR }
     requires enough { HoldAll (tokens_in pool.now) (takes_at layout.now.channels turn.firing n) (inputs_at layout.now.channels actor) }
     requires all { length into.old ≡ needs_of layout.now.channels actor turn.firing n }
     ensures { into.new ≡ reads_over layout.now.channels (inputs_at layout.now.channels actor) turn.firing n (tokens_at (tokens_in pool.now)) }
@@ -359,8 +360,8 @@ fn move_tokens(
 )
     requires actor { actor < length layout.now.sources }
     requires in_phase { IsInPhase layout.now.channels actor turn.firing turn.phase }
-    requires low { turn.phase < 16 }
-    requires few { turn.firing + n ≤ 16_384_000 }
+    requires low { turn.phase < MAX_PHASES }
+    requires few { turn.firing + n ≤ MAX_FIRINGS_PER_ACTOR }
     requires same { length pool.old.chains ≡ length layout.now.channels }
     requires peaked { length peaks.old ≡ length layout.now.channels }
     requires tokens { IsPlain layout.now.channels actor → HoldAll (tokens_in pool.old) (λ _. needed) (inputs_at layout.now.channels actor) }
@@ -394,7 +395,7 @@ impl Core {
     /// Whether the source's file has the tokens of its firings, which give so many from now on.
     fn has_supply(&self, actor: u32, more: u64) -> bool
         requires actor { actor < length self.now.plan.sources }
-        requires small { more ≤ 8192 * 16_384_000 }
+        requires small { more ≤ 8192 * MAX_FIRINGS_PER_ACTOR }
         ensures { IsTrue result ↔ (is_source self.now.plan actor ≡ true
             → given self.now.plan actor (count self.now.now actor) + more ≤ slice_index self.now.plan.supplies actor) }
     {
@@ -418,7 +419,7 @@ impl Core {
 
     /// Whether so many cells are neither held nor reserved.
     pub(crate) fn has_cells(&self, given: u64) -> bool
-        requires { given ≤ 8192 * 16_384_000 }
+        requires { given ≤ 8192 * MAX_FIRINGS_PER_ACTOR }
         ensures { IsTrue result ↔ held self.now.now + reserved self.now.plan self.now.now + given ≤ self.now.plan.cells }
     {
         if self.used() + given > u64::from(self.layout.cells()) {

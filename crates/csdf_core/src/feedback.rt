@@ -27,6 +27,7 @@ use crate::several::{drop_tokens, given_of, taken_of};
 use crate::stage::Stage;
 use crate::transfer::{gift_of, need_of, raise_peaks};
 use crate::turn::Turn;
+use csdf_model::{MAX_FIRINGS_PER_ACTOR, MAX_PHASES, MAX_TOKENS_PER_FIRING};
 use csdf_pool::Pool;
 
 /// The channel in which an actor keeps its state: it goes from the actor to itself, and each firing takes all that it
@@ -126,8 +127,8 @@ fn asked_of(layout: &Layout, actor: u32, own: u32, channel: u32, turn: Turn, n: 
     requires channel { channel < length layout.now.channels }
     requires own { to_at layout.now.channels channel ≡ actor }
     requires in_phase { IsInPhase layout.now.channels actor turn.firing turn.phase }
-    requires low { turn.phase < 16 }
-    requires few { turn.firing + n ≤ 16_384_000 }
+    requires low { turn.phase < MAX_PHASES }
+    requires few { turn.firing + n ≤ MAX_FIRINGS_PER_ACTOR }
     ensures value { result ≡ asks_at layout.now.channels own turn.firing n channel }
 {
     if channel == own {
@@ -142,10 +143,10 @@ fn filled_of(layout: &Layout, actor: u32, own: u32, channel: u32, turn: Turn, n:
     requires channel { channel < length layout.now.channels }
     requires own { from_at layout.now.channels channel ≡ actor }
     requires in_phase { IsInPhase layout.now.channels actor turn.firing turn.phase }
-    requires low { turn.phase < 16 }
-    requires few { turn.firing + n ≤ 16_384_000 }
+    requires low { turn.phase < MAX_PHASES }
+    requires few { turn.firing + n ≤ MAX_FIRINGS_PER_ACTOR }
     ensures value { result ≡ fills_at layout.now.channels own turn.firing n channel }
-    ensures small { result ≤ 64 * n }
+    ensures small { result ≤ MAX_TOKENS_PER_FIRING * n }
 {
     if channel == own {
         return 0;
@@ -158,8 +159,8 @@ fn hold_asked(layout: &Layout, pool: &Pool, actor: u32, own: u32, turn: Turn, n:
     requires actor { actor < length layout.now.sources }
     requires same { length pool.now.chains ≡ length layout.now.channels }
     requires in_phase { IsInPhase layout.now.channels actor turn.firing turn.phase }
-    requires low { turn.phase < 16 }
-    requires few { turn.firing + n ≤ 16_384_000 }
+    requires low { turn.phase < MAX_PHASES }
+    requires few { turn.firing + n ≤ MAX_FIRINGS_PER_ACTOR }
     ensures { IsTrue result ↔ HoldAll (tokens_in pool.now) (asks_at layout.now.channels own turn.firing n) (inputs_at layout.now.channels actor) }
 {
     let inputs = layout.inputs(actor);
@@ -177,8 +178,8 @@ fn have_asked(layout: &Layout, pool: &Pool, actor: u32, own: u32, turn: Turn, n:
     requires actor { actor < length layout.now.sources }
     requires same { length pool.now.chains ≡ length layout.now.channels }
     requires in_phase { IsInPhase layout.now.channels actor turn.firing turn.phase }
-    requires low { turn.phase < 16 }
-    requires few { turn.firing + n ≤ 16_384_000 }
+    requires low { turn.phase < MAX_PHASES }
+    requires few { turn.firing + n ≤ MAX_FIRINGS_PER_ACTOR }
     ensures { IsTrue result ↔ HaveRoomFor layout.now.channels (tokens_in pool.now) (fills_at layout.now.channels own turn.firing n)
         (outputs_at layout.now.channels actor) }
 {

@@ -11,6 +11,7 @@ use crate::layout::Layout;
 use crate::setup::Setup;
 use crate::stage::Stage;
 use crate::turn::Turn;
+use csdf_model::{MAX_ACTORS, MAX_CHANNELS, MAX_FIRINGS_PER_ACTOR, MAX_PHASES};
 use csdf_pool::{Cells, Pool};
 use std::alloc::{AllocError, Global};
 use std::marker::Model;
@@ -66,7 +67,7 @@ impl Core {
     pub fn new(alloc: Global, setup: Setup<'_>) -> Result<Core, AllocError>
         requires limits { length setup.limits.items ≡ length setup.accepted.now.graph.actors }
         requires supply { length setup.supply.items ≡ length setup.accepted.now.graph.actors }
-        requires few { All (λ n. n ≤ 16_384_000) setup.limits.items }
+        requires few { All (λ n. n ≤ MAX_FIRINGS_PER_ACTOR) setup.limits.items }
         ensures plan { IfOk result (λ core. core.plan
             ≡ plan_for setup.entry.accepted.now setup.entry.limits.items setup.entry.supply.items setup.entry.firings) }
         ensures opening { IfOk result (λ core. Shows core (opening core.plan)) }
@@ -98,7 +99,7 @@ impl Core {
     /// How many actors there are.
     pub fn actors(&self) -> u32
         ensures value { result ≡ length self.now.plan.sources }
-        ensures few { result ≤ 64 }
+        ensures few { result ≤ MAX_ACTORS }
     {
         self.layout.actors() as u32
     }
@@ -106,7 +107,7 @@ impl Core {
     /// How many channels there are.
     pub fn channels(&self) -> u32
         ensures value { result ≡ length self.now.plan.channels }
-        ensures few { result ≤ 128 }
+        ensures few { result ≤ MAX_CHANNELS }
     {
         self.layout.channels() as u32
     }
@@ -116,7 +117,7 @@ impl Core {
     pub fn fired(&self, actor: u32) -> u32
         requires { actor < length self.now.plan.sources }
         ensures value { result ≡ count self.now.now actor }
-        ensures few { result ≤ 16_384_000 }
+        ensures few { result ≤ MAX_FIRINGS_PER_ACTOR }
     {
         self.counts[actor as usize]
     }
@@ -127,8 +128,8 @@ impl Core {
         requires { actor < length self.now.plan.sources }
         ensures firing { result.firing ≡ count self.now.now actor }
         ensures in_phase { IsInPhase self.now.plan.channels actor result.firing result.phase }
-        ensures low { result.phase < 16 }
-        ensures few { result.firing ≤ 16_384_000 }
+        ensures low { result.phase < MAX_PHASES }
+        ensures few { result.firing ≤ MAX_FIRINGS_PER_ACTOR }
     {
         Turn {
             firing: self.fired(actor),

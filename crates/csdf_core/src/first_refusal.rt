@@ -11,6 +11,7 @@ use crate::readiness::{first_closed, first_full, first_short};
 use crate::refusal::Refusal;
 use crate::stage::Stage;
 use crate::turn::Turn;
+use csdf_model::MAX_CELLS;
 
 /// Whether the stage is the wanted one.
 #[inline(always)]
@@ -30,7 +31,7 @@ fn is_at_work(stage: Stage) -> bool
 /// Whether a firing asks for more cells than there are beside those in use.
 #[inline(always)]
 fn exceeds(cells: u64, used: u64, need: u64, gift: u64) -> bool
-    requires used { used ≤ 8_388_480 }
+    requires used { used ≤ MAX_CELLS }
     requires gift { gift ≤ 8192 }
     ensures { result ≡ exceeds cells used need gift }
 {
@@ -114,7 +115,7 @@ impl Core {
     #[inline(always)]
     pub(crate) fn used(&self) -> u64
         ensures value { result ≡ held self.now.now + reserved self.now.plan self.now.now }
-        ensures small { result ≤ 8_388_480 }
+        ensures small { result ≤ MAX_CELLS }
     {
         let cells = u64::from(self.layout.cells());
         let free = u64::from(self.pool.free_len());

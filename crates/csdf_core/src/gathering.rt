@@ -9,6 +9,7 @@ ghost use Rattle.csdf_core.specs.Ports.{inputs_at, take_at, tokens_at, tokens_in
 use crate::layout::Layout;
 use crate::transfer::need_of;
 use crate::turn::{Turn, turn_after};
+use csdf_model::{MAX_CHANNELS, MAX_FIRINGS_PER_ACTOR, MAX_PHASES};
 use csdf_pool::{Pool, Tokens};
 
 /// How many tokens the firing takes of these inputs.
@@ -16,7 +17,7 @@ fn taken_before(layout: &Layout, actor: u32, numbers: &[u32], turn: Turn) -> usi
     requires actor { actor < length layout.now.sources }
     requires own { All (λ c. to_at layout.now.channels c ≡ actor) numbers.now }
     requires within { All (λ c. c < length layout.now.channels) numbers.now }
-    requires few { length numbers.now ≤ 128 }
+    requires few { length numbers.now ≤ MAX_CHANNELS }
     requires in_phase { IsInPhase layout.now.channels actor turn.firing turn.phase }
     ensures { result ≡ sum_by (take_at layout.now.channels turn.firing) numbers.now }
 {
@@ -126,8 +127,8 @@ fn lay_input(
     requires place { place < length (inputs_at layout.now.channels actor) }
     requires same { length pool.now.chains ≡ length layout.now.channels }
     requires in_phase { IsInPhase layout.now.channels actor turn.firing turn.phase }
-    requires low { turn.phase < 16 }
-    requires few { turn.firing + n ≤ 16_384_000 }
+    requires low { turn.phase < MAX_PHASES }
+    requires few { turn.firing + n ≤ MAX_FIRINGS_PER_ACTOR }
     requires enough { takes_at layout.now.channels turn.firing n (slice_index (inputs_at layout.now.channels actor) place)
         ≤ length (tokens_at (tokens_in pool.now) (slice_index (inputs_at layout.now.channels actor) place)) }
     requires all { length into.old ≡ needs_of layout.now.channels actor turn.firing n }
@@ -154,8 +155,8 @@ pub(crate) fn gather(layout: &Layout, pool: &Pool, actor: u32, turn: Turn, n: u3
     requires actor { actor < length layout.now.sources }
     requires same { length pool.now.chains ≡ length layout.now.channels }
     requires in_phase { IsInPhase layout.now.channels actor turn.firing turn.phase }
-    requires low { turn.phase < 16 }
-    requires few { turn.firing + n ≤ 16_384_000 }
+    requires low { turn.phase < MAX_PHASES }
+    requires few { turn.firing + n ≤ MAX_FIRINGS_PER_ACTOR }
     requires enough { HoldAll (tokens_in pool.now) (takes_at layout.now.channels turn.firing n) (inputs_at layout.now.channels actor) }
     requires all { length into.old ≡ needs_of layout.now.channels actor turn.firing n }
     ensures { into.new ≡ reads_over layout.now.channels (inputs_at layout.now.channels actor) turn.firing n (tokens_at (tokens_in pool.now)) }

@@ -15,7 +15,10 @@ ghost use Rattle.csdf_core.specs.Phases.{HasPhases, IsInPhase, IsPhase};
 
 use crate::setup::Setup;
 use crate::turn::Turn;
-use csdf_model::{Channel, Graph, Kernel};
+use csdf_model::{
+    Channel, Graph, Kernel, MAX_ACTORS, MAX_CHANNELS, MAX_FIRINGS_PER_ACTOR, MAX_PHASES,
+    MAX_TOKENS_PER_FIRING,
+};
 use std::alloc::{AllocError, Global};
 use std::marker::Model;
 
@@ -63,7 +66,7 @@ impl Layout {
     pub(crate) fn new(alloc: Global, setup: Setup<'_>) -> Result<Layout, AllocError>
         requires limits { length setup.limits.items ≡ length setup.accepted.now.graph.actors }
         requires supply { length setup.supply.items ≡ length setup.accepted.now.graph.actors }
-        requires few { All (λ n. n ≤ 16_384_000) setup.limits.items }
+        requires few { All (λ n. n ≤ MAX_FIRINGS_PER_ACTOR) setup.limits.items }
         ensures plan { IfOk result (λ layout. layout
             ≡ plan_for setup.entry.accepted.now setup.entry.limits.items setup.entry.supply.items setup.entry.firings) }
         ensures playable { IfOk result IsPlayable }
@@ -84,7 +87,7 @@ impl Layout {
     /// The number of actors.
     pub(crate) fn actors(&self) -> usize
         ensures count { result ≡ length self.now.sources }
-        ensures few { result ≤ 64 }
+        ensures few { result ≤ MAX_ACTORS }
     {
         self.graph.actors().len()
     }
@@ -92,7 +95,7 @@ impl Layout {
     /// The number of channels.
     pub(crate) fn channels(&self) -> usize
         ensures count { result ≡ length self.now.channels }
-        ensures few { result ≤ 128 }
+        ensures few { result ≤ MAX_CHANNELS }
     {
         self.graph.channels().len()
     }
@@ -104,7 +107,7 @@ impl Layout {
         ensures value { result.now ≡ inputs_at self.now.channels actor }
         ensures own { All (λ c. to_at self.now.channels c ≡ actor) result.now }
         ensures within { All (λ c. c < length self.now.channels) result.now }
-        ensures few { length result.now ≤ 128 }
+        ensures few { length result.now ≤ MAX_CHANNELS }
     {
         self.graph.inputs(actor)
     }
@@ -116,7 +119,7 @@ impl Layout {
         ensures value { result.now ≡ outputs_at self.now.channels actor }
         ensures own { All (λ c. from_at self.now.channels c ≡ actor) result.now }
         ensures within { All (λ c. c < length self.now.channels) result.now }
-        ensures few { length result.now ≤ 128 }
+        ensures few { length result.now ≤ MAX_CHANNELS }
     {
         self.graph.outputs(actor)
     }
@@ -129,8 +132,8 @@ impl Layout {
           channel_view result.now,
           slice_index (map (λ (c : ChannelModel). c.capacity) self.now.channels) channel,
         )) }
-        ensures produce { All (λ n. n ≤ 64) result.now.produce.items }
-        ensures consume { All (λ n. n ≤ 64) result.now.consume.items }
+        ensures produce { All (λ n. n ≤ MAX_TOKENS_PER_FIRING) result.now.produce.items }
+        ensures consume { All (λ n. n ≤ MAX_TOKENS_PER_FIRING) result.now.consume.items }
     {
         &self.graph.channels()[channel as usize]
     }
@@ -150,7 +153,7 @@ impl Layout {
         requires { actor < length self.now.sources }
         ensures phases { HasPhases self.now.channels actor result }
         ensures some { 1 ≤ result }
-        ensures few { result ≤ 16 }
+        ensures few { result ≤ MAX_PHASES }
     {
         self.graph.actors()[actor as usize].phases
     }
@@ -175,7 +178,7 @@ impl Layout {
         requires channel { channel < length self.now.channels }
         requires phase { IsPhase (consume_at self.now.channels channel) turn.firing turn.phase }
         ensures value { result ≡ take_at self.now.channels turn.firing channel }
-        ensures small { result ≤ 64 }
+        ensures small { result ≤ MAX_TOKENS_PER_FIRING }
     {
         let channel = self.channel(channel);
         channel.consume[turn.phase as usize]
@@ -187,7 +190,7 @@ impl Layout {
         requires channel { channel < length self.now.channels }
         requires phase { IsPhase (produce_at self.now.channels channel) turn.firing turn.phase }
         ensures value { result ≡ give_at self.now.channels turn.firing channel }
-        ensures small { result ≤ 64 }
+        ensures small { result ≤ MAX_TOKENS_PER_FIRING }
     {
         let channel = self.channel(channel);
         channel.produce[turn.phase as usize]
@@ -232,7 +235,7 @@ impl Layout {
     pub(crate) fn limit(&self, actor: u32) -> u32
         requires { actor < length self.now.sources }
         ensures value { result ≡ slice_index self.now.limits actor }
-        ensures small { result ≤ 16_384_000 }
+        ensures small { result ≤ MAX_FIRINGS_PER_ACTOR }
     {
         self.limits[actor as usize]
     }

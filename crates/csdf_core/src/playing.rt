@@ -14,6 +14,7 @@ use crate::firing_core::Core;
 use crate::moves::Move;
 use crate::refusal::Refusal;
 use crate::setup::Setup;
+use csdf_model::MAX_FIRINGS_PER_ACTOR;
 use std::alloc::{AllocError, Global};
 
 /// The answer to a move: the tokens that a read handed out, none for any other move.
@@ -91,7 +92,7 @@ pub struct Played {
 pub fn play(alloc: Global, setup: Setup<'_>, moves: &[Move]) -> Result<Played, AllocError>
     requires limits { length setup.limits.items ≡ length setup.accepted.now.graph.actors }
     requires supply { length setup.supply.items ≡ length setup.accepted.now.graph.actors }
-    requires few { All (λ n. n ≤ 16_384_000) setup.limits.items }
+    requires few { All (λ n. n ≤ MAX_FIRINGS_PER_ACTOR) setup.limits.items }
     ensures plan { IfOk result (λ p. p.core.plan ≡ plan_for setup.entry.accepted.now setup.entry.limits.items setup.entry.supply.items setup.entry.firings) }
     ensures replies { IfOk result (λ p. replies_in p.replies.items ≡ replies_of p.core.plan (opening p.core.plan) (map move_of moves.now)) }
     ensures shows { IfOk result (λ p. Shows p.core (state_after p.core.plan (opening p.core.plan) (map move_of moves.now))) }

@@ -11,6 +11,7 @@ ghost use Rattle.csdf_core.specs.Ports.{tokens_in, short_at, full_at, own_take_a
 
 use crate::layout::Layout;
 use crate::turn::Turn;
+use csdf_model::MAX_TOKENS_PER_FIRING;
 use csdf_pool::Pool;
 
 /// The first closed output of the actor.
@@ -61,7 +62,7 @@ fn own_take(layout: &Layout, actor: u32, channel: u32, turn: Turn) -> u32
     requires channel { channel < length layout.now.channels }
     requires in_phase { IsInPhase layout.now.channels actor turn.firing turn.phase }
     ensures value { result ≡ own_take_at layout.now.channels actor turn.firing channel }
-    ensures small { result ≤ 64 }
+    ensures small { result ≤ MAX_TOKENS_PER_FIRING }
 {
     if layout.consumer(channel) == actor {
         layout.takes(channel, turn)

@@ -14,6 +14,7 @@ ghost use Rattle.std.specs.Prelude.{slice_set};
 use crate::layout::Layout;
 use crate::transfer::{gift_of, put_outputs, raise_peaks};
 use crate::turn::{Turn, turn_after};
+use csdf_model::{MAX_FIRINGS_PER_ACTOR, MAX_PHASES, MAX_TOKENS_PER_FIRING};
 use csdf_pool::Pool;
 
 /// Whether no channel goes from the actor to itself.
@@ -36,8 +37,8 @@ fn taken_one_by_one(layout: &Layout, actor: u32, channel: u32, turn: Turn, n: u3
     requires channel { channel < length layout.now.channels }
     requires own { to_at layout.now.channels channel ≡ actor }
     requires in_phase { IsInPhase layout.now.channels actor turn.firing turn.phase }
-    requires low { turn.phase < 16 }
-    requires few { turn.firing + n ≤ 16_384_000 }
+    requires low { turn.phase < MAX_PHASES }
+    requires few { turn.firing + n ≤ MAX_FIRINGS_PER_ACTOR }
     ensures value { result ≡ takes_at layout.now.channels turn.firing n channel }
 {
     let mut next = turn;
@@ -55,10 +56,10 @@ fn given_one_by_one(layout: &Layout, actor: u32, channel: u32, turn: Turn, n: u3
     requires channel { channel < length layout.now.channels }
     requires own { from_at layout.now.channels channel ≡ actor }
     requires in_phase { IsInPhase layout.now.channels actor turn.firing turn.phase }
-    requires low { turn.phase < 16 }
-    requires few { turn.firing + n ≤ 16_384_000 }
+    requires low { turn.phase < MAX_PHASES }
+    requires few { turn.firing + n ≤ MAX_FIRINGS_PER_ACTOR }
     ensures value { result ≡ gives_at layout.now.channels turn.firing n channel }
-    ensures small { result ≤ 64 * n }
+    ensures small { result ≤ MAX_TOKENS_PER_FIRING * n }
 {
     let mut next = turn;
     let mut sum = 0;
@@ -75,8 +76,8 @@ pub(crate) fn taken_of(layout: &Layout, actor: u32, channel: u32, turn: Turn, n:
     requires channel { channel < length layout.now.channels }
     requires own { to_at layout.now.channels channel ≡ actor }
     requires in_phase { IsInPhase layout.now.channels actor turn.firing turn.phase }
-    requires low { turn.phase < 16 }
-    requires few { turn.firing + n ≤ 16_384_000 }
+    requires low { turn.phase < MAX_PHASES }
+    requires few { turn.firing + n ≤ MAX_FIRINGS_PER_ACTOR }
     ensures value { result ≡ takes_at layout.now.channels turn.firing n channel }
 {
     if layout.phases(actor) == 1 {
@@ -91,10 +92,10 @@ pub(crate) fn given_of(layout: &Layout, actor: u32, channel: u32, turn: Turn, n:
     requires channel { channel < length layout.now.channels }
     requires own { from_at layout.now.channels channel ≡ actor }
     requires in_phase { IsInPhase layout.now.channels actor turn.firing turn.phase }
-    requires low { turn.phase < 16 }
-    requires few { turn.firing + n ≤ 16_384_000 }
+    requires low { turn.phase < MAX_PHASES }
+    requires few { turn.firing + n ≤ MAX_FIRINGS_PER_ACTOR }
     ensures value { result ≡ gives_at layout.now.channels turn.firing n channel }
-    ensures small { result ≤ 64 * n }
+    ensures small { result ≤ MAX_TOKENS_PER_FIRING * n }
 {
     if layout.phases(actor) == 1 {
         return u64::from(n) * u64::from(layout.gives(channel, turn));
@@ -107,8 +108,8 @@ pub(crate) fn hold_each(layout: &Layout, pool: &Pool, actor: u32, turn: Turn, n:
     requires actor { actor < length layout.now.sources }
     requires same { length pool.now.chains ≡ length layout.now.channels }
     requires in_phase { IsInPhase layout.now.channels actor turn.firing turn.phase }
-    requires low { turn.phase < 16 }
-    requires few { turn.firing + n ≤ 16_384_000 }
+    requires low { turn.phase < MAX_PHASES }
+    requires few { turn.firing + n ≤ MAX_FIRINGS_PER_ACTOR }
     ensures { IsTrue result ↔ HoldAll (tokens_in pool.now) (takes_at layout.now.channels turn.firing n) (inputs_at layout.now.channels actor) }
 {
     let inputs = layout.inputs(actor);
@@ -126,8 +127,8 @@ pub(crate) fn have_room_each(layout: &Layout, pool: &Pool, actor: u32, turn: Tur
     requires actor { actor < length layout.now.sources }
     requires same { length pool.now.chains ≡ length layout.now.channels }
     requires in_phase { IsInPhase layout.now.channels actor turn.firing turn.phase }
-    requires low { turn.phase < 16 }
-    requires few { turn.firing + n ≤ 16_384_000 }
+    requires low { turn.phase < MAX_PHASES }
+    requires few { turn.firing + n ≤ MAX_FIRINGS_PER_ACTOR }
     ensures { IsTrue result ↔ HaveRoomFor layout.now.channels (tokens_in pool.now) (gives_at layout.now.channels turn.firing n)
         (outputs_at layout.now.channels actor) }
 {
@@ -213,8 +214,8 @@ pub(crate) fn fire_each(
 )
     requires actor { actor < length layout.now.sources }
     requires in_phase { IsInPhase layout.now.channels actor turn.firing turn.phase }
-    requires low { turn.phase < 16 }
-    requires few { turn.firing + n ≤ 16_384_000 }
+    requires low { turn.phase < MAX_PHASES }
+    requires few { turn.firing + n ≤ MAX_FIRINGS_PER_ACTOR }
     requires same { length pool.old.chains ≡ length layout.now.channels }
     requires peaked { length peaks.old ≡ length layout.now.channels }
     requires enough { Suffices layout.now actor turn.firing n pool.old tokens.now }

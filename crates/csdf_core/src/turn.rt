@@ -4,6 +4,7 @@ ghost use Rattle.std.specs.Prelude.{◌≡◌, ◌+◌, ◌<◌, ◌≤◌, leng
 ghost use Rattle.csdf_core.specs.Phases.{IsInPhase};
 
 use crate::layout::Layout;
+use csdf_model::{MAX_FIRINGS_PER_ACTOR, MAX_PHASES};
 
 /// A firing of an actor, by its number, and the phase that it is in.
 #[derive(Clone, Copy)]
@@ -16,11 +17,11 @@ pub(crate) struct Turn {
 pub(crate) fn turn_after(layout: &Layout, actor: u32, turn: Turn) -> Turn
     requires actor { actor < length layout.now.sources }
     requires in_phase { IsInPhase layout.now.channels actor turn.firing turn.phase }
-    requires low { turn.phase < 16 }
-    requires few { turn.firing ≤ 16_384_000 }
+    requires low { turn.phase < MAX_PHASES }
+    requires few { turn.firing ≤ MAX_FIRINGS_PER_ACTOR }
     ensures firing { result.firing ≡ turn.firing + 1 }
     ensures in_phase { IsInPhase layout.now.channels actor (turn.firing + 1) result.phase }
-    ensures low { result.phase < 16 }
+    ensures low { result.phase < MAX_PHASES }
 {
     let phases = layout.phases(actor);
     let next = turn.phase + 1;
