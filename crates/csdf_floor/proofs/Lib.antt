@@ -14,7 +14,6 @@ pub mod Counted
 pub mod Rooms
 pub mod Periods
 pub mod Complete
-pub mod Graphs
 pub mod Endings
 pub mod Loops
 pub mod Works

@@ -4,7 +4,7 @@ use Rattle.std.specs.Prelude.{ℤ}
 use Rattle.std.proofs.lemmas.List.{get_or-map}
 use Rattle.csdf_model.specs.Rates.{total}
 use Rattle.csdf_core.specs.declared.stage.Stage.TheVariants.{Idle}
-use Rattle.csdf_core.specs.Plan.{Channel}
+use Rattle.csdf_core.specs.Plan.{Channel, consume_at, produce_at, to_at}
 use Rattle.csdf_core.specs.Playable.{IsPlayable}
 use Rattle.csdf_core.specs.State.{State, Stream, Present, present}
 use Rattle.csdf_core.specs.Headline.{capacity_of}
@@ -16,7 +16,7 @@ use Rattle.csdf_core.proofs.Booked.{idle_at}
 use Rattle.csdf_core.proofs.FiringCounts.{put, got, begun, put_at, got_at}
 use Rattle.csdf_core.proofs.Tallies.{AreTallied}
 use Rattle.csdf_floor.specs.Floor.{FloorView}
-use Rattle.csdf_floor.specs.Inside.{IsBook, consumer, put_into, taken_out_of}
+use Rattle.csdf_floor.specs.Inside.{IsBook}
 use Rattle.csdf_floor.specs.Journal.{Program, replies_to, state_of}
 use Rattle.csdf_floor.specs.declared.outcome.ChannelReport.{ChannelReport}
 use Rattle.csdf_floor.specs.Outcome.{report_of}
@@ -77,11 +77,24 @@ module _ (f : FloorView) (reads : List (List ℤ)) (b : IsBook f reads) (idle : 
   counted : (a : ℕ) → count (present s) a ≡ count f.core.now a
   counted a = ap (λ (p : Present). count p a) (sym b.kept.shows.same)
 
+  -- how often the channel's producer and its consumer have fired
+  abbrev fired_from : ℕ
+  fired_from = count f.core.now (producer w.plan c)
+
+  abbrev fired_to : ℕ
+  fired_to = count f.core.now (to_at w.plan.channels c)
+
   from_is : producer w.plan c ≡ ch.from
   from_is = get_or-map (λ (e : Channel). e.from) w.plan.channels c d 0 there
 
-  to_is : consumer w.plan c ≡ ch.to
+  to_is : to_at w.plan.channels c ≡ ch.to
   to_is = get_or-map (λ (e : Channel). e.to) w.plan.channels c d 0 there
+
+  produce_is : produce_at w.plan.channels c ≡ ch.produce
+  produce_is = get_or-map (λ (e : Channel). e.produce) w.plan.channels c d [] there
+
+  consume_is : consume_at w.plan.channels c ≡ ch.consume
+  consume_is = get_or-map (λ (e : Channel). e.consume) w.plan.channels c d [] there
 
   first_is : length (initial w.plan c) ≡ length ch.initial
   first_is = ap length (get_or-map (λ (e : Channel). e.initial) w.plan.channels c d [] there)
@@ -92,32 +105,32 @@ module _ (f : FloorView) (reads : List (List ℤ)) (b : IsBook f reads) (idle : 
       let booked = (faithful_end w f.journal b.kept.honest).booked in
       tallied_at (put s.counts s.stages) (got s.counts s.stages) (begun s.counts s.stages) w.plan.channels s.streams c d booked.tallied booked.streamed there
 
-  pub written_told : put_into w.plan (count f.core.now (producer w.plan c)) c ≡ length (written_to w.plan c f.journal (replies_to w f.journal))
+  pub written_told : total (produce_at w.plan.channels c) fired_from ≡ length (written_to w.plan c f.journal (replies_to w f.journal))
   written_told =
       let ends = ends_there f.work c d b.work there in
-      let n : put s.counts s.stages ch.from ≡ count f.core.now (producer w.plan c) = idle_at put_at s ch.from (at_rest ch.from ends.0) (λ k. refl)
+      let n : put s.counts s.stages ch.from ≡ fired_from = idle_at put_at s ch.from (at_rest ch.from ends.0) (λ k. refl)
       ∙ counted ch.from ∙ ap (count f.core.now) (sym from_is) in
-      let all : length (written_in s c) ≡ length ch.initial + total ch.produce (count f.core.now (producer w.plan c)) = tallied.0
+      let all : length (written_in s c) ≡ length ch.initial + total ch.produce fired_from = tallied.0
       ∙ ap (λ k. length ch.initial + total ch.produce k) n in
       let told = written_is w f.journal c playable in
-      let own : put_into w.plan (count f.core.now (producer w.plan c)) c ≡ total ch.produce (count f.core.now (producer w.plan c)) =
-      get_or-map (λ (e : Channel). total e.produce (count f.core.now (producer w.plan c))) w.plan.channels c d 0 there in
+      let own : total (produce_at w.plan.channels c) fired_from ≡ total ch.produce fired_from =
+      ap (λ (rates : List ℕ). total rates fired_from) produce_is in
       let first = first_is in
       omega (arith, all, told, own, first)
 
-  pub taken_told : taken_out_of w.plan (count f.core.now (consumer w.plan c)) c ≡ length (tokens_taken w.plan c f.journal (replies_to w f.journal))
+  pub taken_told : total (consume_at w.plan.channels c) fired_to ≡ length (tokens_taken w.plan c f.journal (replies_to w f.journal))
   taken_told =
       let ends = ends_there f.work c d b.work there in
-      let n : got s.counts s.stages ch.to ≡ count f.core.now (consumer w.plan c) = idle_at got_at s ch.to (at_rest ch.to ends.1) (λ k. refl) ∙ counted ch.to
+      let n : got s.counts s.stages ch.to ≡ fired_to = idle_at got_at s ch.to (at_rest ch.to ends.1) (λ k. refl) ∙ counted ch.to
       ∙ ap (count f.core.now) (sym to_is) in
-      get_or-map (λ (e : Channel). total e.consume (count f.core.now (consumer w.plan c))) w.plan.channels c d 0 there
+      ap (λ (rates : List ℕ). total rates fired_to) consume_is
       ∙ ap (total ch.consume) (sym n)
       ∙ sym tallied.1
       ∙ sym (taken_is w f.journal c playable)
 
   -- all that is told of the channel
-  pub as_told : (r : ChannelReport) → r.written ≡ put_into w.plan (count f.core.now (producer w.plan c)) c
-      → r.taken ≡ taken_out_of w.plan (count f.core.now (consumer w.plan c)) c
+  pub as_told : (r : ChannelReport) → r.written ≡ total (produce_at w.plan.channels c) fired_from
+      → r.taken ≡ total (consume_at w.plan.channels c) fired_to
       → r.held ≡ length (tokens_at f.core.now.tokens c) → r.peak ≡ get_or f.core.peaks c 0 → r.capacity ≡ capacity_of w.plan c
       → r.is_open ≡ is_open f.core.now c
       → r ≡ report_of w f.journal c

@@ -1,41 +1,39 @@
 -- What is run, as the fields of its lists show it.
 use Rattle.std.proofs.Common.{◌≡◌, ℕ, zero, suc, ◌+◌, ◌*◌, ◌<◌, ◌≤◌, ◌==◌, cond, Bool, true, false, List, [], ◌∷◌, length, map, filter, get_or, refl, ap}
-use Rattle.std.proofs.Common.{sym, subst, ◌∙◌, arith, None, mul-le-mul, inl, inr, ◌-◌, set, length-set, Option}
+use Rattle.std.proofs.Common.{sym, subst, ◌∙◌, arith, mul-le-mul, inl, inr, ◌-◌, set, length-set, Option}
 use Rattle.std.specs.Prelude.{All, ℤ, vec_len, vec_capacity, Result, Ok, Err, OnOk, is_ok}
-use Rattle.std.specs.List.{zip}
 use Rattle.std.specs.Global.{Vec}
 use Rattle.std.proofs.lemmas.List.{length-map, get_or-map, get_or-set_same, get_or_past}
 use Rattle.std.proofs.lemmas.List.Elements.{All-get_or, All-from_get_or, All-from_recursion}
 use Rattle.csdf_model.specs.declared.parts.Kernel.{Kernel}
 use Rattle.csdf_model.specs.declared.parts.Kernel.TheVariants as kernel
 use Rattle.csdf_model.specs.declared.parts.Actor.{Actor as ActorCode}
-use Rattle.csdf_model.specs.Graph as graph
-use Rattle.csdf_model.specs.Graph.{Actor, Graph, actor_view, numbers_from, outputs_of}
-use Rattle.csdf_model.specs.Rates.{produced, consumed, production}
-use Rattle.csdf_model.specs.WellFormed.{IsWellFormed, IsActor, IsChannel, IsKernel}
+use Rattle.csdf_model.specs.Graph.{Actor, Graph, actor_view, numbers_from}
+use Rattle.csdf_model.specs.Rates.{rate}
+use Rattle.csdf_model.specs.WellFormed.{IsWellFormed, IsActor, IsKernel}
 use Rattle.csdf_analysis.specs.Acceptance.{Accepted, IsAccepted}
 use Rattle.csdf_analysis.specs.Repetition.{IsRepetition}
-use Rattle.csdf_analysis.proofs.BoundLemmas.{firing_fits, phases_within, total_within}
+use Rattle.csdf_analysis.proofs.BoundLemmas.{firing_fits, phases_within}
 use Rattle.csdf_kernel.specs.Value.{HasFilterInRange}
-use Rattle.csdf_core.specs.Layout.{is_source_kernel, with_capacity}
-use Rattle.csdf_core.specs.Plan.{Channel, Plan}
+use Rattle.csdf_core.specs.Layout.{is_source_kernel}
+use Rattle.csdf_core.specs.Plan.{Channel, gives_of, to_at}
+use Rattle.csdf_core.specs.Ports.{give_at, outputs_at}
 use Rattle.csdf_core.specs.Step.{producer}
 use Rattle.csdf_core.specs.Playable.{IsPlayable}
 use Rattle.csdf_core.proofs.Setups.{playable_setup}
-use Rattle.csdf_core.proofs.LayoutLemmas.{length-capacities, seen_at, rate_small}
-use Rattle.csdf_floor.specs.Journal.{output_counts, program_for}
-use Rattle.csdf_floor.specs.Inside.{consumed_at, consumer, produced_at, production_at}
+use Rattle.csdf_core.proofs.LayoutLemmas.{seen_at}
+use Rattle.csdf_floor.specs.Journal.{program_for}
 use Rattle.std.proofs.lemmas.Bool.Decides.{eqb_tells, leb_tells}
 use Rattle.csdf_floor.specs.Work.{AreFeeds, FewInThousand, HasFewFirings, IsFeed, feed_of, Work, IsWork, program, feeds_in}
-use Rattle.csdf_floor.proofs.Graphs.{counts_of_graph}
 
 -- ---- kernels
 
-pub kernel_at : (actors : List ActorCode) (rows : List Actor) (a : ℕ) (x : ActorCode) → map actor_view actors ≡ rows → a < length rows → x ≡ get_or actors a x
-    → x.kernel ≡ get_or (map (λ (row : Actor). row.kernel) rows) a kernel.Sink
-kernel_at actors rows a x same lt is =
+-- a part of an actor, in the list of these parts
+pub actor_at : {K : Type 0} (f : Actor → K) (actors : List ActorCode) (rows : List Actor) (a : ℕ) (x : ActorCode) (d : K) → map actor_view actors ≡ rows
+    → a < length rows → x ≡ get_or actors a x → f (actor_view x) ≡ get_or (map f rows) a d
+actor_at f actors rows a x d same lt is =
     let len : length actors ≡ length rows = sym (length-map actors actor_view) ∙ ap length same in
-    seen_at actor_view (λ (row : Actor). row.kernel) actors rows same a x kernel.Sink (omega arith) is
+    seen_at actor_view f actors rows same a x d (omega arith) is
 
 filter_fits : (k : Kernel) → IsKernel k → HasFilterInRange k
 filter_fits kernel.Source is = tt
@@ -79,63 +77,31 @@ playable_program a feeds periods firings ok few =
 -- ---- counts
 
 -- the elements at the numbers of those that pass
-numbers_map : {A K : Type 0} (f : ℕ → K) (h : A → K) (test : A → Bool) (i : ℕ) (xs : List A) (d : A) → ((j : ℕ) → j < length xs → f (i + j) ≡ h (get_or xs j d))
-    → map f (numbers_from i test xs) ≡ map h (filter test xs)
+numbers_map : {A K : Type 0} (f : ℕ → K) (h : A → K) (test : A → Bool) (i : ℕ) (xs : List A) (d : A)
+    → ((j : ℕ) → j < length xs → test (get_or xs j d) ≡ true → f (i + j) ≡ h (get_or xs j d)) → map f (numbers_from i test xs) ≡ map h (filter test xs)
 numbers_map f h test i [] d at = refl
 numbers_map {A = A} {K = K} f h test i (x ∷ xs) d at =
-    let here : f i ≡ h x = (let e : i + 0 ≡ i = omega arith in ap f (sym e) ∙ at 0 (omega arith)) in
+    let here : test x ≡ true → f i ≡ h x = λ own. (let e : i + 0 ≡ i = omega arith in ap f (sym e) ∙ at 0 (omega arith) own) in
     let rest : map f (numbers_from (suc i) test xs) ≡ map h (filter test xs) =
-    numbers_map f h test (suc i) xs d (λ j lt. (let e : suc i + j ≡ i + suc j = omega arith in ap f e ∙ at (suc j) (omega arith))) in
+    numbers_map f h test (suc i) xs d (λ j lt own. (let e : suc i + j ≡ i + suc j = omega arith in ap f e ∙ at (suc j) (omega arith) own)) in
     by (test x) here rest
   where
-    by : (b : Bool) → f i ≡ h x → map f (numbers_from (suc i) test xs) ≡ map h (filter test xs)
+    by : (b : Bool) → (b ≡ true → f i ≡ h x) → map f (numbers_from (suc i) test xs) ≡ map h (filter test xs)
         → map f (cond b (i ∷ numbers_from (suc i) test xs) (numbers_from (suc i) test xs)) ≡ map h (cond b (x ∷ filter test xs) (filter test xs))
-    by true here rest = cc
+    by true here rest = let first = here refl in cc
     by false here rest = rest
 
-pub productions : (a k : ℕ) (gs : List graph.Channel)
-    → map (production_at gs k) (outputs_of gs a) ≡ map (λ (g : graph.Channel). production g k) (filter (λ (g : graph.Channel). g.from == a) gs)
-productions a k gs =
-    let d : graph.Channel = record { name = []; from = 0; to = 0; produce = []; consume = []; initial = []; capacity = None } in
-    numbers_map (production_at gs k) (λ (g : graph.Channel). production g k) (λ (g : graph.Channel). g.from == a) 0 gs d
-    (λ j lt. (let e : 0 + j ≡ j = omega arith in ap (production_at gs k) e ∙ get_or-map (λ (g : graph.Channel). production g k) gs j d 0 lt))
-
-pub productions_of : (a k : ℕ) (gs : List graph.Channel) (outputs : List ℕ) → outputs ≡ outputs_of gs a
-    → map (production_at gs k) outputs ≡ map (λ (g : graph.Channel). production g k) (filter (λ (g : graph.Channel). g.from == a) gs)
-productions_of a k gs outputs is = ap (map (production_at gs k)) is ∙ productions a k gs
-
--- the counts of a job are those of its firing
-pub counts_are : (w : Work) (a k : ℕ) → IsWork w → map (λ (g : graph.Channel). production g k)
-    (filter (λ (g : graph.Channel). g.from == a) w.accepted.graph.channels) ≡ output_counts (program w) a k
-counts_are w a k is = sym (counts_of_graph a k w.accepted.graph.channels w.accepted.capacities is.accepted.least.completes.each_channel)
-
--- each is at most 64
-pub production_small : (gs : List graph.Channel) (actors : List Actor) (k c : ℕ) → All (IsChannel actors) gs → c < length gs → production_at gs k c ≤ 64
-production_small gs actors k c all lt =
-    let d : graph.Channel = record { name = []; from = 0; to = 0; produce = []; consume = []; initial = []; capacity = None } in
-    let own : IsChannel actors (get_or gs c d) = All-get_or (IsChannel actors) gs c d lt all in
-    subst (λ n. n ≤ 64) (sym (get_or-map (λ (g : graph.Channel). production g k) gs c d 0 lt)) (rate_small _ k own.produce.small)
-
--- so many firings move at most 64 tokens each
-pub produced_small : (gs : List graph.Channel) (actors : List Actor) (n c : ℕ) → All (IsChannel actors) gs → c < length gs → produced_at gs n c ≤ n * 64
-produced_small gs actors n c all lt =
-    let d : graph.Channel = record { name = []; from = 0; to = 0; produce = []; consume = []; initial = []; capacity = None } in
-    let own : IsChannel actors (get_or gs c d) = All-get_or (IsChannel actors) gs c d lt all in
-    subst (λ m. m ≤ n * 64) (sym (get_or-map (λ (g : graph.Channel). produced g n) gs c d 0 lt)) (total_within _ n own.produce.small)
-
-pub consumed_small : (gs : List graph.Channel) (actors : List Actor) (n c : ℕ) → All (IsChannel actors) gs → c < length gs → consumed_at gs n c ≤ n * 64
-consumed_small gs actors n c all lt =
-    let d : graph.Channel = record { name = []; from = 0; to = 0; produce = []; consume = []; initial = []; capacity = None } in
-    let own : IsChannel actors (get_or gs c d) = All-get_or (IsChannel actors) gs c d lt all in
-    subst (λ m. m ≤ n * 64) (sym (get_or-map (λ (g : graph.Channel). consumed g n) gs c d 0 lt)) (total_within _ n own.consume.small)
-
--- the capacity of a channel of a plan
-pub capacities_are : (gs : List graph.Channel) (capacities : List ℕ) → length capacities ≡ length gs
-    → map (λ (e : Channel). e.capacity) (map with_capacity (zip gs capacities)) ≡ capacities
-capacities_are [] [] each = refl
-capacities_are [] (n ∷ capacities) each = absurd (omega arith)
-capacities_are (g ∷ gs) [] each = absurd (omega arith)
-capacities_are (g ∷ gs) (n ∷ capacities) each = ap (λ (ns : List ℕ). n ∷ ns) (capacities_are gs capacities (omega arith))
+-- what a firing writes to each output of its actor
+pub productions : (a k : ℕ) (cs : List Channel) (outputs : List ℕ) → outputs ≡ outputs_at cs a
+    → map (give_at cs k) outputs ≡ map (gives_of a k) (filter (λ (c : Channel). c.from == a) cs)
+productions a k cs outputs is =
+    let d : Channel = record { from = 0; to = 0; produce = []; consume = []; initial = []; capacity = 0 } in
+    ap (map (give_at cs k)) is
+    ∙ numbers_map (give_at cs k) (gives_of a k) (λ (c : Channel). c.from == a) 0 cs d (λ j lt own.
+    let e : 0 + j ≡ j = omega arith in
+    ap (give_at cs k) e
+    ∙ get_or-map (λ (c : Channel). rate c.produce k) cs j d 0 lt
+    ∙ sym (ap (λ b. cond b (rate (get_or cs j d).produce k) 0) own))
 
 -- the contents of one of the vectors
 pub feed_short : (feeds : List (Vec ℤ)) (n i : ℕ) (x : Vec ℤ) → All (λ feed. length feed ≤ n) (feeds_in feeds) → i < length feeds → x ≡ get_or feeds i x
@@ -184,7 +150,7 @@ ends_there w c d is lt =
     (All-from_recursion (λ (e : Channel). (e.from < length (program w).plan.sources) × (e.to < length (program w).plan.sources)) (program w).plan.channels
     playable.ends)
 
-pub consumer_there : (w : Work) (c : ℕ) → IsWork w → c < length (program w).plan.channels → consumer (program w).plan c < length (program w).plan.sources
+pub consumer_there : (w : Work) (c : ℕ) → IsWork w → c < length (program w).plan.channels → to_at (program w).plan.channels c < length (program w).plan.sources
 consumer_there w c is lt =
     let d : Channel = record { from = 0; to = 0; produce = []; consume = []; initial = []; capacity = 0 } in
     subst (λ n. n < length (program w).plan.sources) (sym (get_or-map (λ (e : Channel). e.to) (program w).plan.channels c d 0 lt)) (ends_there w c d is lt).1
@@ -194,16 +160,6 @@ pub producer_there : (w : Work) (c : ℕ) → IsWork w → c < length (program w
 producer_there w c is lt =
     let d : Channel = record { from = 0; to = 0; produce = []; consume = []; initial = []; capacity = 0 } in
     subst (λ n. n < length (program w).plan.sources) (sym (get_or-map (λ (e : Channel). e.from) (program w).plan.channels c d 0 lt)) (ends_there w c d is lt).0
-
--- the channels of a plan are those of its graph
-pub in_graph : (w : Work) (plan : Plan) (c : ℕ) → IsWork w → plan ≡ (program w).plan → c < length plan.channels → c < length w.accepted.graph.channels
-in_graph w plan c is same lt =
-    omega (
-      arith,
-      lt,
-      ap (λ (u : Plan). length u.channels) same,
-      length-capacities w.accepted.graph.channels w.accepted.capacities is.accepted.least.completes.each_channel,
-    )
 
 -- lists that can be feeds, one after the other
 pub feeds_are : (g : Graph) (feeds : List (Vec ℤ)) → length feeds ≡ length g.actors → ((a : ℕ) → a < length feeds → IsFeed g a (feed_of (feeds_in feeds) a))

@@ -2,8 +2,6 @@
 use Rattle.std.specs.Prelude.{ℕ, suc, ◌≡◌, ◌+◌, ◌<◌, ◌≤◌, ◌==◌, ◌&&◌, ◌||◌, Bool, true, false, not, List, ℤ, [], ◌∷◌, length, map, slice_index, slice_index_or}
 use Rattle.std.specs.Prelude.{slice_set}
 use Rattle.csdf_model.specs.declared.parts.Kernel.TheVariants.{Sink}
-use Rattle.csdf_model.specs.Graph.{Channel as GraphChannel}
-use Rattle.csdf_model.specs.Rates.{consumed, produced, production, total}
 use Rattle.csdf_core.specs.declared.stage.Stage.TheVariants.{Idle, Fetched}
 use Rattle.csdf_core.specs.Moves.{Move}
 use Rattle.csdf_core.specs.Moves.{Begin, Read, Write, Finish}
@@ -16,28 +14,6 @@ use Rattle.csdf_core.specs.Next.{next}
 use Rattle.csdf_floor.specs.Journal.{reads_of}
 use Rattle.csdf_floor.specs.Work.{IsWork, program, is_sink_kernel}
 use Rattle.csdf_floor.specs.Floor.{FloorView, IsKept, HasGone, closes, sinks_of}
-
--- what firing number k of its producer puts into a channel, by the channel's number
-abbrev pub production_at : List GraphChannel → ℕ → ℕ → ℕ
-production_at channels k c = slice_index (map (λ (channel : GraphChannel). production channel k) channels) c
-
--- how many tokens the first n firings of its producer put into a channel, and of its consumer take out, by the channel's number
-abbrev pub produced_at : List GraphChannel → ℕ → ℕ → ℕ
-produced_at channels n c = slice_index (map (λ (channel : GraphChannel). produced channel n) channels) c
-
-abbrev pub consumed_at : List GraphChannel → ℕ → ℕ → ℕ
-consumed_at channels n c = slice_index (map (λ (channel : GraphChannel). consumed channel n) channels) c
-
--- the same of a channel of a plan
-abbrev pub put_into : Plan → ℕ → ℕ → ℕ
-put_into plan n c = slice_index (map (λ (channel : Channel). total channel.produce n) plan.channels) c
-
-abbrev pub taken_out_of : Plan → ℕ → ℕ → ℕ
-taken_out_of plan n c = slice_index (map (λ (channel : Channel). total channel.consume n) plan.channels) c
-
--- the consumer of a channel
-abbrev pub consumer : Plan → ℕ → ℕ
-consumer plan c = slice_index (map (λ (channel : Channel). channel.to) plan.channels) c
 
 -- a list for each actor, and how many tokens more it has room for
 pub record ListsView : Type 0 where

@@ -1,23 +1,23 @@
 //! What a run is asked for, and what its firings compute from.
 
-ghost use Rattle.std.specs.Prelude.{◌≡◌, ◌↔◌, ◌==◌, ◌+◌, ◌*◌, ◌^◌, ◌<◌, ◌≤◌, All, IsTrue, IfOk, OnOk, filter, length, map, slice_index, slice_index_or, slice_range};
+ghost use Rattle.std.specs.Prelude.{◌≡◌, ◌↔◌, ◌+◌, ◌*◌, ◌^◌, ◌<◌, ◌≤◌, All, IsTrue, IfOk, OnOk, Some, length, map, slice_get, slice_index_or, slice_range};
 ghost use Rattle.csdf_model.specs.declared.parts.Kernel.TheVariants.{Sink};
-ghost use Rattle.csdf_model.specs.Graph.{Actor as ActorModel, Channel as ChannelModel};
-ghost use Rattle.csdf_model.specs.Rates.{production};
+ghost use Rattle.csdf_model.specs.Graph.{channel_view};
+ghost use Rattle.csdf_model.specs.Rates.{total};
 ghost use Rattle.csdf_core.specs.Headline.{capacity_of};
-ghost use Rattle.csdf_core.specs.Layout.{is_source_kernel, plan_for};
-ghost use Rattle.csdf_core.specs.Ports.{outputs_at};
+ghost use Rattle.csdf_core.specs.Layout.{is_source_kernel, plan_for, with_capacity};
+ghost use Rattle.csdf_core.specs.Plan.{consume_at, produce_at, to_at};
+ghost use Rattle.csdf_core.specs.Ports.{give_at, outputs_at};
 ghost use Rattle.csdf_core.specs.Step.{is_source, producer};
 ghost use Rattle.csdf_kernel.specs.Value.{HasFilterInRange};
 ghost use Rattle.csdf_floor.specs.Journal.{output_counts};
-ghost use Rattle.csdf_floor.specs.Inside.{consumed_at, consumer, produced_at, production_at, put_into, taken_out_of};
-ghost use Rattle.csdf_floor.specs.Work.{AreFeeds, HasFewFirings, IsFeed, IsWork, feeds_in, feed_of, is_sink_kernel, is_source_of, program};
+ghost use Rattle.csdf_floor.specs.Work.{AreFeeds, HasFewFirings, IsFeed, IsWork, feeds_in, feed_of, is_sink_kernel, program};
 
 use crate::same::{are_same_feeds, is_same_accepted, is_same_limit};
 use csdf_analysis::Accepted;
 use csdf_core::Setup;
 use csdf_kernel::Counts;
-use csdf_model::{Graph, Kernel};
+use csdf_model::{Channel, Graph, Kernel};
 use std::alloc::{AllocError, Global};
 use std::marker::Model;
 
@@ -97,112 +97,18 @@ fn supplies_of(alloc: Global, feeds: &[Vec<i32>]) -> Result<Vec<u32>, AllocError
     Ok(supply)
 }
 
-/// The producer of the channel.
-fn producer_of(graph: &Graph, channel: u32) -> u32
-    requires { channel < length graph.now.channels }
-    ensures { result ≡ slice_index (map (λ (row : ChannelModel). row.from) graph.now.channels) channel }
-{
-    graph.channels()[channel as usize].from
-}
-
-/// The consumer of the channel.
-fn consumer_of(graph: &Graph, channel: u32) -> u32
-    requires { channel < length graph.now.channels }
-    ensures { result ≡ slice_index (map (λ (row : ChannelModel). row.to) graph.now.channels) channel }
-{
-    graph.channels()[channel as usize].to
-}
-
-/// How many tokens so many firings of its producer put into the channel.
-fn produced_of(graph: &Graph, channel: u32, firings: u32) -> u32
-    requires exists { channel < length graph.now.channels }
-    requires few { firings ≤ 16_384_000 }
-    ensures { result ≡ produced_at graph.now.channels firings channel }
-{
-    graph.channels()[channel as usize].produced(firings) as u32
-}
-
-/// How many tokens so many firings of its consumer take out of the channel.
-fn consumed_of(graph: &Graph, channel: u32, firings: u32) -> u32
-    requires exists { channel < length graph.now.channels }
-    requires few { firings ≤ 16_384_000 }
-    ensures { result ≡ consumed_at graph.now.channels firings channel }
-{
-    graph.channels()[channel as usize].consumed(firings) as u32
-}
-
-/// The actor's kernel.
-fn kernel_of(graph: &Graph, actor: u32) -> &Kernel
-    requires { actor < length graph.now.actors }
-    ensures value { result.now ≡ slice_index_or (map (λ (row : ActorModel). row.kernel) graph.now.actors) actor Sink }
-    ensures in_range { HasFilterInRange result.now }
-{
-    &graph.actors()[actor as usize].kernel
-}
-
+/// Whether this is the kernel of a source.
 fn is_source(kernel: &Kernel) -> bool
     ensures { result ≡ is_source_kernel kernel.now }
 {
     matches!(kernel, Kernel::Source)
 }
 
-fn is_source_of(graph: &Graph, actor: u32) -> bool
-    requires { actor < length graph.now.actors }
-    ensures { result ≡ is_source_of graph.now actor }
-{
-    is_source(kernel_of(graph, actor))
-}
-
+/// Whether this is the kernel of a sink.
 fn is_sink(kernel: &Kernel) -> bool
     ensures { result ≡ is_sink_kernel kernel.now }
 {
     matches!(kernel, Kernel::Sink)
-}
-
-/// How many tokens the firing of its producer puts into the channel.
-fn production_of(graph: &Graph, channel: u32, firing: u32) -> u32
-    requires { channel < length graph.now.channels }
-    ensures value { result ≡ production_at graph.now.channels firing channel }
-    ensures small { result ≤ 64 }
-{
-    graph.channels()[channel as usize].production(firing)
-}
-
-/// How many tokens the firing writes to each output of its actor, in file order, in the place of what
-/// the list holds.
-fn counts_into(
-    graph: &Graph,
-    actor: u32,
-    firing: u32,
-    counts: &mut Counts,
-) -> Result<(), AllocError>
-    requires { actor < length graph.now.actors }
-    ensures value { OnOk result (counts.new.items ≡ map (λ c. production c firing) (filter (λ c. c.from == actor) graph.now.channels)) }
-    ensures few { OnOk result (length counts.new.items ≤ 128) }
-    ensures small { OnOk result (All (λ n. n ≤ 64) counts.new.items) }
-{
-    counts.clear();
-    for channel in graph.outputs(actor) {
-        counts.push(production_of(graph, *channel, firing))?;
-    }
-    Ok(())
-}
-
-/// Whether these are what the firing writes to each output of its actor, in file order.
-fn are_counts(graph: &Graph, actor: u32, firing: u32, counts: &[u32]) -> bool
-    requires { actor < length graph.now.actors }
-    ensures { IsTrue result ↔ (counts.now ≡ map (λ c. production c firing) (filter (λ c. c.from == actor) graph.now.channels)) }
-{
-    let outputs = graph.outputs(actor);
-    if counts.len() != outputs.len() {
-        return false;
-    }
-    for i in 0..outputs.len() {
-        if counts[i] != production_of(graph, outputs[i], firing) {
-            return false;
-        }
-    }
-    true
 }
 
 impl Work {
@@ -248,37 +154,13 @@ impl Work {
         })
     }
 
-    /// The graph.
-    pub(crate) fn graph(&self) -> &Graph
-        ensures { result.now ≡ self.now.accepted.graph }
-    {
-        self.accepted.graph()
-    }
-
-    /// The channels that begin at the actor, in file order.
-    pub(crate) fn outputs(&self, actor: u32) -> &[u32]
-        requires { actor < length self.now.accepted.graph.actors }
-        ensures value { result.now ≡ outputs_at (program self.now).plan.channels actor }
-        ensures few { length result.now ≤ 128 }
-    {
-        self.accepted.graph().outputs(actor)
-    }
-
-    /// The producer of the channel.
-    pub(crate) fn producer(&self, channel: u32) -> u32
-        requires { channel < length self.now.accepted.graph.channels }
-        ensures { result ≡ producer (program self.now).plan channel }
-    {
-        producer_of(self.accepted.graph(), channel)
-    }
-
     /// The actor's kernel.
     pub(crate) fn kernel(&self, actor: u32) -> &Kernel
         requires { actor < length self.now.accepted.graph.actors }
         ensures value { result.now ≡ slice_index_or (program self.now).kernels actor Sink }
         ensures in_range { HasFilterInRange result.now }
     {
-        kernel_of(self.accepted.graph(), actor)
+        &self.accepted.graph().actors()[actor as usize].kernel
     }
 
     /// Whether the actor is a source.
@@ -286,7 +168,7 @@ impl Work {
         requires { actor < length self.now.accepted.graph.actors }
         ensures { result ≡ is_source (program self.now).plan actor }
     {
-        is_source_of(self.accepted.graph(), actor)
+        is_source(self.kernel(actor))
     }
 
     /// Whether the actor is a sink.
@@ -297,35 +179,73 @@ impl Work {
         is_sink(self.kernel(actor))
     }
 
+    /// The channels that begin at the actor, in file order.
+    pub(crate) fn outputs(&self, actor: u32) -> &[u32]
+        requires { actor < length self.now.accepted.graph.actors }
+        ensures value { result.now ≡ outputs_at (program self.now).plan.channels actor }
+        ensures within { All (λ c. c < length (program self.now).plan.channels) result.now }
+        ensures few { length result.now ≤ 128 }
+    {
+        self.accepted.graph().outputs(actor)
+    }
+
+    /// The channel as the graph has it.
+    fn channel(&self, channel: u32) -> &Channel
+        requires { channel < length (program self.now).plan.channels }
+        ensures value { slice_get (program self.now).plan.channels channel
+            ≡ Some (with_capacity (channel_view result.now, capacity_of (program self.now).plan channel)) }
+        ensures produce { All (λ n. n ≤ 64) result.now.produce.items }
+        ensures consume { All (λ n. n ≤ 64) result.now.consume.items }
+    {
+        &self.accepted.graph().channels()[channel as usize]
+    }
+
+    /// The producer of the channel.
+    pub(crate) fn producer(&self, channel: u32) -> u32
+        requires { channel < length (program self.now).plan.channels }
+        ensures { result ≡ producer (program self.now).plan channel }
+    {
+        self.channel(channel).from
+    }
+
     /// The consumer of the channel.
     pub(crate) fn consumer(&self, channel: u32) -> u32
-        requires { channel < length self.now.accepted.graph.channels }
-        ensures { result ≡ consumer (program self.now).plan channel }
+        requires { channel < length (program self.now).plan.channels }
+        ensures { result ≡ to_at (program self.now).plan.channels channel }
     {
-        consumer_of(self.accepted.graph(), channel)
+        self.channel(channel).to
     }
 
     /// How many tokens so many firings of its producer put into the channel.
     pub(crate) fn produced(&self, channel: u32, firings: u32) -> u32
-        requires exists { channel < length self.now.accepted.graph.channels }
+        requires exists { channel < length (program self.now).plan.channels }
         requires few { firings ≤ 16_384_000 }
-        ensures { result ≡ put_into (program self.now).plan firings channel }
+        ensures { result ≡ total (produce_at (program self.now).plan.channels channel) firings }
     {
-        produced_of(self.accepted.graph(), channel, firings)
+        self.channel(channel).produced(firings) as u32
     }
 
     /// How many tokens so many firings of its consumer take out of the channel.
     pub(crate) fn consumed(&self, channel: u32, firings: u32) -> u32
-        requires exists { channel < length self.now.accepted.graph.channels }
+        requires exists { channel < length (program self.now).plan.channels }
         requires few { firings ≤ 16_384_000 }
-        ensures { result ≡ taken_out_of (program self.now).plan firings channel }
+        ensures { result ≡ total (consume_at (program self.now).plan.channels channel) firings }
     {
-        consumed_of(self.accepted.graph(), channel, firings)
+        self.channel(channel).consumed(firings) as u32
+    }
+
+    /// How many tokens the firing of its producer puts into the channel.
+    fn production(&self, channel: u32, firing: u32) -> u32
+        requires { channel < length (program self.now).plan.channels }
+        ensures value { result ≡ give_at (program self.now).plan.channels firing channel }
+        ensures small { result ≤ 64 }
+    {
+        self.channel(channel).production(firing)
     }
 
     /// How many tokens the channel may hold.
     pub(crate) fn capacity(&self, channel: u32) -> u32
-        requires { channel < length self.now.accepted.graph.channels }
+        requires { channel < length (program self.now).plan.channels }
         ensures { result ≡ capacity_of (program self.now).plan channel }
     {
         self.accepted.capacities()[channel as usize]
@@ -344,7 +264,11 @@ impl Work {
         ensures few { OnOk result (length counts.new.items ≤ 128) }
         ensures small { OnOk result (All (λ n. n ≤ 64) counts.new.items) }
     {
-        counts_into(self.accepted.graph(), actor, firing, counts)
+        counts.clear();
+        for channel in self.outputs(actor) {
+            counts.push(self.production(*channel, firing))?;
+        }
+        Ok(())
     }
 
     /// Whether these are what the firing writes to each output, in file order.
@@ -352,7 +276,16 @@ impl Work {
         requires { actor < length self.now.accepted.graph.actors }
         ensures { IsTrue result ↔ (counts.now ≡ output_counts (program self.now) actor firing) }
     {
-        are_counts(self.accepted.graph(), actor, firing, counts)
+        let outputs = self.outputs(actor);
+        if counts.len() != outputs.len() {
+            return false;
+        }
+        for i in 0..outputs.len() {
+            if counts[i] != self.production(outputs[i], firing) {
+                return false;
+            }
+        }
+        true
     }
 
     /// So many tokens for the actor from this place on, or as many as there are.
@@ -389,7 +322,8 @@ fn is_feed(graph: &Graph, actor: u32, feed: &[i32]) -> bool
     requires { actor < length graph.now.actors }
     ensures { IsTrue result ↔ IsFeed graph.now actor feed.now }
 {
-    feed.len() <= 1_000_000 && (feed.is_empty() || is_source_of(graph, actor))
+    let kernel = &graph.actors()[actor as usize].kernel;
+    feed.len() <= 1_000_000 && (feed.is_empty() || is_source(kernel))
 }
 
 /// Whether the lists can be the feeds of a run of the graph: one for each actor, of at most 1,000,000

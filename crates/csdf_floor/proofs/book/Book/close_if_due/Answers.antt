@@ -1,26 +1,16 @@
 use Rattle.std.proofs.lemmas.Grind.{common_steps}
-use Rattle.std.proofs.Common.{rules, ◌<◌, length, ap, subst, arith}
+use Rattle.std.proofs.Common.{rules, length, ap, arith}
 use Rattle.csdf_core.specs.Plan.{Plan}
-use Rattle.csdf_core.proofs.LayoutLemmas.{length-capacities}
-use Rattle.csdf_floor.specs.Work.{program}
+use Rattle.csdf_floor.proofs.Books.{in_program}
 use Rattle.csdf_floor.proofs.Works.{producer_there}
 use Rattle.csdf_floor.proofs.book.Book.close_if_due.Goals as goal
 
 pub producer-producer-requires : goal.producer-producer-requires
-producer-producer-requires c =
-    let there = rw (← c.self.view_is) at c.requires.exists in
-    omega (
-      arith,
-      there,
-      ap (λ (u : Plan). length u.channels) c.self.invariant.kept.plan,
-      length-capacities c.self.inside.work.accepted.graph.channels c.self.inside.work.accepted.capacities
-          c.self.invariant.work.accepted.least.completes.each_channel,
-    )
+producer-producer-requires c = in_program _ _ c.args.channel c.self.invariant (rw (← c.self.view_is) at c.requires.exists)
 
 pub is_over-requires : goal.is_over-requires
 is_over-requires c =
-    let there : c.args.channel < length (program c.self.inside.work).plan.channels =
-    subst (λ (u : Plan). c.args.channel < length u.channels) c.self.invariant.kept.plan (rw (← c.self.view_is) at c.requires.exists) in
+    let there = in_program _ _ c.args.channel c.self.invariant (rw (← c.self.view_is) at c.requires.exists) in
     omega (
       arith,
       c.producer-producer.ensures,

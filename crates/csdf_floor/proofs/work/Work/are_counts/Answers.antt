@@ -1,22 +1,56 @@
-use Rattle.std.proofs.Common.{◌≡◌, List, map, filter, subst, ◌∙◌, ◌==◌, ap, ℕ}
-use Rattle.std.specs.Prelude.{◌↔◌, IsTrue}
-use Rattle.csdf_model.specs.Graph.{Channel, Graph}
-use Rattle.csdf_model.specs.Rates.{production}
+use Rattle.std.proofs.Common.{ℕ, List, length, map, get_or, ap, sym, ◌∙◌, refl, arith, ◌≡◌}
+use Rattle.std.proofs.lemmas.List.{length-map, get_or-map}
+use Rattle.csdf_core.specs.Ports.{give_at}
 use Rattle.csdf_floor.specs.Journal.{output_counts}
-use Rattle.csdf_floor.specs.Work.{Work, program, feeds_in}
-use Rattle.csdf_floor.proofs.Works.{counts_are}
+use Rattle.csdf_floor.specs.Work.{program}
+use Rattle.csdf_floor.proofs.Loops.{same_more, same_whole}
+use Rattle.csdf_floor.proofs.Works.{productions}
 use Rattle.csdf_floor.proofs.work.Work.are_counts.Goals as goal
+use Rattle.csdf_floor.proofs.work.Work.are_counts.Goals.{After-outputs-outputs}
+
+module _ (c : After-outputs-outputs) where
+  -- what the firing puts into each of these channels
+  abbrev puts : ℕ → ℕ
+  puts = give_at (program c.args.self.now).plan.channels c.args.firing
+
+  each : length (map puts c.outputs-outputs.result.now) ≡ length c.outputs-outputs.result.now
+  each = length-map c.outputs-outputs.result.now puts
+
+  told : map puts c.outputs-outputs.result.now ≡ output_counts (program c.args.self.now) c.args.actor c.args.firing
+  told = productions c.args.actor c.args.firing (program c.args.self.now).plan.channels c.outputs-outputs.result.now c.outputs-outputs.ensures.value
+
+pub returns-then-counts-outputs : goal.returns-then-counts-outputs
+returns-then-counts-outputs c =
+    let at : goal.After-outputs-outputs = (goal.at.returns-then-counts-outputs c).After-outputs-outputs in (
+      (λ t. absurd (cc)),
+      (λ same. absurd (c.if-counts-outputs.true (ap length (same ∙ sym (told at)) ∙ each at))),
+    )
+
+pub returns-then-counts-i : goal.returns-then-counts-i
+returns-then-counts-i c =
+    let at : goal.After-outputs-outputs = (goal.at.returns-then-counts-i c).After-outputs-outputs in (
+      (λ t. absurd (cc)),
+      (λ same. absurd (c.if-counts-i.true
+          (ap (λ (ns : List ℕ). get_or ns c.loop-i.i 0) (same ∙ sym (told at))
+          ∙ get_or-map (puts at) c.outputs-outputs.result.now c.loop-i.i 0 0 c.loop-i-test.true
+          ∙ sym c.production.ensures.value))),
+    )
+
+pub loop-i-preserved : goal.loop-i-preserved
+loop-i-preserved c =
+    let at : goal.After-outputs-outputs = (goal.at.loop-i-preserved c).After-outputs-outputs in
+    let len = each at in
+    let lt = c.loop-i-test.true in
+    let same = c.if-counts-outputs.false in
+    same_more c.args.counts.now (map (puts at) c.outputs-outputs.result.now) c.loop-i.i 0 (omega arith) (omega arith) c.loop-i.invariant
+    (c.if-counts-i.false ∙ c.production.ensures.value ∙ sym (get_or-map (puts at) c.outputs-outputs.result.now c.loop-i.i 0 0 lt))
 
 pub returns : goal.returns
 returns c =
-    let w : Work = record {
-      accepted = c.self.inside.accepted;
-      feeds = feeds_in c.self.inside.feeds.items;
-      periods = c.self.inside.periods;
-      firings = c.self.inside.firings;
-    } in
-    let same : map (λ (d : Channel). production d c.args.firing) (filter (λ (d : Channel). d.from == c.args.actor) c.graph.result.now.channels)
-    ≡ output_counts (program w) c.args.actor c.args.firing =
-    ap (λ (g : Graph). map (λ (d : Channel). production d c.args.firing) (filter (λ (d : Channel). d.from == c.args.actor) g.channels)) c.graph.ensures.graph
-    ∙ counts_are w c.args.actor c.args.firing c.self.invariant in
-    rw (← c.self.view_is) (subst (λ (ns : List ℕ). IsTrue c.are_counts.result ↔ (c.args.counts.now ≡ ns)) same c.are_counts.ensures)
+    let at : goal.After-outputs-outputs = (goal.at.returns c).After-outputs-outputs in
+    let len = each at in
+    let past = c.loop-i-test.false in
+    let same = c.if-counts-outputs.false in (
+      (λ t. same_whole c.args.counts.now (map (puts at) c.outputs-outputs.result.now) c.loop-i.i (omega arith) (omega arith) c.loop-i.invariant ∙ told at),
+      (λ equal. refl),
+    )

@@ -1,13 +1,6 @@
-use Rattle.std.proofs.Common.{ℕ, List, ap, sym, refl, ◌∙◌, map, get_or}
-use Rattle.csdf_model.specs.Graph.{Graph, Channel}
-use Rattle.csdf_core.specs.Plan.{Channel as PlanChannel}
-use Rattle.csdf_core.proofs.LayoutLemmas.{map-capacities}
+use Rattle.csdf_core.proofs.LayoutLemmas.{part_at}
+use Rattle.csdf_floor.specs.Work.{program}
 use Rattle.csdf_floor.proofs.work.Work.consumer.Goals as goal
 
 pub returns : goal.returns
-returns c =
-    rw (← c.self.view_is) (c.consumer_of.ensures
-    ∙ ap (λ (g : Graph). get_or (map (λ (d : Channel). d.to) g.channels) c.args.channel 0) c.graph.ensures.graph
-    ∙ ap (λ (ns : List ℕ). get_or ns c.args.channel 0)
-    (sym (map-capacities (λ (d : PlanChannel). d.to) (λ (g : Channel). g.to) (λ g b. refl) c.self.inside.accepted.graph.channels
-    c.self.inside.accepted.capacities c.self.invariant.accepted.least.completes.each_channel)))
+returns c = part_at (λ ch. ch.to) (program c.args.self.now).plan.channels c.args.channel _ 0 c.channel.ensures.value

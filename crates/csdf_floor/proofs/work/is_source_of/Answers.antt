@@ -1,7 +1,0 @@
-use Rattle.std.proofs.Common.{ap, ◌∙◌}
-use Rattle.csdf_core.specs.Layout.{is_source_kernel}
-use Rattle.csdf_floor.proofs.Works.{source_at}
-use Rattle.csdf_floor.proofs.work.is_source_of.Goals as goal
-
-pub returns : goal.returns
-returns c = c.is_source.ensures ∙ ap is_source_kernel c.kernel_of.ensures.value ∙ source_at c.args.graph.now.actors c.args.actor c.requires
