@@ -126,13 +126,13 @@ impl Book {
         self.make_suited(alloc, actor, draft)
     }
 
-    /// As [`Book::make_many`]: from the draft where it is one of the actor's next firings, of which it
-    /// has some and at most so many.
+    /// As [`Book::make_many`]: from the draft, where there is one that is of the actor's next firings, and
+    /// has some of them and at most so many.
     pub(crate) fn make_many_from(
         &mut self,
         actor: u32,
         most: u32,
-        draft: &Draft,
+        draft: Option<&Draft>,
         counts: &mut Counts,
         outputs: &mut Outputs,
     ) -> Result<u32, AllocError>
@@ -146,12 +146,11 @@ impl Book {
         ensures room { OnOk result (length (outputs_at self.old.shown.core.plan.channels actor) ≤ self.new.room) }
         ensures unchanged { OnErr result (self.new.shown ≡ self.old.shown) }
     {
-        let n = draft.firings();
-        if n == 0 || n > most {
-            return self.make_many(actor, most, counts, outputs);
-        }
-        if self.make_drafted(*outputs.allocator(), actor, draft)? {
-            return Ok(n);
+        if let Some(draft) = draft {
+            let n = draft.firings();
+            if n > 0 && n <= most && self.make_drafted(*outputs.allocator(), actor, draft)? {
+                return Ok(n);
+            }
         }
         self.make_many(actor, most, counts, outputs)
     }

@@ -242,16 +242,7 @@ impl Floor {
         ensures none { IfOk result (λ n. n ≡ 0 → self.new ≡ self.old) }
         ensures unchanged { OnErr result (self.new ≡ self.old) }
     {
-        if let Some(refused) = self.start_refusal(actor, firing) {
-            return Err(refused);
-        }
-        if most == 0 {
-            return Ok(0);
-        }
-        let n = self.book.make_many(actor, most, counts, outputs)?;
-        let producer = actor;
-        self.book.close_outputs(producer);
-        Ok(n)
+        self.make_with(actor, firing, most, None, counts, outputs)
     }
 
     /// Puts the actor's next firings into the draft, where the actor stands at this firing: as many as can
@@ -298,6 +289,26 @@ impl Floor {
         ensures none { IfOk result (λ n. n ≡ 0 → self.new ≡ self.old) }
         ensures unchanged { OnErr result (self.new ≡ self.old) }
     {
+        self.make_with(actor, firing, most, Some(draft), counts, outputs)
+    }
+
+    /// As [`Floor::make_from`] where there is a draft, else as [`Floor::make`].
+    fn make_with(
+        &mut self,
+        actor: u32,
+        firing: u32,
+        most: u32,
+        draft: Option<&Draft>,
+        counts: &mut Counts,
+        outputs: &mut Outputs,
+    ) -> Result<u32, StartFault>
+        ensures answer { IsStartAnswer (start_refusal self.old actor firing) result }
+        ensures most { IfOk result (λ n. n ≤ most) }
+        ensures some { IfOk result (λ n. 0 < most → 0 < n) }
+        ensures gone { IfOk result (λ n. 0 < n → HasGone self.old self.new (made_moves self.old actor n ++ closes_made self.old actor n)) }
+        ensures none { IfOk result (λ n. n ≡ 0 → self.new ≡ self.old) }
+        ensures unchanged { OnErr result (self.new ≡ self.old) }
+    {
         if let Some(refused) = self.start_refusal(actor, firing) {
             return Err(refused);
         }
@@ -307,7 +318,8 @@ impl Floor {
         let n = self
             .book
             .make_many_from(actor, most, draft, counts, outputs)?;
-        self.book.close_outputs(actor);
+        let producer = actor;
+        self.book.close_outputs(producer);
         Ok(n)
     }
 

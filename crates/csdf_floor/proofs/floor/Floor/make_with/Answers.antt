@@ -4,7 +4,7 @@ use Rattle.csdf_core.proofs.Booked.{can_begin}
 use Rattle.csdf_floor.specs.Floor.{FloorView, start_refusal}
 use Rattle.csdf_floor.proofs.Floors.{MayStart, may_start}
 use Rattle.csdf_floor.proofs.MadeFloors.{between_made, not_over}
-use Rattle.csdf_floor.proofs.floor.Floor.make.Goals as goal
+use Rattle.csdf_floor.proofs.floor.Floor.make_with.Goals as goal
 
 pub invariant_of-self-2 : goal.invariant_of-self-2
 invariant_of-self-2 c =
@@ -12,7 +12,7 @@ invariant_of-self-2 c =
     let may : MayStart c.self.inside.book.shown c.args.actor c.args.firing = subst (λ (f : FloorView). MayStart f c.args.actor c.args.firing)
     (sym c.self.view_is) (may_start c.args.self.now c.args.actor c.args.firing none) in
     let can = can_begin c.self.inside.book.shown.core.plan c.self.inside.book.shown.core.now c.args.actor may.accepted in
-    between_made c.self.inside.book.shown c.make_many.new.self.shown c.close_outputs.new.self.shown c.args.actor c.in_ok-n.n _
+    between_made c.self.inside.book.shown c.make_many_from.new.self.shown c.close_outputs.new.self.shown c.args.actor c.in_ok-n.n _
     c.self.invariant can.idle (not_over c.self.inside.book.shown.core.plan c.self.inside.book.shown.core.now c.args.actor may.accepted)
     c.in_ok-n.ensures.made c.close_outputs.ensures.closed
 
@@ -31,8 +31,8 @@ returns-clause-none c = grind (arith, common_steps)
 pub close_outputs-requires-clause-room : goal.close_outputs-requires-clause-room
 close_outputs-requires-clause-room c = grind (arith, common_steps)
 
-pub make_many-requires-clause-exists : goal.make_many-requires-clause-exists
-make_many-requires-clause-exists c = grind (arith, common_steps)
+pub make_many_from-requires-clause-exists : goal.make_many_from-requires-clause-exists
+make_many_from-requires-clause-exists c = grind (arith, common_steps)
 
 pub returns-clause-answer : goal.returns-clause-answer
 returns-clause-answer c = grind (arith, common_steps)
