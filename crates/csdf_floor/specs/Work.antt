@@ -1,6 +1,7 @@
 -- What a run is asked for.
 use Rattle.std.specs.Prelude.{ℕ, ◌≡◌, ◌↔◌, ◌*◌, ◌≤◌, Bool, true, false, List, [], ℤ, Option, All, length, map, slice_index_or}
 use Rattle.std.specs.Global.{Vec}
+use Rattle.csdf_model.specs.declared.limits.TheConstants.{MAX_FIRINGS_PER_ACTOR, MAX_PERIODS}
 use Rattle.csdf_model.specs.declared.parts.Kernel.{Kernel}
 use Rattle.csdf_model.specs.declared.parts.Kernel.TheVariants as kernel
 use Rattle.csdf_model.specs.Graph.{Graph, Actor}
@@ -43,15 +44,15 @@ pub record AreFeeds (g : Graph) (feeds : List (List ℤ)) : Type 0 where
 
 -- in so many periods no actor makes more than 16,384,000 firings
 abbrev pub HasFewFirings : Accepted → ℕ → Type 0
-HasFewFirings a periods = All (λ q. periods * q ≤ 16384000) a.q
+HasFewFirings a periods = All (λ q. periods * q ≤ MAX_FIRINGS_PER_ACTOR) a.q
 
 -- how many periods a run of the graph may have: the most in which no actor makes more firings than that, and as many at most
 abbrev pub IsMostPeriods : Accepted → ℕ → Type 0
-IsMostPeriods a most = (n : ℕ) → (n ≤ most) ↔ ((n ≤ 16384000) × HasFewFirings a n)
+IsMostPeriods a most = (n : ℕ) → (n ≤ most) ↔ ((n ≤ MAX_FIRINGS_PER_ACTOR) × HasFewFirings a n)
 
 -- 1,000 periods of an accepted graph have few firings
 abbrev pub FewInThousand : Type 0
-FewInThousand = (a : Accepted) (periods : ℕ) → IsAccepted a → periods ≤ 1000 → HasFewFirings a periods
+FewInThousand = (a : Accepted) (periods : ℕ) → IsAccepted a → periods ≤ MAX_PERIODS → HasFewFirings a periods
 
 pub record IsWork (w : Work) : Type 0 where
   pub accepted : IsAccepted w.accepted

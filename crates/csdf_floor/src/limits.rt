@@ -4,26 +4,27 @@ ghost use Rattle.std.specs.Prelude.{◌≡◌, ◌↔◌, ◌*◌, ◌≤◌, �
 ghost use Rattle.csdf_floor.specs.Work.{FewInThousand, HasFewFirings, IsMostPeriods};
 
 use csdf_analysis::Accepted;
+use csdf_model::{MAX_FIRINGS_PER_ACTOR, MAX_PERIODS};
 
 /// The most periods, of at most 16,384,000, in which an actor that fires so often in each makes no more
 /// firings than that.
 fn most_for(firings: u32) -> u32
-    ensures { (n : ℕ) → (n ≤ result) ↔ ((n ≤ 16_384_000) × (n * firings ≤ 16_384_000)) }
+    ensures { (n : ℕ) → (n ≤ result) ↔ ((n ≤ MAX_FIRINGS_PER_ACTOR) × (n * firings ≤ MAX_FIRINGS_PER_ACTOR)) }
 {
     if firings == 0 {
-        return 16_384_000;
+        return MAX_FIRINGS_PER_ACTOR;
     }
-    16_384_000 / firings
+    MAX_FIRINGS_PER_ACTOR / firings
 }
 
 /// How many periods a run of the graph may have: of at most 16,384,000, the most in which no actor makes
 /// more firings than that. It is at least 1,000 for every graph.
 pub fn most_periods(accepted: &Accepted) -> u32
     ensures most { IsMostPeriods accepted.now result }
-    ensures many { 1000 ≤ result }
+    ensures many { MAX_PERIODS ≤ result }
 {
     let firings = accepted.vector().q.as_slice();
-    let mut most: u32 = 16_384_000;
+    let mut most: u32 = MAX_FIRINGS_PER_ACTOR;
     for actor in 0..firings.len() {
         let over = most.saturating_sub(most_for(firings[actor]));
         most -= over;
@@ -38,7 +39,7 @@ pub fn may_run(accepted: &Accepted, periods: u32) -> bool
 {
     let firings = accepted.vector().q.as_slice();
     for actor in 0..firings.len() {
-        if u64::from(periods) * u64::from(firings[actor]) > 16_384_000 {
+        if u64::from(periods) * u64::from(firings[actor]) > u64::from(MAX_FIRINGS_PER_ACTOR) {
             return false;
         }
     }
