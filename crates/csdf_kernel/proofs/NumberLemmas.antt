@@ -14,7 +14,7 @@ use Rattle.std.specs.Int.Signed.{shr_z}
 use native.Mathlib.Decide.{dec_lt}
 use Rattle.csdf_kernel.specs.Filter.{AreNarrow, IsWindow}
 use Rattle.csdf_kernel.specs.Value.{places, token_at, total, clamp, floor, convolution, filter_token}
-use Rattle.csdf_kernel.proofs.PlaceLemmas.{places_none, places_more}
+use Rattle.csdf_kernel.proofs.PlaceLemmas.{places_none, places_more, places_alike}
 
 pub clamp_is : (v : ℤ) → int_max (negsuc 2147483647) (int_min v (pos 2147483647)) ≡ clamp v
 unfolding clamp
@@ -111,6 +111,16 @@ window_token_is weights xs window base place taps shift w late near e =
     λ j lt. let same : base + (at + j) ≡ place + j = omega (arith, late) in
     w.alike (at + j) (omega (arith, late, near, lt)) ∙ ap (λ (p : ℕ). token_at xs p) same in
     ap (λ (z : ℤ). clamp (floor z (2 ^ shift))) (convolution_alike weights window xs at place 16 there ∙ ap (λ (n : ℕ). convolution weights n xs place) (sym e))
+
+pub window_tokens_are : (weights xs window : List ℤ) (base place taps shift : ℕ) → IsWindow xs base window → base ≤ place → place ≤ base + 8 → taps ≡ 16
+    → places (λ i. filter_token weights 16 shift window (place - base + i)) 8 ≡ places (λ i. filter_token weights taps shift xs (place + i)) 8
+unfolding filter_token
+window_tokens_are weights xs window base place taps shift w late near e =
+    places_alike (λ i. filter_token weights 16 shift window (place - base + i)) (λ i. filter_token weights taps shift xs (place + i)) 8
+    (λ i lt.
+    let at : place - base + i ≡ place + i - base = omega (arith, late) in
+    ap (λ p. filter_token weights 16 shift window p) at
+    ∙ window_token_is weights xs window base (place + i) taps shift w (omega (arith, late)) (omega (arith, near, lt)) e)
 
 -- a number lies from its floor times n up to, but not including, the next multiple of n
 below : (z : ℤ) (n : ℕ) → 0 < n → (floor z n *ℤ pos n) ≤ℤ z

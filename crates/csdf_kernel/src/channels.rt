@@ -1,7 +1,7 @@
 //! What each kernel adds to a list of outputs that has room for it.
-ghost use Rattle.std.specs.Prelude.{ℕ, ◌≡◌, ◌+◌, ◌%◌, ◌<◌, ◌≤◌, ◌++◌, IsTrue, length, sum, flat_map, replicate};
+ghost use Rattle.std.specs.Prelude.{ℕ, ◌≡◌, ◌+◌, ◌*◌, ◌%◌, ◌<◌, ◌≤◌, ◌++◌, IsTrue, length, sum, flat_map, replicate};
 ghost use Rattle.smallvec.specs.SmallVec.{HasRoomFor};
-ghost use Rattle.csdf_kernel.specs.Filter.{IsInRange, IsNarrow, IsWhole};
+ghost use Rattle.csdf_kernel.specs.Filter.{IsInRange, IsNarrow, IsWhole, IsWindow};
 ghost use Rattle.csdf_kernel.specs.Value.{places, token_at, copy_token, filter_token};
 
 use crate::filter::Filter;
@@ -169,9 +169,50 @@ fn push_narrow(outputs: &mut Outputs, count: usize, filter: &Filter<'_>, inputs:
         return;
     }
     let window = window_from(inputs, whole);
-    for place in whole..count {
-        outputs.push_reserved(filter.late_token(&window, whole, inputs, place));
+    let first = (count - whole).min(8);
+    push_late(outputs, first, filter, &window, whole, inputs, whole);
+    let second = (count - whole - first).min(8);
+    push_late(
+        outputs,
+        second,
+        filter,
+        &window,
+        whole,
+        inputs,
+        whole + first,
+    );
+    for place in whole + first + second..count {
+        outputs.push_reserved(filter.small_token(inputs, place));
     }
+}
+
+/// The filtered inputs at up to eight places near their end, the first of them `place`, where the products are
+/// narrow. The window has the tokens from `base` on.
+#[tactic(auto, using(crate::proofs::PlaceLemmas::one_place))]
+fn push_late(
+    outputs: &mut Outputs,
+    count: usize,
+    filter: &Filter<'_>,
+    window: &[i32],
+    base: usize,
+    inputs: &[i32],
+    place: usize,
+)
+    requires room { HasRoomFor outputs.old count }
+    requires few { count ≤ 8 }
+    requires in_range { IsInRange filter.now.weights.now filter.now.taps filter.now.shift filter.now.small }
+    requires narrow { IsNarrow filter.now.weights.now filter.now.taps filter.now.small inputs.now }
+    requires window { IsWindow inputs.now base window.now }
+    requires near { (base ≤ place) × (place ≤ base + 8) }
+    ensures items { outputs.new.items ≡ outputs.old.items
+        ++ places (λ i. filter_token filter.now.weights.now filter.now.taps filter.now.shift inputs.now (place + i)) count }
+    ensures capacity { outputs.new.capacity ≡ outputs.old.capacity }
+{
+    if count == 0 {
+        return;
+    }
+    let tokens = filter.eight_window_tokens(window, base, inputs, place);
+    push_each(outputs, &tokens[..count]);
 }
 
 /// The filtered inputs, for places that are all whole: none of them asks again how many taps find a
@@ -190,7 +231,8 @@ fn push_whole(outputs: &mut Outputs, count: usize, filter: &Filter<'_>, inputs: 
     }
 }
 
-/// The filtered inputs, for places that are all whole, where the products are narrow.
+/// The filtered inputs, for places that are all whole, where the products are narrow: eight at a time, and what
+/// is left over one by one.
 #[tactic(auto, using(crate::proofs::PlaceLemmas::one_place))]
 fn push_narrow_whole(outputs: &mut Outputs, count: usize, filter: &Filter<'_>, inputs: &[i32])
     requires room { HasRoomFor outputs.old count }
@@ -201,7 +243,36 @@ fn push_narrow_whole(outputs: &mut Outputs, count: usize, filter: &Filter<'_>, i
         ++ places (filter_token filter.now.weights.now filter.now.taps filter.now.shift inputs.now) count }
     ensures capacity { outputs.new.capacity ≡ outputs.old.capacity }
 {
-    for next in 0..count {
+    let eights = count / 8;
+    push_narrow_eights(outputs, eights, filter, inputs);
+    for next in eights * 8..count {
         outputs.push_reserved(filter.narrow_token(inputs, next));
+    }
+}
+
+/// The filtered inputs, for so many times eight places that are all whole, where the products are narrow.
+#[tactic(auto, using(crate::proofs::PlaceLemmas::one_place))]
+fn push_narrow_eights(outputs: &mut Outputs, eights: usize, filter: &Filter<'_>, inputs: &[i32])
+    requires room { HasRoomFor outputs.old (eights * 8) }
+    requires in_range { IsInRange filter.now.weights.now filter.now.taps filter.now.shift filter.now.small }
+    requires whole { (i : ℕ) → i < eights * 8 → IsWhole filter.now.weights.now filter.now.taps filter.now.small inputs.now i }
+    requires narrow { IsNarrow filter.now.weights.now filter.now.taps filter.now.small inputs.now }
+    ensures items { outputs.new.items ≡ outputs.old.items
+        ++ places (filter_token filter.now.weights.now filter.now.taps filter.now.shift inputs.now) (eights * 8) }
+    ensures capacity { outputs.new.capacity ≡ outputs.old.capacity }
+{
+    for eight in 0..eights {
+        push_each(outputs, &filter.eight_narrow_tokens(inputs, eight * 8));
+    }
+}
+
+/// Tokens, at the end of a list that has room for them.
+fn push_each(outputs: &mut Outputs, tokens: &[i32])
+    requires { HasRoomFor outputs.old (length tokens.now) }
+    ensures items { outputs.new.items ≡ outputs.old.items ++ tokens.now }
+    ensures capacity { outputs.new.capacity ≡ outputs.old.capacity }
+{
+    for token in tokens {
+        outputs.push_reserved(*token);
     }
 }

@@ -2,12 +2,12 @@
 //! all with small weights, and each finds a token.
 ghost use Rattle.std.specs.Prelude.{◌≡◌, ◌<◌, ◌≤◌, ◌+◌, ℕ, IsTrue, length};
 ghost use Rattle.csdf_kernel.specs.Filter.{IsInRange, IsNarrow, IsWhole, IsWindow};
-ghost use Rattle.csdf_kernel.specs.Value.{filter_token};
+ghost use Rattle.csdf_kernel.specs.Value.{filter_token, places};
 
 use crate::numbers::{clamped, products_at, shifted};
 use crate::small::{
-    are_narrow, are_small, narrow_shifted, sixteen_narrow_products_at, sixteen_products_at,
-    small_clamped, small_products_at, small_shifted,
+    are_narrow, are_small, eight_narrow_tokens_at, narrow_shifted, sixteen_narrow_products_at,
+    sixteen_products_at, small_clamped, small_products_at, small_shifted,
 };
 
 /// A filter: the first `taps` weights count, and each sum of products is divided by two to the power
@@ -82,47 +82,34 @@ impl<'a> Filter<'a> {
         narrow_shifted(sum, self.shift)
     }
 
-    /// The token at a place near the end of the inputs, where the products are narrow. The window has what
-    /// its taps find.
-    pub(crate) fn window_token(
+    /// The tokens at eight whole places, the first of them `place`, where the products are narrow.
+    pub(crate) fn eight_narrow_tokens(&self, inputs: &[i32], place: usize) -> [i32; 8]
+        requires in_range { IsInRange self.now.weights.now self.now.taps self.now.shift self.now.small }
+        requires whole { IsWhole self.now.weights.now self.now.taps self.now.small inputs.now (place + 7) }
+        requires narrow { IsNarrow self.now.weights.now self.now.taps self.now.small inputs.now }
+        ensures { result ≡ places (λ i. filter_token self.now.weights.now self.now.taps self.now.shift inputs.now (place + i)) 8 }
+    {
+        eight_narrow_tokens_at(self.weights, inputs, place, self.shift)
+    }
+
+    /// The tokens at eight places near the end of the inputs, the first of them `place`, where the products are
+    /// narrow. The window has what their taps find.
+    pub(crate) fn eight_window_tokens(
         &self,
         window: &[i32],
         base: usize,
         inputs: &[i32],
         place: usize,
-    ) -> i32
+    ) -> [i32; 8]
         requires in_range { IsInRange self.now.weights.now self.now.taps self.now.shift self.now.small }
         requires narrow { IsNarrow self.now.weights.now self.now.taps self.now.small inputs.now }
         requires window { IsWindow inputs.now base window.now }
-        requires near { (base ≤ place) × (place ≤ base + 16) }
-        ensures { result ≡ filter_token self.now.weights.now self.now.taps self.now.shift inputs.now place }
+        requires near { (base ≤ place) × (place ≤ base + 8) }
+        ensures { result ≡ places (λ i. filter_token self.now.weights.now self.now.taps self.now.shift inputs.now (place + i)) 8 }
     {
         // `inputs` is there for the contract alone.
         let _ = inputs;
-        let sum = sixteen_narrow_products_at(self.weights, window, place - base);
-        narrow_shifted(sum, self.shift)
-    }
-
-    /// The token at a place behind the whole ones, where the products are narrow. The window has the tokens
-    /// from `base` on.
-    pub(crate) fn late_token(
-        &self,
-        window: &[i32],
-        base: usize,
-        inputs: &[i32],
-        place: usize,
-    ) -> i32
-        requires in_range { IsInRange self.now.weights.now self.now.taps self.now.shift self.now.small }
-        requires narrow { IsNarrow self.now.weights.now self.now.taps self.now.small inputs.now }
-        requires window { IsWindow inputs.now base window.now }
-        requires late { base ≤ place }
-        requires place { place ≤ 8192 }
-        ensures { result ≡ filter_token self.now.weights.now self.now.taps self.now.shift inputs.now place }
-    {
-        if place - base <= 16 {
-            return self.window_token(window, base, inputs, place);
-        }
-        self.small_token(inputs, place)
+        eight_narrow_tokens_at(self.weights, window, place - base, self.shift)
     }
 
     /// The token at a whole place.

@@ -1,7 +1,7 @@
 //! The arithmetic of filters whose weights are small, in 64 bits, or in 32 where the tokens are small too.
 ghost use Rattle.std.specs.Prelude.{◌≡◌, ◌+◌, ◌*ℤ◌, ◌^◌, ◌≤◌, ℕ, IsTrue, length, unsigned_abs};
 ghost use Rattle.csdf_kernel.specs.Filter.{AreNarrow, AreSmall, IsWindow};
-ghost use Rattle.csdf_kernel.specs.Value.{clamp, convolution, floor, token_at};
+ghost use Rattle.csdf_kernel.specs.Value.{clamp, convolution, filter_token, floor, places, token_at};
 
 use crate::numbers::{full_taps, token};
 
@@ -54,10 +54,9 @@ fn narrow_product(weight: i32, token: i32) -> i32
 }
 
 /// The sum of the products of sixteen weights with the tokens from `place` on, which are all there, where
-/// each product is narrow. Its loop has a constant length, and it stands by itself, so that the compiler makes
-/// vectors of it.
-#[inline(never)]
-pub(crate) fn sixteen_narrow_products_at(weights: &[i32], inputs: &[i32], place: usize) -> i32
+/// each product is narrow.
+#[inline]
+fn narrow_sum_at(weights: &[i32], inputs: &[i32], place: usize) -> i32
     requires weights { 16 ≤ length weights.now }
     requires tokens { place + 16 ≤ length inputs.now }
     requires narrow { AreNarrow weights.now inputs.now }
@@ -70,6 +69,18 @@ pub(crate) fn sixteen_narrow_products_at(weights: &[i32], inputs: &[i32], place:
     sum
 }
 
+/// The same sum. Its loop has a constant length, and it stands by itself, so that the compiler makes
+/// vectors of it.
+#[inline(never)]
+pub(crate) fn sixteen_narrow_products_at(weights: &[i32], inputs: &[i32], place: usize) -> i32
+    requires weights { 16 ≤ length weights.now }
+    requires tokens { place + 16 ≤ length inputs.now }
+    requires narrow { AreNarrow weights.now inputs.now }
+    ensures { result ≡ convolution weights.now 16 inputs.now place }
+{
+    narrow_sum_at(weights, inputs, place)
+}
+
 /// A narrow sum divided by two to the power of `shift`, rounded down: no size grows, so nothing is clamped.
 #[tactic(auto, using(crate::proofs::NumberLemmas::shr_clamped))]
 pub(crate) fn narrow_shifted(sum: i32, shift: u32) -> i32
@@ -79,14 +90,55 @@ pub(crate) fn narrow_shifted(sum: i32, shift: u32) -> i32
     sum >> shift
 }
 
+/// The token at a place whose taps all find one, where each product is narrow.
+#[inline]
+#[tactic(auto, unfolding(crate::specs::Value::filter_token))]
+fn narrow_token_at(weights: &[i32], inputs: &[i32], place: usize, shift: u32) -> i32
+    requires weights { 16 ≤ length weights.now }
+    requires tokens { place + 16 ≤ length inputs.now }
+    requires narrow { AreNarrow weights.now inputs.now }
+    requires shift { shift ≤ 31 }
+    ensures { result ≡ filter_token weights.now 16 shift inputs.now place }
+{
+    narrow_shifted(narrow_sum_at(weights, inputs, place), shift)
+}
+
+/// The tokens at eight places in a row, whose taps all find one, where each product is narrow. It stands by
+/// itself, so that the compiler makes vectors of it.
+#[inline(never)]
+pub(crate) fn eight_narrow_tokens_at(
+    weights: &[i32],
+    inputs: &[i32],
+    place: usize,
+    shift: u32,
+) -> [i32; 8]
+    requires weights { 16 ≤ length weights.now }
+    requires tokens { place + 23 ≤ length inputs.now }
+    requires narrow { AreNarrow weights.now inputs.now }
+    requires shift { shift ≤ 31 }
+    ensures { result ≡ places (λ i. filter_token weights.now 16 shift inputs.now (place + i)) 8 }
+{
+    [
+        narrow_token_at(weights, inputs, place, shift),
+        narrow_token_at(weights, inputs, place + 1, shift),
+        narrow_token_at(weights, inputs, place + 2, shift),
+        narrow_token_at(weights, inputs, place + 3, shift),
+        narrow_token_at(weights, inputs, place + 4, shift),
+        narrow_token_at(weights, inputs, place + 5, shift),
+        narrow_token_at(weights, inputs, place + 6, shift),
+        narrow_token_at(weights, inputs, place + 7, shift),
+    ]
+}
+
 /// The tokens from `base` on, and zeros past the end of the inputs.
 pub(crate) fn window_from(inputs: &[i32], base: usize) -> [i32; 32]
     requires { base ≤ length inputs.now }
     ensures { IsWindow inputs.now base result }
 {
     let mut window = [0; 32];
-    for at in 0..32 {
-        window[at] = token(inputs, base + at);
+    let there = (inputs.len() - base).min(32);
+    for at in 0..there {
+        window[at] = inputs[base + at];
     }
     window
 }

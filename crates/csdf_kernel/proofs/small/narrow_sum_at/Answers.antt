@@ -1,7 +1,7 @@
 use Rattle.std.proofs.Common.{arith, sym}
 use Rattle.std.proofs.lemmas.Int.{ints, to_z-of_z}
 use Rattle.csdf_kernel.proofs.NumberLemmas.{convolution_none, convolution_more}
-use Rattle.csdf_kernel.proofs.small.sixteen_narrow_products_at.Goals as goal
+use Rattle.csdf_kernel.proofs.small.narrow_sum_at.Goals as goal
 
 pub loop-tap-init : goal.loop-tap-init
 loop-tap-init c = (sym (convolution_none _ _ _), omega arith)

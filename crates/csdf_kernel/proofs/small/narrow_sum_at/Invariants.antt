@@ -1,6 +1,6 @@
 use Rattle.std.proofs.Common.{◌≡◌, ◌*◌, ◌^◌, ◌≤◌, unsigned_abs}
 use Rattle.csdf_kernel.specs.Value.{convolution}
-use Rattle.csdf_kernel.proofs.small.sixteen_narrow_products_at.Given as goal
+use Rattle.csdf_kernel.proofs.small.narrow_sum_at.Given as goal
 
 abbrev pub invariant-loop-tap : goal.invariant-loop-tap
 invariant-loop-tap l =
