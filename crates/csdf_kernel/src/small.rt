@@ -3,26 +3,13 @@ ghost use Rattle.std.specs.Prelude.{◌≡◌, ◌+◌, ◌*ℤ◌, ◌^◌, ◌
 ghost use Rattle.csdf_kernel.specs.Filter.{AreNarrow, AreSmall, IsWindow};
 ghost use Rattle.csdf_kernel.specs.Value.{clamp, convolution, filter_token, floor, places, token_at};
 
-use crate::numbers::{full_taps, token};
+use crate::numbers::full_taps;
 
 /// The greatest size of a small weight: sixteen products with tokens of 32 bits stay within 2^62.
 const GREATEST_SMALL: u32 = 1 << 27;
 
 /// The greatest size of a narrow product: sixteen of them stay within 2^30.
 const GREATEST_NARROW: u64 = 1 << 26;
-
-/// Whether each weight of the taps is small. Greater ones may add up in 64 bits too, and are not asked
-/// for.
-pub(crate) fn are_small(weights: &[i32], taps: usize) -> bool
-    ensures { IsTrue result → AreSmall weights.now taps }
-{
-    for tap in 0..taps {
-        if token(weights, tap).unsigned_abs() > GREATEST_SMALL {
-            return false;
-        }
-    }
-    true
-}
 
 /// The greatest size of the numbers.
 fn greatest_size(numbers: &[i32]) -> u32
@@ -33,6 +20,15 @@ fn greatest_size(numbers: &[i32]) -> u32
         greatest = number.unsigned_abs().max(greatest);
     }
     greatest
+}
+
+/// Whether each weight of the taps is small. Greater ones may add up in 64 bits too, and are not asked
+/// for.
+pub(crate) fn are_small(weights: &[i32], taps: usize) -> bool
+    ensures { IsTrue result → AreSmall weights.now taps }
+{
+    let counting = taps.min(weights.len());
+    greatest_size(&weights[..counting]) <= GREATEST_SMALL
 }
 
 /// Whether the product of any weight with any token is narrow.
