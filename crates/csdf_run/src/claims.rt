@@ -6,9 +6,7 @@ ghost use Rattle.csdf_run.specs.Workers.{CanEnd, HasMade, HasMadeAll, HoldsJust,
 
 use crate::run_floor::{Delivered, Made};
 use csdf_claims::{Board, Place};
-
-/// The greatest firing number that may be claimed.
-const LAST_FIRING: u32 = 16_384_000;
+use csdf_model::MAX_FIRINGS_PER_ACTOR;
 
 /// The most firings that are made in one go: some thousand tokens of each channel stay in the cache.
 const BLOCK: u32 = 1_024;
@@ -31,7 +29,7 @@ fn try_actor(board: &Board, place: &mut Place, beside: Option<Claim>, actor: u32
     // `beside` is there for the contract alone, as other parameters that stand behind `let _ =`.
     let _ = beside;
     let (firing, is_held) = board.peek(place, actor);
-    if is_held || firing > LAST_FIRING {
+    if is_held || firing > MAX_FIRINGS_PER_ACTOR {
         return None;
     }
     match board.try_claim(place, actor, firing) {
@@ -106,8 +104,8 @@ pub(crate) fn most_from(firing: u32) -> u32
     ensures some { 0 < result }
     ensures fits { 1 < result → firing + result ≤ 16384001 }
 {
-    if firing < LAST_FIRING {
-        BLOCK.min(LAST_FIRING - firing)
+    if firing < MAX_FIRINGS_PER_ACTOR {
+        BLOCK.min(MAX_FIRINGS_PER_ACTOR - firing)
     } else {
         1
     }
