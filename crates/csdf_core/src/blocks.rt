@@ -12,7 +12,7 @@ use crate::first_refusal::is_at;
 use crate::gathering::gather;
 use crate::layout::Layout;
 use crate::readiness::first_closed;
-use crate::several::{fire_each, has_no_loop, have_room_each, hold_each};
+use crate::several::{fire_each, given_of, has_no_loop, have_room_each, hold_each, taken_of};
 use crate::stage::Stage;
 use crate::transfer::{gift_of, need_of, raise_peaks};
 use crate::turn::{Turn, turn_after};
@@ -65,6 +65,7 @@ fn one_by_one(layout: &Layout, actor: u32, turn: Turn, n: u32) -> Ahead
     ensures needed { result.needed ≡ needs_of layout.now.channels actor turn.firing n }
     ensures given { result.given ≡ gifts_of layout.now.channels actor turn.firing n }
     ensures small { result.given ≤ 8192 * n }
+    ensures small_need { result.needed ≤ 8192 * n }
 {
     let mut next = turn;
     let mut needed = 0;
@@ -78,6 +79,37 @@ fn one_by_one(layout: &Layout, actor: u32, turn: Turn, n: u32) -> Ahead
         next,
         needed,
         given,
+    }
+}
+
+/// What n firings move, from this one on: each round of the actor's phases as much as the first, and what
+/// is left one by one.
+fn in_rounds(layout: &Layout, actor: u32, turn: Turn, n: u32) -> Ahead
+    requires actor { actor < length layout.now.sources }
+    requires in_phase { IsInPhase layout.now.channels actor turn.firing turn.phase }
+    requires low { turn.phase < MAX_PHASES }
+    requires few { turn.firing + n ≤ MAX_FIRINGS_PER_ACTOR }
+    ensures firing { result.next.firing ≡ turn.firing + n }
+    ensures in_phase { IsInPhase layout.now.channels actor result.next.firing result.next.phase }
+    ensures low { result.next.phase < MAX_PHASES }
+    ensures needed { result.needed ≡ needs_of layout.now.channels actor turn.firing n }
+    ensures given { result.given ≡ gifts_of layout.now.channels actor turn.firing n }
+    ensures small { result.given ≤ 8192 * n }
+{
+    let phases = layout.phases(actor);
+    let rest = one_by_one(layout, actor, turn, n % phases);
+    if n < phases {
+        return rest;
+    }
+    let round = one_by_one(layout, actor, turn, phases);
+    let rounds = u64::from(n / phases);
+    Ahead {
+        next: Turn {
+            firing: turn.firing + n,
+            phase: rest.next.phase,
+        },
+        needed: rounds * round.needed + rest.needed,
+        given: rounds * round.given + rest.given,
     }
 }
 
@@ -98,7 +130,7 @@ pub(crate) fn look_ahead(layout: &Layout, actor: u32, turn: Turn, n: u32) -> Ahe
     if layout.phases(actor) == 1 {
         return alike(layout, actor, turn, n);
     }
-    one_by_one(layout, actor, turn, n)
+    in_rounds(layout, actor, turn, n)
 }
 
 /// A number of firings that an actor can make one after the other, and how many tokens they read
@@ -169,6 +201,43 @@ fn room_times(layout: &Layout, pool: &Pool, actor: u32, turn: Turn, most: u32) -
         n = times(u64::from(room), each, n);
     }
     n
+}
+
+/// How many times over the actor's inputs hold what so many firings take of each.
+fn held_rounds(layout: &Layout, pool: &Pool, actor: u32, turn: Turn, firings: u32, most: u32) -> u32
+    requires actor { actor < length layout.now.sources }
+    requires same { length pool.now.chains ≡ length layout.now.channels }
+    requires in_phase { IsInPhase layout.now.channels actor turn.firing turn.phase }
+    requires low { turn.phase < MAX_PHASES }
+    requires few { turn.firing + firings ≤ MAX_FIRINGS_PER_ACTOR }
+    ensures most { result ≤ most }
+{
+    let inputs = layout.inputs(actor);
+    let mut rounds = most;
+    for channel in inputs {
+        let each = taken_of(layout, actor, *channel, turn, firings);
+        rounds = times(u64::from(pool.len(*channel)), each, rounds);
+    }
+    rounds
+}
+
+/// How many times over the actor's outputs have room for what so many firings give to each.
+fn room_rounds(layout: &Layout, pool: &Pool, actor: u32, turn: Turn, firings: u32, most: u32) -> u32
+    requires actor { actor < length layout.now.sources }
+    requires same { length pool.now.chains ≡ length layout.now.channels }
+    requires in_phase { IsInPhase layout.now.channels actor turn.firing turn.phase }
+    requires low { turn.phase < MAX_PHASES }
+    requires few { turn.firing + firings ≤ MAX_FIRINGS_PER_ACTOR }
+    ensures most { result ≤ most }
+{
+    let outputs = layout.outputs(actor);
+    let mut rounds = most;
+    for channel in outputs {
+        let room = layout.capacity(*channel).saturating_sub(pool.len(*channel));
+        let each = given_of(layout, actor, *channel, turn, firings);
+        rounds = times(u64::from(room), each, rounds);
+    }
+    rounds
 }
 
 /// Whether the actor has at most one input and at most one output.
@@ -447,6 +516,7 @@ impl Core {
     fn limited(&self, actor: u32, most: u32) -> u32
         requires { actor < length self.now.plan.sources }
         ensures most { result ≤ most }
+        ensures left { count self.now.now actor + result ≤ MAX_FIRINGS_PER_ACTOR }
         ensures greatest { (n : ℕ) → n ≤ most → count self.now.now actor + n ≤ slice_index self.now.plan.limits actor
             → IfSome self.now.plan.firings (λ all. begun_count self.now.now + n ≤ all) → n ≤ result }
     {
@@ -482,7 +552,8 @@ impl Core {
         times(free, gift, most)
     }
 
-    /// About how many firings the actor can make: no fewer than it can where it has one phase.
+    /// About how many firings the actor can make, by what the next one moves: no fewer than it can where it
+    /// has one phase.
     fn guess(&self, actor: u32, most: u32) -> u32
         requires { actor < length self.now.plan.sources }
         ensures most { result ≤ most }
@@ -496,6 +567,26 @@ impl Core {
         let roomy = room_times(&self.layout, &self.pool, actor, turn, held);
         let supplied = self.supplied(actor, gift, roomy);
         self.celled(gift, supplied)
+    }
+
+    /// About how many firings the actor can make: as many whole rounds of its phases as find their tokens
+    /// and their room.
+    fn guess_by_rounds(&self, actor: u32, most: u32) -> u32
+        requires { actor < length self.now.plan.sources }
+        ensures { result ≤ most }
+    {
+        let phases = self.layout.phases(actor);
+        let limited = self.limited(actor, most);
+        if limited < phases {
+            return limited;
+        }
+        let turn = self.turn(actor);
+        let round = look_ahead(&self.layout, actor, turn, phases);
+        let rounds = limited / phases;
+        let held = held_rounds(&self.layout, &self.pool, actor, turn, phases, rounds);
+        let roomy = room_rounds(&self.layout, &self.pool, actor, turn, phases, held);
+        let supplied = self.supplied(actor, round.given, roomy);
+        phases * self.celled(round.given, supplied)
     }
 
     /// The block of n firings, which the actor can make.
@@ -551,16 +642,17 @@ impl Core {
     }
 
     /// The greatest number of firings, at most so many, that an actor can make that can make one.
-    /// The guess and the number after it are looked at first, then halves of what is left.
+    /// The guess and a round of its phases more are looked at first, then halves of what is left.
     fn greatest_from_one(&self, actor: u32, most: u32) -> u32
         requires some { 1 ≤ most }
         requires can { CanFire self.now.plan self.now.now actor 1 }
         ensures { IsBetween self.now.plan self.now.now actor most result result }
     {
-        let guess = self.guess(actor, most);
+        let phases = self.layout.phases(actor);
+        let guess = self.guess_by_rounds(actor, most);
         let whole = Span { low: 1, high: most };
         let below = self.narrowed(actor, most, whole, guess);
-        let mut span = self.narrowed(actor, most, below, guess.saturating_add(1));
+        let mut span = self.narrowed(actor, most, below, guess.saturating_add(phases));
         for _look in 0..most {
             if span.low >= span.high {
                 return span.low;

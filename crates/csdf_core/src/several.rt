@@ -40,6 +40,7 @@ fn taken_one_by_one(layout: &Layout, actor: u32, channel: u32, turn: Turn, n: u3
     requires low { turn.phase < MAX_PHASES }
     requires few { turn.firing + n ≤ MAX_FIRINGS_PER_ACTOR }
     ensures value { result ≡ takes_at layout.now.channels turn.firing n channel }
+    ensures small { result ≤ MAX_TOKENS_PER_FIRING * n }
 {
     let mut next = turn;
     let mut sum = 0;
@@ -70,6 +71,47 @@ fn given_one_by_one(layout: &Layout, actor: u32, channel: u32, turn: Turn, n: u3
     sum
 }
 
+/// How many tokens n firings take of an input, from this one on: in each round of the actor's phases as many
+/// as in the first, and what is left one by one.
+fn taken_in_rounds(layout: &Layout, actor: u32, channel: u32, turn: Turn, n: u32) -> u64
+    requires actor { actor < length layout.now.sources }
+    requires channel { channel < length layout.now.channels }
+    requires own { to_at layout.now.channels channel ≡ actor }
+    requires in_phase { IsInPhase layout.now.channels actor turn.firing turn.phase }
+    requires low { turn.phase < MAX_PHASES }
+    requires few { turn.firing + n ≤ MAX_FIRINGS_PER_ACTOR }
+    ensures value { result ≡ takes_at layout.now.channels turn.firing n channel }
+{
+    let phases = layout.phases(actor);
+    let rest = taken_one_by_one(layout, actor, channel, turn, n % phases);
+    if n < phases {
+        return rest;
+    }
+    let round = taken_one_by_one(layout, actor, channel, turn, phases);
+    u64::from(n / phases) * round + rest
+}
+
+/// How many tokens n firings give to an output, from this one on: in each round of the actor's phases as many
+/// as in the first, and what is left one by one.
+fn given_in_rounds(layout: &Layout, actor: u32, channel: u32, turn: Turn, n: u32) -> u64
+    requires actor { actor < length layout.now.sources }
+    requires channel { channel < length layout.now.channels }
+    requires own { from_at layout.now.channels channel ≡ actor }
+    requires in_phase { IsInPhase layout.now.channels actor turn.firing turn.phase }
+    requires low { turn.phase < MAX_PHASES }
+    requires few { turn.firing + n ≤ MAX_FIRINGS_PER_ACTOR }
+    ensures value { result ≡ gives_at layout.now.channels turn.firing n channel }
+    ensures small { result ≤ MAX_TOKENS_PER_FIRING * n }
+{
+    let phases = layout.phases(actor);
+    let rest = given_one_by_one(layout, actor, channel, turn, n % phases);
+    if n < phases {
+        return rest;
+    }
+    let round = given_one_by_one(layout, actor, channel, turn, phases);
+    u64::from(n / phases) * round + rest
+}
+
 /// How many tokens n firings take of an input, from this one on.
 pub(crate) fn taken_of(layout: &Layout, actor: u32, channel: u32, turn: Turn, n: u32) -> u64
     requires actor { actor < length layout.now.sources }
@@ -83,7 +125,7 @@ pub(crate) fn taken_of(layout: &Layout, actor: u32, channel: u32, turn: Turn, n:
     if layout.phases(actor) == 1 {
         return u64::from(n) * u64::from(layout.takes(channel, turn));
     }
-    taken_one_by_one(layout, actor, channel, turn, n)
+    taken_in_rounds(layout, actor, channel, turn, n)
 }
 
 /// How many tokens n firings give to an output, from this one on.
@@ -100,7 +142,7 @@ pub(crate) fn given_of(layout: &Layout, actor: u32, channel: u32, turn: Turn, n:
     if layout.phases(actor) == 1 {
         return u64::from(n) * u64::from(layout.gives(channel, turn));
     }
-    given_one_by_one(layout, actor, channel, turn, n)
+    given_in_rounds(layout, actor, channel, turn, n)
 }
 
 /// Whether each input of the actor holds what its next n firings take of it.
