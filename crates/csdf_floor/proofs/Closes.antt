@@ -1,17 +1,20 @@
 -- Closing channels one after another.
 use Rattle.std.proofs.Common.{◌≡◌, ◌≢◌, ℕ, zero, suc, ◌+◌, ◌-◌, ◌<◌, ◌≤◌, ◌==◌, ◌&&◌, ◌||◌, cond, inl, inr, List, [], ◌∷◌, ◌++◌, length, map, filter, get_or}
 use Rattle.std.proofs.Common.{set, take, refl, ap, sym, subst, ◌∙◌, arith, append-nil, append_assoc, Bool, true, false, not, eqb-true, eq-eqb}
-use Rattle.std.specs.List.{range_with_len}
+use Rattle.std.specs.List.{range_with_len, AllByRecursion}
 use Rattle.std.specs.Prelude.{slice_index_or}
 use Rattle.std.proofs.lemmas.List.{take_more, get_or-set_other, map-append}
 use Rattle.std.proofs.lemmas.Bool.Decides.{eqb_tells}
+use Rattle.std.proofs.lemmas.List.Elements.{recursion_from_All}
 use Rattle.csdf_model.specs.Graph.{numbers_from}
 use Rattle.csdf_core.specs.Moves.{Move}
 use Rattle.csdf_core.specs.Moves.{Close}
 use Rattle.csdf_core.specs.Next.{next}
-use Rattle.csdf_core.specs.Plan.{Channel, Plan}
+use Rattle.csdf_core.specs.Plan.{Channel, Plan, from_at}
+use Rattle.csdf_core.specs.Ports.{outputs_at}
 use Rattle.csdf_core.specs.State.{Present}
 use Rattle.csdf_core.specs.Step.{is_open, is_over, producer}
+use Rattle.csdf_core.proofs.PhaseLemmas.{numbers_own}
 use Rattle.csdf_floor.specs.Floor.{FloorView, HasGone, closes}
 use Rattle.csdf_floor.specs.Inside.{BookView, IsNext, AreClosed, is_due, is_in}
 
@@ -164,6 +167,53 @@ closed_none f cs = record {
     and_true : (b : Bool) → (b && true) ≡ b
     and_true true = refl
     and_true false = refl
+
+-- ---- where the producer goes on none is due
+and_none : (b c : Bool) → c ≡ false → (b && c) ≡ false
+and_none true c is = is
+and_none false c is = refl
+
+none_due : (plan : Plan) (p : Present) (cs : List ℕ) → AllByRecursion (λ c. is_over plan p (producer plan c) ≡ false) cs → filter (is_due plan p) cs ≡ []
+none_due plan p [] all = refl
+none_due plan p (c ∷ cs) all =
+    ap (λ b. cond b (c ∷ filter (is_due plan p) cs) (filter (is_due plan p) cs)) (and_none (is_open p c) (is_over plan p (producer plan c)) all.0)
+    ∙ none_due plan p cs all.1
+
+none_among : (plan : Plan) (p : Present) (c : ℕ) (cs : List ℕ) → AllByRecursion (λ d. is_over plan p (producer plan d) ≡ false) cs
+    → (is_in c cs && is_over plan p (producer plan c)) ≡ false
+none_among plan p c [] all = refl
+none_among plan p c (d ∷ cs) all = elim (eqb_tells d c) [
+  | inl e ↦ and_none (is_in c (d ∷ cs)) (is_over plan p (producer plan c)) (ap (λ x. is_over plan p (producer plan x)) (sym e.1) ∙ all.0)
+  | inr e ↦ ap (λ b. (b || is_in c cs) && is_over plan p (producer plan c)) e.0 ∙ none_among plan p c cs all.1
+]
+
+pub closed_nothing : (f : FloorView) (cs : List ℕ) → AllByRecursion (λ c. is_over f.core.plan f.core.now (producer f.core.plan c) ≡ false) cs
+    → AreClosed f f cs
+closed_nothing f cs all = record {
+  gone = record {
+    work = refl;
+    journal = sym (ap (λ (ns : List ℕ). f.journal ++ map Close ns) (none_due f.core.plan f.core.now cs all) ∙ append-nil f.journal);
+    keeps = refl;
+  };
+  plan = refl;
+  counts = refl;
+  stages = refl;
+  opens = λ c. sym (ap (λ b. is_open f.core.now c && not b) (none_among f.core.plan f.core.now c cs all) ∙ and_true (is_open f.core.now c));
+}
+  where
+    and_true : (b : Bool) → (b && true) ≡ b
+    and_true true = refl
+    and_true false = refl
+
+pub outputs_go_on : (plan : Plan) (p : Present) (a : ℕ) → is_over plan p a ≡ false
+    → AllByRecursion (λ c. is_over plan p (producer plan c) ≡ false) (outputs_at plan.channels a)
+outputs_go_on plan p a on =
+    by (outputs_at plan.channels a) (recursion_from_All (λ c. from_at plan.channels c ≡ a) (outputs_at plan.channels a)
+    (numbers_own (λ (c : Channel). c.from) a plan.channels))
+  where
+    by : (cs : List ℕ) → AllByRecursion (λ c. from_at plan.channels c ≡ a) cs → AllByRecursion (λ c. is_over plan p (producer plan c) ≡ false) cs
+    by [] own = tt
+    by (c ∷ cs) own = (ap (is_over plan p) own.0 ∙ on, by cs own.1)
 
 pub over_same : (plan plan2 : Plan) (p p2 : Present) (a : ℕ) → plan2 ≡ plan → p2.counts ≡ p.counts → is_over plan2 p2 a ≡ is_over plan p a
 over_same plan plan2 p p2 a same counts =

@@ -379,6 +379,9 @@ impl Book {
         ensures before { self.old.shown.core.now ≡ present (state_of (program self.old.shown.work) self.old.shown.journal) }
     {
         let _ = &self.work;
+        if !self.core.is_over(actor) {
+            return;
+        }
         for place in 0..self.output_count(actor) {
             let channel = self.output(actor, place);
             self.close_if_due(channel);

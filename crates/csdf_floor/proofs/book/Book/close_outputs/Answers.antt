@@ -1,9 +1,10 @@
 use Rattle.std.proofs.lemmas.Grind.{common_steps}
-use Rattle.std.proofs.Common.{◌≡◌, ◌<◌, ◌==◌, ℕ, List, length, get_or, ap, subst, ◌∙◌, arith}
+use Rattle.std.proofs.Common.{◌≡◌, ◌<◌, ◌==◌, ℕ, List, length, get_or, ap, sym, subst, ◌∙◌, arith}
 use Rattle.csdf_core.specs.Plan.{Channel, Plan}
 use Rattle.csdf_core.specs.Ports.{outputs_at}
+use Rattle.csdf_core.specs.Step.{is_over}
 use Rattle.csdf_floor.specs.Inside.{BookView, IsBook}
-use Rattle.csdf_floor.proofs.Closes.{closed_at_place, room_more, rising_numbers}
+use Rattle.csdf_floor.proofs.Closes.{closed_at_place, closed_nothing, outputs_go_on, room_more, rising_numbers}
 use Rattle.csdf_floor.proofs.book.Book.close_outputs.Goals as goal
 
 pub loop-place-preserved : goal.loop-place-preserved
@@ -30,3 +31,12 @@ returns-clause-closed c = grind (arith, common_steps)
 
 pub loop-place-init : goal.loop-place-init
 loop-place-init c = grind (arith, common_steps)
+
+pub returns-then-not-is_over-clause-before : goal.returns-then-not-is_over-clause-before
+returns-then-not-is_over-clause-before c = (subst (λ (b : BookView). IsBook b.shown b.reads) c.self.view_is c.self.invariant).kept.shows.same
+
+pub returns-then-not-is_over-clause-closed : goal.returns-then-not-is_over-clause-closed
+returns-then-not-is_over-clause-closed c =
+    closed_nothing c.args.self.now.shown (outputs_at c.args.self.now.shown.core.plan.channels c.args.actor)
+    (outputs_go_on c.args.self.now.shown.core.plan c.args.self.now.shown.core.now c.args.actor
+    (ap (λ (b : BookView). is_over b.shown.core.plan b.shown.core.now c.args.actor) (sym c.self.view_is) ∙ sym c.is_over.ensures ∙ c.if-not-is_over.true))
