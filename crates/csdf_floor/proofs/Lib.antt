@@ -25,6 +25,7 @@ pub mod Reports
 pub mod Settles
 pub mod Honestly
 pub mod Makings
+pub mod PhaseValues
 pub mod MostPeriods
 pub mod MadeFloors
 pub mod OneFirings

@@ -29,7 +29,7 @@ use Rattle.csdf_journal.specs.View.{JournalView}
 use Rattle.csdf_floor.specs.Floor.{FloorView, IsKept}
 use Rattle.csdf_floor.specs.Inside.{IsBook, ListsView}
 use Rattle.csdf_floor.specs.Journal.{Program, output_counts, value, state_of, reads_of, IsJust}
-use Rattle.csdf_floor.specs.Making.{made_value, alike_of, HasMade}
+use Rattle.csdf_floor.specs.Making.{made_value, HasMade}
 use Rattle.csdf_floor.specs.Sequential.{firing, fired, moves_from}
 use Rattle.csdf_floor.specs.Work.{Work, program, is_sink_kernel}
 use Rattle.csdf_floor.proofs.Books.{floor_of, accepted_as, now_next, book_moved, book_read, sinks_after, sinks_each, write_just, staged, counted}
@@ -330,71 +330,34 @@ fired_book keeps w core new journal sinks reads a n v b can len each is plays =
     subst (λ (x : List ℤ). IsMade keeps w core new journal sinks reads a k n tokens x) (sym is)
     (made_book {keeps = keeps} w n core new journal sinks reads a k tokens b can.there can.idle refl len2 through read)
 
--- firings that all write as many
-pub alike_is : (cs : List Channel) (a each k n : ℕ) (v : List ℤ) → HasPhases cs a 1 → each ≡ gift a k cs → alike_of a each n v ≡ firings_of cs a k n v
-alike_is cs a each k zero v has e = refl
-alike_is cs a each k (suc n) v has e =
-    let rest : alike_of a each n (drop each v) ≡ firings_of cs a (suc k) n (drop each v) = alike_is cs a each (suc k) n (drop each v) has
-    (e ∙ same_gift cs a has k (suc k)) in
-    ap₂ (λ (g : ℕ) (ms : List Move). Begin a ∷ Read a ∷ Write a (take g v) ∷ Finish a ∷ ms) e
-    (rest ∙ ap (λ (g : ℕ). firings_of cs a (suc k) n (drop g v)) e)
-
-pub alike_step : (a each n i at : ℕ) (tokens : List ℤ) (old new whole : List Move) → i < n
-    → new ≡ (((old ++ Begin a ∷ []) ++ Read a ∷ []) ++ Write a (take (at + each - at) (drop at tokens)) ∷ []) ++ Finish a ∷ []
-    → old ++ alike_of a each (n - i) (drop at tokens) ≡ whole
-    → new ++ alike_of a each (n - (i + 1)) (drop (at + each) tokens) ≡ whole
-alike_step a each n i at tokens old new whole lt is all =
-    let m : ℕ = n - (i + 1) in
-    let e1 : at + each - at ≡ each = omega arith in
-    let e2 : n - i ≡ suc m = omega arith in
-    let v : List ℤ = take each (drop at tokens) in
-    ap (λ (u : List Move). u ++ alike_of a each m (drop (at + each) tokens))
-    (is ∙ ap (λ (j : ℕ). (((old ++ Begin a ∷ []) ++ Read a ∷ []) ++ Write a (take j (drop at tokens)) ∷ []) ++ Finish a ∷ []) e1)
-    ∙ four_on old (Begin a) (Read a) (Write a v) (Finish a) (alike_of a each m (drop (at + each) tokens))
-    ∙ ap (λ (u : List ℤ). old ++ Begin a ∷ Read a ∷ Write a v ∷ Finish a ∷ alike_of a each m u) (sym (drop-drop each at tokens))
-    ∙ ap (λ (j : ℕ). old ++ alike_of a each j (drop at tokens)) (sym e2)
-    ∙ all
-
-pub room_less : (each n i at most : ℕ) → i < n → at + (n - i) * each ≤ most → at + each + (n - (i + 1)) * each ≤ most
-room_less each n i at most lt le =
-    let e : n - i ≡ suc (n - (i + 1)) = omega arith in
-    let t : (n - i) * each ≡ suc (n - (i + 1)) * each = ap (λ (j : ℕ). j * each) e in
-    let s = suc-mul (n - (i + 1)) each in
-    omega (arith, le, t, s)
-
 -- the book then
-pub book_fired : (keeps keeps2 : Bool) (w : Work) (core new : View) (journal moves2 : List Move) (sinks sinks2 reads : List (List ℤ)) (a n each : ℕ)
-    (tokens v : List ℤ) → IsBook (floor_of keeps w core journal sinks) reads → HasPhases core.plan.channels a 1
-    → each ≡ gift a (count core.now a) core.plan.channels
+pub book_fired : (keeps keeps2 : Bool) (w : Work) (core new : View) (journal moves2 : List Move) (sinks sinks2 reads : List (List ℤ)) (a n : ℕ)
+    (tokens v : List ℤ) → IsBook (floor_of keeps w core journal sinks) reads
     → IsMade keeps2 w core new journal sinks reads a (count core.now a) n tokens v
-    → moves2 ≡ journal ++ alike_of a each n v → sinks2 ≡ sinks_after w sinks a tokens
+    → moves2 ≡ journal ++ firings_of core.plan.channels a (count core.now a) n v → sinks2 ≡ sinks_after w sinks a tokens
     → IsBook (floor_of keeps2 w new moves2 sinks2) reads
-book_fired keeps keeps2 w core new journal moves2 sinks sinks2 reads a n each tokens v b has e made is took =
+book_fired keeps keeps2 w core new journal moves2 sinks sinks2 reads a n tokens v b made is took =
     let p : Program = program w in
     let k : ℕ = count core.now a in
     let kept : List ℤ = get_or reads a [] in
-    let alike : alike_of a each n v ≡ firings_of p.plan.channels a k n v = alike_is core.plan.channels a each k n v has e
-    ∙ ap (λ (u : Plan). firings_of u.channels a k n v) b.kept.plan in
     let whole : IsBook (floor_of keeps2 w new (journal ++ firings_of p.plan.channels a k n v) (sinks_after w sinks a tokens)) (set reads a kept) =
     made.book kept in
     subst (λ (rs : List (List ℤ)). IsBook (floor_of keeps2 w new moves2 sinks2) rs) (set-get_or reads a [])
     (subst (λ (ss : List (List ℤ)). IsBook (floor_of keeps2 w new moves2 ss) (set reads a kept)) (sym took)
     (subst (λ (js : List Move). IsBook (floor_of keeps2 w new js (sinks_after w sinks a tokens)) (set reads a kept))
-    (ap (λ (ms : List Move). journal ++ ms) (sym alike) ∙ sym is) whole))
+    (ap (λ (u : Plan). journal ++ firings_of u.channels a k n v) (sym b.kept.plan) ∙ sym is) whole))
 
-pub has_made : (keeps : Bool) (w : Work) (core new : View) (journal journal2 : JournalView) (sinks lists2 : ListsView) (reads : List (List ℤ)) (a n each : ℕ)
-    (tokens v : List ℤ) → core.plan ≡ (program w).plan → HasPhases core.plan.channels a 1 → each ≡ gift a (count core.now a) core.plan.channels
+pub has_made : (keeps : Bool) (w : Work) (core new : View) (journal journal2 : JournalView) (sinks lists2 : ListsView) (reads : List (List ℤ)) (a n : ℕ)
+    (tokens v : List ℤ) → core.plan ≡ (program w).plan
     → IsMade keeps w core new journal.moves sinks.lists reads a (count core.now a) n tokens v
-    → journal2.moves ≡ journal.moves ++ alike_of a each n v → journal2.keeps ≡ journal.keeps
+    → journal2.moves ≡ journal.moves ++ firings_of core.plan.channels a (count core.now a) n v → journal2.keeps ≡ journal.keeps
     → HasMade (floor_of journal.keeps w core journal.moves sinks.lists) (floor_of journal2.keeps w new journal2.moves lists2.lists) a n
     (moves_from (program w) (state_of (program w) journal.moves) (replicate n a))
-has_made keeps w core new journal journal2 sinks lists2 reads a n each tokens v same has e made is kept = record {
+has_made keeps w core new journal journal2 sinks lists2 reads a n tokens v same made is kept = record {
   gone = record {
     work = refl;
     journal = is ∙ ap (λ (ms : List Move). journal.moves ++ ms)
-        (alike_is core.plan.channels a each (count core.now a) n v has e
-        ∙ ap (λ (u : Plan). firings_of u.channels a (count core.now a) n v) same
-        ∙ made.moves);
+        (ap (λ (u : Plan). firings_of u.channels a (count core.now a) n v) same ∙ made.moves);
     keeps = kept;
   };
   plan = made.plan;

@@ -1,19 +1,20 @@
 -- Several firings of one actor, made at once.
-use Rattle.std.specs.Prelude.{ℕ, zero, suc, ◌≡◌, ◌+◌, ◌*◌, List, [], ◌∷◌, ◌++◌, ℤ, length, take, drop, slice_set, replicate}
+use Rattle.std.specs.Prelude.{ℕ, zero, suc, ◌≡◌, ◌+◌, ◌*◌, List, [], ◌++◌, ℤ, if◌then◌else◌, length, take, drop, slice_index_or, slice_set, replicate}
 use Rattle.csdf_model.specs.declared.parts.Kernel.{Kernel}
+use Rattle.csdf_model.specs.declared.parts.Kernel.TheVariants.{Sink}
 use Rattle.csdf_kernel.specs.Loop.{loop_values}
+use Rattle.csdf_kernel.specs.Value.{value_of}
 use Rattle.csdf_core.specs.declared.feedback.Feedback.{Feedback}
 use Rattle.csdf_core.specs.Blocks.{needs_of, gifts_of}
 use Rattle.csdf_core.specs.Feedback.{AreReadWith, loop_reads}
 use Rattle.csdf_core.specs.Shows.{View}
 use Rattle.csdf_core.specs.Moves.{Move}
-use Rattle.csdf_core.specs.Moves.{Begin, Read, Write, Finish}
 use Rattle.csdf_core.specs.Rows.{need, gift}
-use Rattle.csdf_core.specs.Step.{count}
+use Rattle.csdf_core.specs.Step.{count, is_source}
 use Rattle.csdf_core.specs.Ports.{outputs_at}
 use Rattle.csdf_core.specs.State.{present}
 use Rattle.csdf_floor.specs.Floor.{FloorView, HasGone, closes}
-use Rattle.csdf_floor.specs.Journal.{Program, value, state_of}
+use Rattle.csdf_floor.specs.Journal.{Program, output_counts, value, state_of}
 use Rattle.csdf_floor.specs.Sequential.{moves_from}
 use Rattle.csdf_floor.specs.Work.{program}
 
@@ -22,6 +23,23 @@ abbrev pub made_value : Program → ℕ → ℕ → ℕ → List ℤ → List �
 made_value w a k zero tokens = []
 made_value w a k (suc n) tokens =
     value w a k (take (need a k w.plan.channels) tokens) ++ made_value w a (suc k) n (drop (need a k w.plan.channels) tokens)
+
+-- how many tokens firing number k computes from: those that it reads, or for a source those that it writes
+abbrev pub amount_of : Program → ℕ → ℕ → ℕ
+amount_of w a k = if is_source w.plan a then gift a k w.plan.channels else need a k w.plan.channels
+
+-- and n firings
+abbrev pub amounts_of : Program → ℕ → ℕ → ℕ → ℕ
+amounts_of w a k zero = 0
+amounts_of w a k (suc n) = amount_of w a k + amounts_of w a (suc k) n
+
+-- the kernel's value of firing number k, and those of n firings, end to end, where these are the tokens that they compute from, end to end
+abbrev pub phase_value : Program → ℕ → ℕ → List ℤ → List ℤ
+phase_value w a k tokens = value_of (slice_index_or w.kernels a Sink) (output_counts w a k) (take (amount_of w a k) tokens)
+
+abbrev pub phase_values : Program → ℕ → ℕ → ℕ → List ℤ → List ℤ
+phase_values w a k zero tokens = []
+phase_values w a k (suc n) tokens = phase_value w a k tokens ++ phase_values w a (suc k) n (drop (amount_of w a k) tokens)
 
 -- v are the values of a kernel, over what a core's channels hold: a state and other tokens, which tell what the actor's next n firings read
 pub record AreLoopValues (core : View) (kernel : Kernel) (counts : List ℕ) (a n : ℕ) (f : Feedback) (v : List ℤ) : Type 0 where
@@ -39,11 +57,6 @@ pub record AreOwnValues (f : FloorView) (a n : ℕ) (v : List ℤ) : Type 0 wher
   pub long : length tokens ≡ needs_of f.core.plan.channels a (count f.core.now a) n
   pub read : AreReadWith f.core.plan f.core.now a (count f.core.now a) n v tokens
   pub just : v ≡ made_value (program f.work) a (count f.core.now a) n tokens
-
--- the moves of n firings that each write so many of the tokens
-abbrev pub alike_of : ℕ → ℕ → ℕ → List ℤ → List Move
-alike_of a each zero v = []
-alike_of a each (suc n) v = Begin a ∷ Read a ∷ Write a (take each v) ∷ Finish a ∷ alike_of a each n (drop each v)
 
 -- the actor has made n firings more, of these moves, and nothing else has changed
 pub record HasMade (old new : FloorView) (a n : ℕ) (moves : List Move) : Type 0 where

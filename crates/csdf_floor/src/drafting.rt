@@ -105,8 +105,8 @@ impl Book {
         if !self.has_in_buffer(actor, draft.inputs()) {
             return Ok(false);
         }
-        let each = self.core.gives(actor);
-        self.fire(actor, n, each, draft.values());
+        let _ = &self.work;
+        self.fire(actor, n, draft.values());
         Ok(true)
     }
 
@@ -179,7 +179,10 @@ impl Book {
         ensures phases { IfSome result (λ block. HasPhases self.now.shown.core.plan.channels actor 1) }
         ensures other { IfSome result (λ block. is_source (program self.now.shown.work).plan actor ≡ false) }
     {
-        if self.work.is_source(actor) || self.products(actor, most) < heavy {
+        if self.work.is_source(actor) || !self.core.has_one_phase(actor) {
+            return None;
+        }
+        if self.products(actor, most) < heavy {
             return None;
         }
         let block = self.block(actor, most);

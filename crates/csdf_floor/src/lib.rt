@@ -16,6 +16,7 @@ mod lists;
 mod looping;
 mod making;
 mod outcome;
+mod phased;
 mod printed;
 mod same;
 mod settling;

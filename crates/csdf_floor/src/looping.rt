@@ -7,14 +7,13 @@ ghost use Rattle.std.specs.Prelude.{◌≡◌, ◌+◌, ◌*◌, ◌<◌, ◌≤
 ghost use Rattle.csdf_model.specs.declared.parts.Kernel.TheVariants.{Sink};
 ghost use Rattle.csdf_core.specs.Feedback.{CanGoOn, IsFeedback};
 ghost use Rattle.csdf_core.specs.Ports.{outputs_at};
-ghost use Rattle.csdf_core.specs.Rows.{gift, need};
+ghost use Rattle.csdf_core.specs.Rows.{need};
 ghost use Rattle.csdf_core.specs.Step.{count};
 ghost use Rattle.csdf_kernel.specs.Value.{HasFilterInRange};
 ghost use Rattle.csdf_floor.specs.Making.{HasMade, AreLoopValues, AreOwnValues, made_moves};
 ghost use Rattle.csdf_floor.specs.Work.{program, is_sink_kernel};
 
 use crate::book::Book;
-use crate::making::note_firings;
 use csdf_core::{Core, Feedback};
 use csdf_kernel::{Counts, Outputs, eval_loop};
 use csdf_model::Kernel;
@@ -116,21 +115,18 @@ impl Book {
         )
     }
 
-    /// Makes the actor's next n firings, each of which writes so many tokens: the kernel's values.
-    fn fire_on(&mut self, actor: u32, feedback: Feedback, n: u32, each: usize, tokens: &[i32])
+    /// Makes the actor's next n firings, which write these tokens: the kernel's values.
+    fn fire_on(&mut self, actor: u32, feedback: Feedback, n: u32, tokens: &[i32])
         requires feedback { IsFeedback self.old.shown.core.plan actor feedback }
         requires can { CanGoOn self.old.shown.core.plan self.old.shown.core.now actor feedback.channel n }
-        requires each { each ≡ gift actor (count self.old.shown.core.now actor) self.old.shown.core.plan.channels }
         requires keeps { self.old.shown.keeps ≡ false }
         requires other { is_sink_kernel (slice_index_or (program self.old.shown.work).kernels actor Sink) ≡ false }
-        requires room { 4 * n ≤ self.old.room }
-        requires width { each ≤ self.old.width }
         requires values { AreOwnValues self.old.shown actor n tokens.now }
         ensures made { HasMade self.old.shown self.new.shown actor n (made_moves self.old.shown actor n) }
-        ensures room { self.old.room ≤ self.new.room + 4 * n }
+        ensures room { self.new.room ≡ self.old.room }
     {
+        self.journal.note_firings(&self.core, actor, n, tokens);
         self.core.go_on(actor, feedback, n, tokens);
-        note_firings(&mut self.journal, actor, n, each, tokens);
     }
 
     /// Makes the actor's next n firings at once.
@@ -155,8 +151,7 @@ impl Book {
         let long = taken + self.core.need(actor) + n as usize * each;
         self.make_room_for(*outputs.allocator(), actor, n, long)?;
         self.own_values_into(actor, feedback, n, counts, outputs)?;
-        let gives = self.core.gives(actor);
-        self.fire_on(actor, feedback, n, gives, outputs.as_slice());
+        self.fire_on(actor, feedback, n, outputs.as_slice());
         Ok(())
     }
 }

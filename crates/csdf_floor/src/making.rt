@@ -1,10 +1,10 @@
 //! Several firings of one actor, made at once or one after another.
 
 ghost use Rattle.std.specs.Prelude.{◌≡◌, ◌≤◌, ◌+◌, ◌*◌, ◌++◌, false, length, ◌↔◌, IsTrue, All, ◌<◌, [], None, true, IfOk, OnOk, OnErr, slice_index, slice_index_or};
-ghost use Rattle.csdf_floor.specs.Making.{alike_of, HasMade, made_moves, made_value};
+ghost use Rattle.csdf_floor.specs.Making.{HasMade, made_moves, made_value};
 ghost use Rattle.csdf_model.specs.declared.parts.Kernel.TheVariants.{Sink};
 ghost use Rattle.csdf_core.specs.declared.stage.Stage.TheVariants.{Idle};
-ghost use Rattle.csdf_core.specs.Blocks.{CanFire, AreReadEach, needs_of};
+ghost use Rattle.csdf_core.specs.Blocks.{CanFire, AreReadEach, gifts_of, needs_of};
 ghost use Rattle.csdf_core.specs.Moves.{Begin};
 ghost use Rattle.csdf_core.specs.Phases.{HasPhases};
 ghost use Rattle.csdf_core.specs.Ports.{outputs_at};
@@ -17,30 +17,8 @@ ghost use Rattle.csdf_floor.specs.Inside.{HasRoom};
 
 use crate::book::Book;
 use csdf_core::Block;
-use csdf_journal::Journal;
 use csdf_kernel::{Counts, Outputs, eval_block};
 use std::alloc::{AllocError, Global};
-
-/// Notes n firings of the actor, which each wrote so many of the tokens, in a journal that keeps no
-/// moves.
-pub(crate) fn note_firings(journal: &mut Journal, actor: u32, n: u32, each: usize, tokens: &[i32])
-    requires room { 4 * n ≤ journal.old.room }
-    requires keeps { journal.old.keeps ≡ false }
-    requires width { each ≤ journal.old.width }
-    requires whole { n * each ≤ length tokens.now }
-    ensures moves { journal.new.moves ≡ journal.old.moves ++ alike_of actor each n tokens.now }
-    ensures keeps { journal.new.keeps ≡ journal.old.keeps }
-    ensures room { journal.old.room ≤ journal.new.room + 4 * n }
-{
-    let mut at = 0;
-    for _firing in 0..n {
-        journal.note_begin(actor);
-        journal.note_read(actor);
-        journal.note_write(actor, &tokens[at..at + each]);
-        journal.note_finish(actor);
-        at += each;
-    }
-}
 
 impl Book {
     /// Makes the buffer of the actor, which is idle, this long.
@@ -136,36 +114,36 @@ impl Book {
         eval_block(kernel, counts.as_slice(), each, n, feed, outputs)
     }
 
-    /// The kernel's values of the actor's next n firings, whose tokens are in its buffer.
+    /// The kernel's values of the block, whose tokens are in the actor's buffer, in the place of what the
+    /// outputs hold.
     fn block_values_into(
         &self,
         actor: u32,
-        n: u32,
+        block: Block,
         counts: &mut Counts,
         outputs: &mut Outputs,
     ) -> Result<(), AllocError>
-        requires can { CanFire self.now.shown.core.plan self.now.shown.core.now actor n }
-        requires phases { HasPhases self.now.shown.core.plan.channels actor 1 }
+        requires can { CanFire self.now.shown.core.plan self.now.shown.core.now actor block.firings }
+        requires given { block.given ≡ gifts_of self.now.shown.core.plan.channels actor (count self.now.shown.core.now actor) block.firings }
         requires buffer { length (slice_index_or self.now.reads actor [])
-            ≡ needs_of self.now.shown.core.plan.channels actor (count self.now.shown.core.now actor) n }
-        ensures { OnOk result (outputs.new.items ≡ made_value (program self.now.shown.work) actor (count self.now.shown.core.now actor) n
+            ≡ needs_of self.now.shown.core.plan.channels actor (count self.now.shown.core.now actor) block.firings }
+        ensures { OnOk result (outputs.new.items ≡ made_value (program self.now.shown.work) actor (count self.now.shown.core.now actor) block.firings
             (slice_index_or self.now.reads actor [])) }
     {
-        if self.work.is_source(actor) {
-            return self.feed_values_into(actor, n, counts, outputs);
+        if !self.core.has_one_phase(actor) {
+            return self.phased_values_into(actor, block, counts, outputs);
         }
-        self.values_into(actor, n, counts, outputs)
+        if self.work.is_source(actor) {
+            return self.feed_values_into(actor, block.firings, counts, outputs);
+        }
+        self.values_into(actor, block.firings, counts, outputs)
     }
 
-    /// Makes the actor's next n firings, each of which writes so many tokens: the kernel's values of
-    /// what is in the actor's buffer, which is what they read.
-    pub(crate) fn fire(&mut self, actor: u32, n: u32, each: usize, tokens: &[i32])
+    /// Makes the actor's next n firings, which write these tokens: the kernel's values of what is in the
+    /// actor's buffer, which is what they read.
+    pub(crate) fn fire(&mut self, actor: u32, n: u32, tokens: &[i32])
         requires can { CanFire self.old.shown.core.plan self.old.shown.core.now actor n }
-        requires phases { HasPhases self.old.shown.core.plan.channels actor 1 }
-        requires each { each ≡ gift actor (count self.old.shown.core.now actor) self.old.shown.core.plan.channels }
         requires keeps { self.old.shown.keeps ≡ false }
-        requires room { 4 * n ≤ self.old.room }
-        requires width { each ≤ self.old.width }
         requires buffer { length (slice_index_or self.old.reads actor [])
             ≡ needs_of self.old.shown.core.plan.channels actor (count self.old.shown.core.now actor) n }
         requires read { AreReadEach self.old.shown.core.plan self.old.shown.core.now actor (count self.old.shown.core.now actor) n
@@ -175,28 +153,28 @@ impl Book {
         requires just { tokens.now ≡ made_value (program self.old.shown.work) actor (count self.old.shown.core.now actor) n
             (slice_index_or self.old.reads actor []) }
         ensures made { HasMade self.old.shown self.new.shown actor n (made_moves self.old.shown actor n) }
-        ensures room { self.old.room ≤ self.new.room + 4 * n }
+        ensures room { self.new.room ≡ self.old.room }
     {
+        self.journal.note_firings(&self.core, actor, n, tokens);
         self.core.fire(actor, n, tokens);
         let is_sink = self.work.is_sink(actor);
         let taken = &self.reads[actor as usize];
         self.sinks.append_where(is_sink, actor, taken);
-        note_firings(&mut self.journal, actor, n, each, tokens);
     }
 
     /// How many of its next firings the actor can make at once, at most so many: 0 where the journal
-    /// is kept, and for an actor of several phases or with a channel to itself (see
-    /// [`goes_on`](Book::goes_on)).
+    /// is kept, and for an actor with a channel to itself (see [`goes_on`](Book::goes_on)).
     pub(crate) fn block(&self, actor: u32, most: u32) -> Block
         requires { actor < length self.now.shown.core.plan.sources }
         ensures most { result.firings ≤ most }
         ensures can { 0 < result.firings → CanFire self.now.shown.core.plan self.now.shown.core.now actor result.firings }
         ensures needed { 0 < result.firings → result.needed
             ≡ needs_of self.now.shown.core.plan.channels actor (count self.now.shown.core.now actor) result.firings }
+        ensures given { 0 < result.firings → result.given
+            ≡ gifts_of self.now.shown.core.plan.channels actor (count self.now.shown.core.now actor) result.firings }
         ensures keeps { 0 < result.firings → self.now.shown.keeps ≡ false }
-        ensures phases { 0 < result.firings → HasPhases self.now.shown.core.plan.channels actor 1 }
     {
-        if self.journal.keeps() || !self.core.has_one_phase(actor) {
+        if self.journal.keeps() {
             return Block {
                 firings: 0,
                 needed: 0,
@@ -233,29 +211,28 @@ impl Book {
         self.reserve(4 * n as usize + closes)
     }
 
-    /// Makes the actor's next n firings at once, which read so many tokens.
+    /// Makes the block: the actor's next firings, at once.
     pub(crate) fn make(
         &mut self,
         actor: u32,
-        n: u32,
-        needed: usize,
+        block: Block,
         counts: &mut Counts,
         outputs: &mut Outputs,
     ) -> Result<(), AllocError>
-        requires can { CanFire self.old.shown.core.plan self.old.shown.core.now actor n }
-        requires needed { needed ≡ needs_of self.old.shown.core.plan.channels actor (count self.old.shown.core.now actor) n }
+        requires can { CanFire self.old.shown.core.plan self.old.shown.core.now actor block.firings }
+        requires needed { block.needed ≡ needs_of self.old.shown.core.plan.channels actor (count self.old.shown.core.now actor) block.firings }
+        requires given { block.given ≡ gifts_of self.old.shown.core.plan.channels actor (count self.old.shown.core.now actor) block.firings }
         requires keeps { self.old.shown.keeps ≡ false }
-        requires phases { HasPhases self.old.shown.core.plan.channels actor 1 }
-        ensures made { OnOk result (HasMade self.old.shown self.new.shown actor n (made_moves self.old.shown actor n)) }
+        ensures made { OnOk result (HasMade self.old.shown self.new.shown actor block.firings (made_moves self.old.shown actor block.firings)) }
         ensures room { OnOk result (length (outputs_at self.old.shown.core.plan.channels actor) ≤ self.new.room) }
         ensures unchanged { OnErr result (self.new.shown ≡ self.old.shown) }
         ensures room_stays { OnErr result (self.old.room ≤ self.new.room) }
     {
-        self.make_room_for(*outputs.allocator(), actor, n, needed)?;
+        let n = block.firings;
+        self.make_room_for(*outputs.allocator(), actor, n, block.needed as usize)?;
         self.peek(actor, n);
-        self.block_values_into(actor, n, counts, outputs)?;
-        let each = self.core.gives(actor);
-        self.fire(actor, n, each, outputs.as_slice());
+        self.block_values_into(actor, block, counts, outputs)?;
+        self.fire(actor, n, outputs.as_slice());
         Ok(())
     }
 
@@ -434,10 +411,9 @@ impl Book {
         ensures unchanged { OnErr result (self.new.shown ≡ self.old.shown) }
     {
         let block = self.block(actor, most);
-        let n = block.firings;
-        if n > 0 {
-            self.make(actor, n, block.needed as usize, counts, outputs)?;
-            return Ok(n);
+        if block.firings > 0 {
+            self.make(actor, block, counts, outputs)?;
+            return Ok(block.firings);
         }
         match self.goes_on(actor, most) {
             Some((feedback, firings)) => {

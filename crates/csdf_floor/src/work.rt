@@ -7,7 +7,8 @@ ghost use Rattle.csdf_model.specs.Rates.{total};
 ghost use Rattle.csdf_core.specs.Headline.{capacity_of};
 ghost use Rattle.csdf_core.specs.Layout.{is_source_kernel, plan_for, with_capacity};
 ghost use Rattle.csdf_core.specs.Plan.{consume_at, produce_at, to_at};
-ghost use Rattle.csdf_core.specs.Ports.{give_at, outputs_at};
+ghost use Rattle.csdf_core.specs.Ports.{give_at, inputs_at, outputs_at, take_at};
+ghost use Rattle.csdf_core.specs.Rows.{need};
 ghost use Rattle.csdf_core.specs.Step.{is_source, producer};
 ghost use Rattle.csdf_kernel.specs.Value.{HasFilterInRange};
 ghost use Rattle.csdf_floor.specs.Journal.{output_counts};
@@ -189,6 +190,16 @@ impl Work {
         self.accepted.graph().outputs(actor)
     }
 
+    /// The channels that end at the actor, in file order.
+    fn inputs(&self, actor: u32) -> &[u32]
+        requires { actor < length self.now.accepted.graph.actors }
+        ensures value { result.now ≡ inputs_at (program self.now).plan.channels actor }
+        ensures within { All (λ c. c < length (program self.now).plan.channels) result.now }
+        ensures few { length result.now ≤ 128 }
+    {
+        self.accepted.graph().inputs(actor)
+    }
+
     /// The channel as the graph has it.
     fn channel(&self, channel: u32) -> &Channel
         requires { channel < length (program self.now).plan.channels }
@@ -241,6 +252,28 @@ impl Work {
         ensures small { result ≤ 64 }
     {
         self.channel(channel).production(firing)
+    }
+
+    /// How many tokens the firing of its consumer takes out of the channel.
+    fn consumption(&self, channel: u32, firing: u32) -> u32
+        requires { channel < length (program self.now).plan.channels }
+        ensures value { result ≡ take_at (program self.now).plan.channels firing channel }
+        ensures small { result ≤ 64 }
+    {
+        self.channel(channel).consumption(firing)
+    }
+
+    /// How many tokens the firing of the actor reads.
+    pub(crate) fn need(&self, actor: u32, firing: u32) -> usize
+        requires { actor < length self.now.accepted.graph.actors }
+        ensures value { result ≡ need actor firing (program self.now).plan.channels }
+        ensures small { result ≤ 8192 }
+    {
+        let mut sum = 0;
+        for channel in self.inputs(actor) {
+            sum += self.consumption(*channel, firing) as usize;
+        }
+        sum
     }
 
     /// How many tokens the channel may hold.

@@ -4,13 +4,16 @@
 //! four moves.
 
 ghost use Rattle.std.specs.Prelude.{◌≡◌, ◌<◌, ◌≤◌, ◌+◌, [], ◌∷◌, ◌++◌, IsOk, OnOk, false, length, map};
+ghost use Rattle.csdf_core.specs.Blocks.{firings_of};
 ghost use Rattle.csdf_core.specs.Moves.{Begin, Read, Write, Finish, Close, move_of};
+ghost use Rattle.csdf_core.specs.Step.{count};
 ghost use Rattle.csdf_journal.specs.View.{is_kept, told};
 
+use crate::firings::Firings;
 use crate::keeping::Keeping;
 use crate::note::Note;
 use crate::past::Past;
-use csdf_core::Move;
+use csdf_core::{Core, Move};
 use std::alloc::{AllocError, Global};
 use std::marker::Model;
 
@@ -192,5 +195,24 @@ impl Journal {
         ensures width { self.new.width ≡ self.old.width }
     {
         self.note(&Note::Close(channel));
+    }
+
+    /// Notes the actor's next n firings, which the core has not made yet: they write these tokens, one
+    /// firing's after another's. The journal keeps no moves, so this does nothing when it runs.
+    #[inline(always)]
+    pub fn note_firings(&mut self, core: &Core, actor: u32, n: u32, tokens: &[i32])
+        requires { self.old.keeps ≡ false }
+        ensures moves { self.new.moves ≡ self.old.moves
+            ++ firings_of core.now.plan.channels actor (count core.now.now actor) n tokens.now }
+        ensures keeps { self.new.keeps ≡ self.old.keeps }
+        ensures room { self.new.room ≡ self.old.room }
+        ensures width { self.new.width ≡ self.old.width }
+    {
+        self.past = self.past.then_all(&Firings {
+            core,
+            actor,
+            n,
+            tokens,
+        });
     }
 }

@@ -1,6 +1,7 @@
 //! The journal of a run: always there for proofs, and kept only where the caller asks for it.
 #![tactic(auto)]
 
+mod firings;
 mod journal;
 mod keeping;
 mod note;

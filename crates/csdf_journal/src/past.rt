@@ -3,6 +3,7 @@ ghost use Rattle.std.specs.Prelude.{◌≡◌, List, [], ◌∷◌, ◌++◌};
 ghost use base.Fml.{ftrue};
 ghost use Rattle.csdf_core.specs.Moves.{Move as MoveModel};
 
+use crate::firings::Firings;
 use crate::note::Note;
 use std::marker::Model;
 
@@ -22,7 +23,7 @@ unsafe impl Send for Past {}
 unsafe impl Sync for Past {}
 
 impl Past {
-    ghost use Rattle.csdf_journal.specs.Noted.{noted};
+    ghost use Rattle.csdf_journal.specs.Noted.{noted, noted_all};
 
     /// No moves.
     pub(crate) fn new() -> Past
@@ -34,6 +35,13 @@ impl Past {
     /// These moves, and then the one of the note.
     pub(crate) fn then(&self, _note: &Note<'_>) -> Past
         ensures { result.moves ≡ self.now.moves ++ noted _note.now ∷ [] }
+    {
+        Past {}
+    }
+
+    /// These moves, and then those of the firings.
+    pub(crate) fn then_all(&self, _firings: &Firings<'_>) -> Past
+        ensures { result.moves ≡ self.now.moves ++ noted_all _firings.now }
     {
         Past {}
     }

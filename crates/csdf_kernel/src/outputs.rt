@@ -21,9 +21,9 @@ pub(crate) fn total_of(counts: &[u32]) -> usize
     counts.iter().sum::<u32>() as usize
 }
 
-/// The kernel's value, at the end of a list that has room for it.
+/// The kernel's value of one firing, at the end of a list that has room for it.
 #[tactic(auto, unfolding(crate::specs::Value::value_of))]
-pub(crate) fn push_value(outputs: &mut Outputs, kernel: &Kernel, counts: &[u32], inputs: &[i32])
+pub fn push_value(outputs: &mut Outputs, kernel: &Kernel, counts: &[u32], inputs: &[i32])
     requires few_counts { length counts.now ≤ 128 }
     requires small_counts { All (λ count. count ≤ 64) counts.now }
     requires few_inputs { length inputs.now ≤ 8192 }

@@ -4,9 +4,3 @@ use Rattle.csdf_floor.proofs.book.Book.block_values_into.Goals as goal
 
 pub is_source-requires : goal.is_source-requires
 is_source-requires c = grind (arith, common_steps)
-
-pub values_into-requires-clause-phases : goal.values_into-requires-clause-phases
-values_into-requires-clause-phases c = grind (arith, common_steps)
-
-pub feed_values_into-requires-clause-phases : goal.feed_values_into-requires-clause-phases
-feed_values_into-requires-clause-phases c = grind (arith, common_steps)

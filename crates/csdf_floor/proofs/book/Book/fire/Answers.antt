@@ -1,13 +1,10 @@
 use Rattle.std.proofs.lemmas.Grind.{common_steps}
-use Rattle.std.proofs.Common.{◌≡◌, ◌<◌, ◌*◌, ◌++◌, ℕ, List, [], length, get_or, set, cond, ap, sym, subst, ◌∙◌, arith, Bool}
+use Rattle.std.proofs.Common.{◌≡◌, ◌<◌, ◌++◌, List, [], length, get_or, set, cond, ap, sym, subst, ◌∙◌, arith, Bool}
 use Rattle.std.specs.Prelude.{ℤ}
 use Rattle.std.proofs.lemmas.List.{length-map}
 use Rattle.csdf_core.specs.Blocks.{CanFire, AreReadEach, needs_of, gifts_of}
-use Rattle.csdf_core.specs.Phases.{HasPhases}
 use Rattle.csdf_core.specs.Plan.{Plan}
-use Rattle.csdf_core.specs.Rows.{gift}
 use Rattle.csdf_core.specs.Step.{count}
-use Rattle.csdf_core.proofs.OnePhase.{gifts_times}
 use Rattle.csdf_floor.specs.Inside.{IsBook}
 use Rattle.csdf_floor.specs.Making.{made_value}
 use Rattle.csdf_floor.specs.Work.{feeds_in, program}
@@ -15,7 +12,7 @@ use Rattle.csdf_floor.proofs.Books.{floor_of, sinks_each, sinks_after}
 use Rattle.csdf_floor.proofs.Makings.{IsMade, book_fired, fired_book, has_made, length_made}
 use Rattle.csdf_floor.proofs.Works.{item_at}
 use Rattle.csdf_floor.proofs.book.Book.fire.Goals as goal
-use Rattle.csdf_floor.proofs.book.Book.fire.Goals.{After-note_firings, After-fire-arg-1, After-note_firings-arg-1}
+use Rattle.csdf_floor.proofs.book.Book.fire.Goals.{After-append_where, After-fire-arg-1}
 
 module _ (c : After-fire-arg-1) where
   all : length c.args.tokens.now ≡ gifts_of c.self.inside.core.plan.channels c.args.actor (count c.self.inside.core.now c.args.actor) c.args.n
@@ -35,29 +32,13 @@ append_where-requires-clause-exists c =
     let there : c.args.actor < length c.self.inside.core.plan.sources = rw (← c.self.view_is) at c.requires.can.there in
     omega (arith, there, sinks_each _ _ _ _ _ c.self.invariant)
 
-pub note_firings-requires-clause-whole : goal.note_firings-requires-clause-whole
-note_firings-requires-clause-whole c =
-    let len = all (goal.at.note_firings-requires-clause-whole c).After-fire-arg-1 in
-    let has : HasPhases c.self.inside.core.plan.channels c.args.actor 1 = rw (← c.self.view_is) at c.requires.phases in
-    let each : c.args.each ≡ gift c.args.actor (count c.self.inside.core.now c.args.actor) c.self.inside.core.plan.channels =
-    rw (← c.self.view_is) at c.requires.each in
-    let t = gifts_times c.self.inside.core.plan.channels c.args.actor has (count c.self.inside.core.now c.args.actor) c.args.n in
-    let m = ap (λ (x : ℕ). c.args.n * x) each in
-    omega (arith, len, t, m)
-
 -- where all has come to
-module _ (c : After-note_firings) where
+module _ (c : After-append_where) where
   abbrev tokens : List ℤ
   tokens = get_or (feeds_in c.self.inside.reads.items) c.args.actor []
 
   can : CanFire c.self.inside.core.plan c.self.inside.core.now c.args.actor c.args.n
   can = rw (← c.self.view_is) at c.requires.can
-
-  has : HasPhases c.self.inside.core.plan.channels c.args.actor 1
-  has = rw (← c.self.view_is) at c.requires.phases
-
-  each : c.args.each ≡ gift c.args.actor (count c.self.inside.core.now c.args.actor) c.self.inside.core.plan.channels
-  each = rw (← c.self.view_is) at c.requires.each
 
   buffer : length tokens ≡ needs_of c.self.inside.core.plan.channels c.args.actor (count c.self.inside.core.now c.args.actor) c.args.n
   buffer = rw (← c.self.view_is) at c.requires.buffer
@@ -91,19 +72,19 @@ module _ (c : After-note_firings) where
 
 pub invariant_of-self : goal.invariant_of-self
 invariant_of-self c =
-    let at : After-note_firings = (goal.at.invariant_of-self c).After-note_firings in
-    subst (λ (b : Bool). IsBook (floor_of b c.self.inside.work c.fire.new.self c.note_firings.new.journal.moves c.append_where.new.self.lists)
+    let at : After-append_where = (goal.at.invariant_of-self c).After-append_where in
+    subst (λ (b : Bool). IsBook (floor_of b c.self.inside.work c.fire.new.self c.note_firings.new.self.moves c.append_where.new.self.lists)
     (feeds_in c.self.inside.reads.items)) (sym c.note_firings.ensures.keeps)
     (book_fired c.self.inside.journal.keeps c.self.inside.journal.keeps c.self.inside.work c.self.inside.core c.fire.new.self c.self.inside.journal.moves
-    c.note_firings.new.journal.moves c.self.inside.sinks.lists c.append_where.new.self.lists (feeds_in c.self.inside.reads.items) c.args.actor c.args.n
-    c.args.each (tokens at) c.args.tokens.now c.self.invariant (has at) (each at) (made at) c.note_firings.ensures.moves (took at))
+    c.note_firings.new.self.moves c.self.inside.sinks.lists c.append_where.new.self.lists (feeds_in c.self.inside.reads.items) c.args.actor c.args.n
+    (tokens at) c.args.tokens.now c.self.invariant (made at) c.note_firings.ensures.moves (took at))
 
 pub returns-clause-made : goal.returns-clause-made
 returns-clause-made c =
-    let at : After-note_firings = (goal.at.returns-clause-made c).After-note_firings in
+    let at : After-append_where = (goal.at.returns-clause-made c).After-append_where in
     rw (← c.self.view_is) (has_made c.self.inside.journal.keeps c.self.inside.work c.self.inside.core c.fire.new.self c.self.inside.journal
-    c.note_firings.new.journal c.self.inside.sinks c.append_where.new.self (feeds_in c.self.inside.reads.items)
-    c.args.actor c.args.n c.args.each (tokens at) c.args.tokens.now c.self.invariant.kept.plan (has at) (each at) (made at) c.note_firings.ensures.moves
+    c.note_firings.new.self c.self.inside.sinks c.append_where.new.self (feeds_in c.self.inside.reads.items)
+    c.args.actor c.args.n (tokens at) c.args.tokens.now c.self.invariant.kept.plan (made at) c.note_firings.ensures.moves
     c.note_firings.ensures.keeps)
 
 pub append_where-requires-clause-room : goal.append_where-requires-clause-room
@@ -117,12 +98,6 @@ index-taken-requires c = grind (arith, common_steps)
 
 pub fire-requires-clause-can : goal.fire-requires-clause-can
 fire-requires-clause-can c = grind (arith, common_steps)
-
-pub note_firings-requires-clause-width : goal.note_firings-requires-clause-width
-note_firings-requires-clause-width c = grind (arith, common_steps)
-
-pub note_firings-requires-clause-room : goal.note_firings-requires-clause-room
-note_firings-requires-clause-room c = grind (arith, common_steps)
 
 pub returns-clause-room : goal.returns-clause-room
 returns-clause-room c = grind (arith, common_steps)

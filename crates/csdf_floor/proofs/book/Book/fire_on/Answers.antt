@@ -1,13 +1,10 @@
 use Rattle.std.proofs.lemmas.Grind.{common_steps}
-use Rattle.std.proofs.Common.{◌≡◌, ◌*◌, ◌++◌, ℕ, List, [], length, get_or, set, cond, ap, sym, subst, ◌∙◌, arith, Bool, false}
+use Rattle.std.proofs.Common.{◌≡◌, ◌++◌, ℕ, List, [], length, get_or, set, cond, ap, sym, subst, ◌∙◌, arith, Bool, false}
 use Rattle.std.specs.Prelude.{ℤ}
 use Rattle.csdf_core.specs.Blocks.{gifts_of}
-use Rattle.csdf_core.specs.Feedback.{CanGoOn, IsFeedback}
-use Rattle.csdf_core.specs.Phases.{HasPhases}
+use Rattle.csdf_core.specs.Feedback.{CanGoOn}
 use Rattle.csdf_core.specs.Plan.{Plan}
-use Rattle.csdf_core.specs.Rows.{gift}
 use Rattle.csdf_core.specs.Step.{count}
-use Rattle.csdf_core.proofs.OnePhase.{gifts_times}
 use Rattle.csdf_floor.specs.Floor.{FloorView}
 use Rattle.csdf_floor.specs.Inside.{IsBook}
 use Rattle.csdf_floor.specs.Making.{AreOwnValues}
@@ -17,7 +14,7 @@ use Rattle.csdf_floor.proofs.Books.{floor_of, sinks_after}
 use Rattle.csdf_floor.proofs.LoopMakings.{fired_on_book}
 use Rattle.csdf_floor.proofs.Makings.{IsMade, book_fired, has_made, length_made}
 use Rattle.csdf_floor.proofs.book.Book.fire_on.Goals as goal
-use Rattle.csdf_floor.proofs.book.Book.fire_on.Goals.{After-note_firings}
+use Rattle.csdf_floor.proofs.book.Book.fire_on.Goals.{After-go_on}
 
 -- how many tokens they write
 all_given : (f : FloorView) (a n : ℕ) (v : List ℤ) → f.core.plan ≡ (program f.work).plan → AreOwnValues f a n v
@@ -31,31 +28,10 @@ go_on-requires-clause-all c =
     all_given (floor_of c.self.inside.journal.keeps c.self.inside.work c.self.inside.core c.self.inside.journal.moves c.self.inside.sinks.lists)
     c.args.actor c.args.n c.args.tokens.now c.self.invariant.kept.plan (rw (← c.self.view_is) at c.requires.values)
 
-pub note_firings-requires-clause-whole : goal.note_firings-requires-clause-whole
-note_firings-requires-clause-whole c =
-    let plan : Plan = c.self.inside.core.plan in
-    let k : ℕ = count c.self.inside.core.now c.args.actor in
-    let len = all_given (floor_of c.self.inside.journal.keeps c.self.inside.work c.self.inside.core c.self.inside.journal.moves c.self.inside.sinks.lists)
-    c.args.actor c.args.n c.args.tokens.now c.self.invariant.kept.plan (rw (← c.self.view_is) at c.requires.values) in
-    let told : IsFeedback plan c.args.actor c.args.feedback = rw (← c.self.view_is) at c.requires.feedback in
-    let each : c.args.each ≡ gift c.args.actor k plan.channels = rw (← c.self.view_is) at c.requires.each in
-    let t = gifts_times plan.channels c.args.actor told.keeps.phases k c.args.n in
-    let m = ap (λ (x : ℕ). c.args.n * x) each in
-    omega (arith, len, t, m)
-
 -- where all has come to
-module _ (c : After-note_firings) where
+module _ (c : After-go_on) where
   can : CanGoOn c.self.inside.core.plan c.self.inside.core.now c.args.actor c.args.feedback.channel c.args.n
   can = rw (← c.self.view_is) at c.requires.can
-
-  told : IsFeedback c.self.inside.core.plan c.args.actor c.args.feedback
-  told = rw (← c.self.view_is) at c.requires.feedback
-
-  has : HasPhases c.self.inside.core.plan.channels c.args.actor 1
-  has = told.keeps.phases
-
-  each : c.args.each ≡ gift c.args.actor (count c.self.inside.core.now c.args.actor) c.self.inside.core.plan.channels
-  each = rw (← c.self.view_is) at c.requires.each
 
   own : AreOwnValues (floor_of c.self.inside.journal.keeps c.self.inside.work c.self.inside.core c.self.inside.journal.moves c.self.inside.sinks.lists)
       c.args.actor c.args.n c.args.tokens.now
@@ -77,19 +53,19 @@ module _ (c : After-note_firings) where
 
 pub invariant_of-self : goal.invariant_of-self
 invariant_of-self c =
-    let at : After-note_firings = (goal.at.invariant_of-self c).After-note_firings in
-    subst (λ (b : Bool). IsBook (floor_of b c.self.inside.work c.go_on.new.self c.note_firings.new.journal.moves c.self.inside.sinks.lists)
+    let at : After-go_on = (goal.at.invariant_of-self c).After-go_on in
+    subst (λ (b : Bool). IsBook (floor_of b c.self.inside.work c.go_on.new.self c.note_firings.new.self.moves c.self.inside.sinks.lists)
     (feeds_in c.self.inside.reads.items)) (sym c.note_firings.ensures.keeps)
     (book_fired c.self.inside.journal.keeps c.self.inside.journal.keeps c.self.inside.work c.self.inside.core c.go_on.new.self c.self.inside.journal.moves
-    c.note_firings.new.journal.moves c.self.inside.sinks.lists c.self.inside.sinks.lists (feeds_in c.self.inside.reads.items) c.args.actor c.args.n
-    c.args.each (own at).tokens c.args.tokens.now c.self.invariant (has at) (each at) (made at) c.note_firings.ensures.moves (took at))
+    c.note_firings.new.self.moves c.self.inside.sinks.lists c.self.inside.sinks.lists (feeds_in c.self.inside.reads.items) c.args.actor c.args.n
+    (own at).tokens c.args.tokens.now c.self.invariant (made at) c.note_firings.ensures.moves (took at))
 
 pub returns-clause-made : goal.returns-clause-made
 returns-clause-made c =
-    let at : After-note_firings = (goal.at.returns-clause-made c).After-note_firings in
+    let at : After-go_on = (goal.at.returns-clause-made c).After-go_on in
     rw (← c.self.view_is) (has_made c.self.inside.journal.keeps c.self.inside.work c.self.inside.core c.go_on.new.self c.self.inside.journal
-    c.note_firings.new.journal c.self.inside.sinks c.self.inside.sinks (feeds_in c.self.inside.reads.items)
-    c.args.actor c.args.n c.args.each (own at).tokens c.args.tokens.now c.self.invariant.kept.plan (has at) (each at) (made at) c.note_firings.ensures.moves
+    c.note_firings.new.self c.self.inside.sinks c.self.inside.sinks (feeds_in c.self.inside.reads.items)
+    c.args.actor c.args.n (own at).tokens c.args.tokens.now c.self.invariant.kept.plan (made at) c.note_firings.ensures.moves
     c.note_firings.ensures.keeps)
 
 pub go_on-requires-clause-can : goal.go_on-requires-clause-can

@@ -17,17 +17,8 @@ fire-requires-clause-sink c = grind (arith, common_steps)
 pub fire-requires-clause-buffer : goal.fire-requires-clause-buffer
 fire-requires-clause-buffer c = grind (arith, common_steps)
 
-pub fire-requires-clause-phases : goal.fire-requires-clause-phases
-fire-requires-clause-phases c = grind (arith, common_steps)
-
-pub fire-requires-clause-each : goal.fire-requires-clause-each
-fire-requires-clause-each c = grind (arith, common_steps)
-
 pub block_values_into-requires-clause-buffer : goal.block_values_into-requires-clause-buffer
 block_values_into-requires-clause-buffer c = grind (arith, common_steps)
-
-pub block_values_into-requires-clause-phases : goal.block_values_into-requires-clause-phases
-block_values_into-requires-clause-phases c = grind (arith, common_steps)
 
 pub peek-requires-clause-buffer : goal.peek-requires-clause-buffer
 peek-requires-clause-buffer c = grind (arith, common_steps)

@@ -38,9 +38,3 @@ own_values_into-requires-clause-feedback c = grind (arith, common_steps)
 
 pub own_values_into-requires-clause-buffer : goal.own_values_into-requires-clause-buffer
 own_values_into-requires-clause-buffer c = grind (arith, common_steps)
-
-pub fire_on-requires-clause-width : goal.fire_on-requires-clause-width
-fire_on-requires-clause-width c = grind (arith, common_steps)
-
-pub fire_on-requires-clause-each : goal.fire_on-requires-clause-each
-fire_on-requires-clause-each c = grind (arith, common_steps)

@@ -1,0 +1,54 @@
+use Rattle.std.proofs.lemmas.Grind.{common_steps}
+use Rattle.std.proofs.Common.{◌≡◌, ◌+◌, ◌-◌, ◌++◌, ℕ, List, length, drop, take, ap, ◌∙◌, arith}
+use Rattle.std.specs.Prelude.{ℤ}
+use Rattle.std.proofs.lemmas.List.{length-append, length-drop, take_all}
+use Rattle.csdf_core.specs.Rows.{gift}
+use Rattle.csdf_floor.specs.Journal.{Program}
+use Rattle.csdf_floor.specs.Making.{phase_value}
+use Rattle.csdf_floor.specs.Work.{program}
+use Rattle.csdf_floor.proofs.PhaseValues.{amounts_less, amounts_one, gifts_less, gifts_one, length_phase, phases_more}
+use Rattle.csdf_floor.proofs.work.Work.push_phases.Goals as goal
+
+-- a list from a place on
+from_on : (xs : List ℤ) (at : ℕ) → take (length xs - at) (drop at xs) ≡ drop at xs
+from_on xs at = take_all (length xs - at) (drop at xs) (let d = length-drop at xs in omega (arith, d))
+
+pub push_phase-requires-clause-tokens : goal.push_phase-requires-clause-tokens
+push_phase-requires-clause-tokens c =
+    let one = amounts_one (program c.args.self.now) c.args.actor c.loop-firing.firing (c.args.first + c.args.n) c.loop-firing.at
+    (length c.args.tokens.now) c.loop-firing-test.true c.loop-firing.invariant.tokens in
+    let long = ap length (from_on c.args.tokens.now c.loop-firing.at) ∙ length-drop c.loop-firing.at c.args.tokens.now in
+    omega (arith, one, long)
+
+pub push_phase-requires-clause-room : goal.push_phase-requires-clause-room
+push_phase-requires-clause-room c =
+    gifts_one (program c.args.self.now).plan.channels c.args.actor c.loop-firing.firing (c.args.first + c.args.n) (length c.loop-firing.outputs.items)
+    c.loop-firing.outputs.capacity c.loop-firing-test.true c.loop-firing.invariant.room
+
+pub overflow_add-at : goal.overflow_add-at
+overflow_add-at c =
+    let small = amounts_less (program c.args.self.now) c.args.actor c.loop-firing.firing (c.args.first + c.args.n) c.loop-firing.at c.in_ok-at.field-0
+    (length c.args.tokens.now) c.loop-firing-test.true c.in_ok-at.ensures.amount c.loop-firing.invariant.tokens in
+    grind (arith, common_steps, small)
+
+pub loop-firing-preserved : goal.loop-firing-preserved
+loop-firing-preserved c =
+    let w : Program = program c.args.self.now in
+    let a : ℕ = c.args.actor in
+    let k : ℕ = c.loop-firing.firing in
+    let last : ℕ = c.args.first + c.args.n in
+    let rest : List ℤ = drop c.loop-firing.at c.args.tokens.now in
+    let items : c.push_phase.new.outputs.items ≡ c.loop-firing.outputs.items ++ phase_value w a k rest = c.in_ok-at.ensures.items
+    ∙ ap (λ (xs : List ℤ). c.loop-firing.outputs.items ++ phase_value w a k xs) (from_on c.args.tokens.now c.loop-firing.at) in
+    let longer : length c.push_phase.new.outputs.items ≡ length c.loop-firing.outputs.items + gift a k w.plan.channels =
+    ap length items ∙ length-append c.loop-firing.outputs.items (phase_value w a k rest)
+    ∙ ap (λ (j : ℕ). length c.loop-firing.outputs.items + j) (length_phase w a k rest) in
+    let left = gifts_less w.plan.channels a k last (length c.loop-firing.outputs.items) (length c.push_phase.new.outputs.items)
+    c.loop-firing.outputs.capacity c.loop-firing-test.true longer c.loop-firing.invariant.room in
+    record {
+      values = phases_more w a k last c.loop-firing.at c.in_ok-at.field-0 c.args.tokens.now c.loop-firing.outputs.items c.push_phase.new.outputs.items _
+          c.loop-firing-test.true c.in_ok-at.ensures.amount items c.loop-firing.invariant.values;
+      tokens = amounts_less w a k last c.loop-firing.at c.in_ok-at.field-0 (length c.args.tokens.now) c.loop-firing-test.true c.in_ok-at.ensures.amount
+          c.loop-firing.invariant.tokens;
+      room = omega (arith, left, c.in_ok-at.ensures.capacity);
+    }

@@ -1,0 +1,140 @@
+//! The values of an actor's next firings, each with its own counts and its own part of the tokens: those of
+//! an actor of several phases.
+
+ghost use Rattle.std.specs.Prelude.{◌≡◌, ◌+◌, ◌++◌, ◌^◌, ◌<◌, ◌≤◌, [], false, true, All, IfOk, OnOk, length, slice_index_or, slice_range, sum};
+ghost use Rattle.smallvec.specs.SmallVec.{HasRoomFor};
+ghost use Rattle.csdf_core.specs.Blocks.{CanFire, gifts_of, needs_of};
+ghost use Rattle.csdf_core.specs.Rows.{gift};
+ghost use Rattle.csdf_core.specs.Step.{count, given, is_source};
+ghost use Rattle.csdf_floor.specs.Journal.{output_counts};
+ghost use Rattle.csdf_floor.specs.Making.{amount_of, amounts_of, made_value, phase_value, phase_values};
+ghost use Rattle.csdf_floor.specs.Work.{feed_of, program};
+
+use crate::book::Book;
+use crate::work::Work;
+use csdf_core::Block;
+use csdf_kernel::{Counts, Outputs, push_value};
+use csdf_model::MAX_FIRINGS_PER_ACTOR;
+use std::alloc::AllocError;
+
+/// How many tokens the counts add up to.
+fn total_of(counts: &[u32]) -> usize
+    requires { sum counts.now < 2 ^ 32 }
+    ensures { result ≡ sum counts.now }
+{
+    counts.iter().sum::<u32>() as usize
+}
+
+impl Work {
+    /// How many tokens the firing computes from, which writes so many to each output.
+    fn amount(&self, actor: u32, firing: u32, counts: &[u32]) -> usize
+        requires exists { actor < length self.now.accepted.graph.actors }
+        requires counts { counts.now ≡ output_counts (program self.now) actor firing }
+        requires few_counts { length counts.now ≤ 128 }
+        requires small_counts { All (λ count. count ≤ 64) counts.now }
+        ensures value { result ≡ amount_of (program self.now) actor firing }
+        ensures small { result ≤ 8192 }
+    {
+        if self.is_source(actor) {
+            return total_of(counts);
+        }
+        self.need(actor, firing)
+    }
+
+    /// The kernel's value of the firing, at the end of a list that has room for it, and how many of the
+    /// tokens it computes from: the first of them.
+    fn push_phase(
+        &self,
+        actor: u32,
+        firing: u32,
+        tokens: &[i32],
+        counts: &mut Counts,
+        outputs: &mut Outputs,
+    ) -> Result<usize, AllocError>
+        requires exists { actor < length self.now.accepted.graph.actors }
+        requires tokens { amount_of (program self.now) actor firing ≤ length tokens.now }
+        requires room { HasRoomFor outputs.old (gift actor firing (program self.now).plan.channels) }
+        ensures amount { IfOk result (λ amount. amount ≡ amount_of (program self.now) actor firing) }
+        ensures items { OnOk result (outputs.new.items ≡ outputs.old.items ++ phase_value (program self.now) actor firing tokens.now) }
+        ensures capacity { OnOk result (outputs.new.capacity ≡ outputs.old.capacity) }
+    {
+        self.counts_into(actor, firing, counts)?;
+        let amount = self.amount(actor, firing, counts.as_slice());
+        let kernel = self.kernel(actor);
+        push_value(outputs, kernel, counts.as_slice(), &tokens[..amount]);
+        Ok(amount)
+    }
+
+    /// The kernel's values of n firings of the actor, from this one on, end to end, at the end of a list
+    /// that has room for them. They compute from these tokens, one after the other.
+    fn push_phases(
+        &self,
+        actor: u32,
+        first: u32,
+        n: u32,
+        tokens: &[i32],
+        counts: &mut Counts,
+        outputs: &mut Outputs,
+    ) -> Result<(), AllocError>
+        requires exists { actor < length self.now.accepted.graph.actors }
+        requires few { first + n ≤ MAX_FIRINGS_PER_ACTOR }
+        requires tokens { amounts_of (program self.now) actor first n ≤ length tokens.now }
+        requires room { HasRoomFor outputs.old (gifts_of (program self.now).plan.channels actor first n) }
+        ensures { OnOk result (outputs.new.items ≡ outputs.old.items ++ phase_values (program self.now) actor first n tokens.now) }
+    {
+        let last = first + n;
+        let mut at = 0;
+        for firing in first..last {
+            at += self.push_phase(actor, firing, &tokens[at..], counts, outputs)?;
+        }
+        Ok(())
+    }
+}
+
+impl Book {
+    /// What the actor's next firings compute from, which write so many tokens: what is in its buffer, or
+    /// for a source the next part of its file.
+    fn block_inputs(&self, actor: u32, written: usize) -> &[i32]
+        requires exists { actor < length self.now.shown.core.plan.sources }
+        requires small { is_source (program self.now.shown.work).plan actor ≡ true → written ≤ 1_000_000 }
+        ensures read { is_source (program self.now.shown.work).plan actor ≡ false → result.now ≡ slice_index_or self.now.reads actor [] }
+        ensures fed { is_source (program self.now.shown.work).plan actor ≡ true → result.now
+            ≡ slice_range (feed_of self.now.shown.work.feeds actor)
+            (given (program self.now.shown.work).plan actor (count self.now.shown.core.now actor))
+            (given (program self.now.shown.work).plan actor (count self.now.shown.core.now actor) + written) }
+    {
+        if self.work.is_source(actor) {
+            let used = self.core.written(actor) as usize;
+            return self.work.part(actor, used, written);
+        }
+        &self.reads[actor as usize]
+    }
+
+    /// The kernel's values of the block, whose tokens are in the actor's buffer, or for a source in its
+    /// file, in the place of what the outputs hold.
+    pub(crate) fn phased_values_into(
+        &self,
+        actor: u32,
+        block: Block,
+        counts: &mut Counts,
+        outputs: &mut Outputs,
+    ) -> Result<(), AllocError>
+        requires can { CanFire self.now.shown.core.plan self.now.shown.core.now actor block.firings }
+        requires given { block.given ≡ gifts_of self.now.shown.core.plan.channels actor (count self.now.shown.core.now actor) block.firings }
+        requires buffer { length (slice_index_or self.now.reads actor [])
+            ≡ needs_of self.now.shown.core.plan.channels actor (count self.now.shown.core.now actor) block.firings }
+        ensures { OnOk result (outputs.new.items ≡ made_value (program self.now.shown.work) actor (count self.now.shown.core.now actor) block.firings
+            (slice_index_or self.now.reads actor [])) }
+    {
+        let first = self.core.fired(actor);
+        let written = block.given as usize;
+        outputs.clear();
+        if written == 0 {
+            return Ok(());
+        }
+        outputs.reserve(written)?;
+        let tokens = self.block_inputs(actor, written);
+        self.work
+            .push_phases(actor, first, block.firings, tokens, counts, outputs)
+    }
+}
