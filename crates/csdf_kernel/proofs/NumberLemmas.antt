@@ -1,14 +1,14 @@
 -- The arithmetic of kernels, as the code does it.
 use mathlib.Core.Logic.{dite}
-use Rattle.std.proofs.Common.{◌≡◌, ◌⊎◌, inl, inr, ℕ, zero, suc, ◌+◌, ◌-◌, ◌*◌, ◌/◌, ◌^◌, ◌<◌, ◌≤◌, List, length, refl, sym, subst, ap, ◌∙◌, arith, ℤ}
+use Rattle.std.proofs.Common.{◌≡◌, ◌⊎◌, inl, inr, ℕ, zero, suc, ◌+◌, ◌-◌, ◌*◌, ◌/◌, ◌^◌, ◌<◌, ◌≤◌, List, length, refl, sym, subst, ap, ◌∙◌, arith, ℤ, drop}
 use Rattle.std.proofs.Common.{pos, negsuc, ◌+ℤ◌, ◌*ℤ◌, ◌≤ℤ◌, ◌<ℤ◌}
 use Rattle.std.proofs.lemmas.List.Sums.{fold_push}
 use Rattle.std.proofs.lemmas.Int.{ints}
-use Rattle.std.proofs.lemmas.List.{get_or_past}
+use Rattle.std.proofs.lemmas.List.{get_or-drop, get_or-take, get_or_past, length-take}
 use Rattle.std.proofs.Math.IntN.{*ℤ-zero, zero-*ℤ}
 use Rattle.std.proofs.Math.Nat.{div-mul-le_self, div-le_self}
 use Rattle.std.proofs.lemmas.Nat.{pow_pos}
-use Rattle.std.specs.Prelude.{FitsSigned, unsigned_abs}
+use Rattle.std.specs.Prelude.{FitsSigned, slice_range, unsigned_abs}
 use Rattle.std.specs.Int.{int_max, int_min, w32}
 use Rattle.std.specs.Int.Signed.{shr_z}
 use native.Mathlib.Decide.{dec_lt}
@@ -99,6 +99,16 @@ narrow_window weights xs window base w narrow j p = dite (dec_lt p 32)
     (λ lt. subst (λ (z : ℤ). unsigned_abs (token_at weights j *ℤ z) ≤ 2 ^ 26) (sym (w.alike p lt)) (narrow j (base + p)))
     (λ ge.
     let none : token_at window p ≡ pos 0 = get_or_past window p (pos 0) (omega (arith, ge, w.long)) in
+    subst (λ (z : ℤ). unsigned_abs z ≤ 2 ^ 26) (sym (ap (λ (z : ℤ). token_at weights j *ℤ z) none ∙ *ℤ-zero (token_at weights j))) (omega arith))
+
+-- and so are those with a part of the inputs
+pub narrow_part : (weights xs : List ℤ) (from to : ℕ) → AreNarrow weights xs → AreNarrow weights (slice_range xs from to)
+narrow_part weights xs from to narrow j p = dite (dec_lt p (to - from))
+    (λ lt. subst (λ (z : ℤ). unsigned_abs (token_at weights j *ℤ z) ≤ 2 ^ 26)
+    (sym (get_or-take (to - from) (drop from xs) p (pos 0) lt ∙ get_or-drop from xs p (pos 0))) (narrow j (from + p)))
+    (λ ge.
+    let none : token_at (slice_range xs from to) p ≡ pos 0 =
+    get_or_past (slice_range xs from to) p (pos 0) (let few = length-take (to - from) (drop from xs) in omega (arith, ge, few)) in
     subst (λ (z : ℤ). unsigned_abs z ≤ 2 ^ 26) (sym (ap (λ (z : ℤ). token_at weights j *ℤ z) none ∙ *ℤ-zero (token_at weights j))) (omega arith))
 
 -- a filter tells the same of a window, from the place where it begins

@@ -1,5 +1,7 @@
 -- What the code keeps of a filter while it fires.
 use Rattle.std.specs.Prelude.{ℕ, ◌≡◌, ◌+◌, ◌<◌, ◌≤◌, ◌^◌, Bool, IsTrue, List, ℤ, length, unsigned_abs, ◌*ℤ◌}
+use Rattle.csdf_model.specs.declared.parts.Kernel.{Kernel}
+use Rattle.csdf_model.specs.declared.parts.Kernel.TheVariants.{Source, Sink, Copy, Sum, Fir}
 use Rattle.csdf_kernel.specs.Value.{token_at}
 
 -- each of the first n weights is at most 2^27 in size, so that its product with a token is at most 2^58, and sixteen add up to 2^62 at most
@@ -34,3 +36,11 @@ pub record IsNarrow (weights : List ℤ) (taps : ℕ) (small : Bool) (xs : List 
   pub sixteen : taps ≡ 16
   pub weighted : 16 ≤ length weights
   pub narrow : AreNarrow weights xs
+
+-- these are the weights, the taps and the shift of the kernel, where it is a filter
+abbrev pub IsFilterOf : Kernel → List ℤ → ℕ → ℕ → Type 0
+IsFilterOf (Fir ws n by) weights taps shift = (weights ≡ ws) × (taps ≡ n) × (shift ≡ by)
+IsFilterOf Source weights taps shift = Unit {0}
+IsFilterOf Sink weights taps shift = Unit {0}
+IsFilterOf Copy weights taps shift = Unit {0}
+IsFilterOf Sum weights taps shift = Unit {0}

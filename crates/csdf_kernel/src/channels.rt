@@ -73,22 +73,23 @@ fn place_after(place: usize, inputs: &[i32]) -> usize
     0
 }
 
-/// The filtered inputs, for each channel from their start.
+/// The filtered inputs, for each channel from their start. The products are narrow where they are marked so.
 #[tactic(auto, using(crate::proofs::PlaceLemmas::one_channel))]
 pub(crate) fn push_filtered(
     outputs: &mut Outputs,
     counts: &[u32],
     filter: &Filter<'_>,
+    narrow: bool,
     inputs: &[i32],
 )
     requires room { HasRoomFor outputs.old (sum counts.now) }
     requires few { sum counts.now ≤ 8192 }
     requires in_range { IsInRange filter.now.weights.now filter.now.taps filter.now.shift filter.now.small }
+    requires narrow { IsTrue narrow → IsNarrow filter.now.weights.now filter.now.taps filter.now.small inputs.now }
     ensures items { outputs.new.items ≡ outputs.old.items
         ++ flat_map (places (filter_token filter.now.weights.now filter.now.taps filter.now.shift inputs.now)) counts.now }
     ensures capacity { outputs.new.capacity ≡ outputs.old.capacity }
 {
-    let narrow = filter.is_narrow(inputs);
     for count in counts {
         push_filter(outputs, *count as usize, filter, narrow, inputs);
     }

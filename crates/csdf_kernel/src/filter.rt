@@ -1,13 +1,14 @@
 //! A filter, told token by token. A place of its inputs is called whole where there are sixteen taps,
 //! all with small weights, and each finds a token.
-ghost use Rattle.std.specs.Prelude.{◌≡◌, ◌<◌, ◌≤◌, ◌+◌, ℕ, IsTrue, length};
+ghost use Rattle.std.specs.Prelude.{◌≡◌, ◌<◌, ◌≤◌, ◌+◌, ℕ, IsTrue, length, unsigned_abs};
 ghost use Rattle.csdf_kernel.specs.Filter.{IsInRange, IsNarrow, IsWhole, IsWindow};
-ghost use Rattle.csdf_kernel.specs.Value.{filter_token, places};
+ghost use Rattle.csdf_kernel.specs.Value.{filter_token, places, token_at};
 
 use crate::numbers::{clamped, products_at, shifted};
 use crate::small::{
-    are_narrow, are_small, eight_narrow_tokens_at, narrow_shifted, sixteen_narrow_products_at,
-    sixteen_products_at, small_clamped, small_products_at, small_shifted,
+    are_narrow, eight_narrow_tokens_at, greatest_size, is_small, narrow_shifted,
+    sixteen_narrow_products_at, sixteen_products_at, small_clamped, small_products_at,
+    small_shifted,
 };
 
 /// A filter: the first `taps` weights count, and each sum of products is divided by two to the power
@@ -17,12 +18,14 @@ pub(crate) struct Filter<'a> {
     pub(crate) weights: &'a [i32],
     pub(crate) taps: u32,
     pub(crate) shift: u32,
-    /// Whether each weight that counts is so small that 64 bits hold every sum.
+    /// Whether each weight is so small that 64 bits hold every sum.
     pub(crate) small: bool,
+    /// The greatest size of a weight.
+    pub(crate) greatest: u32,
 }
 
 impl<'a> Filter<'a> {
-    /// The filter of these weights, of which those that count are gone through once.
+    /// The filter of these weights, which are gone through once.
     pub(crate) fn new(weights: &'a [i32], taps: u32, shift: u32) -> Filter<'a>
         requires taps { taps ≤ 16 }
         requires shift { shift ≤ 31 }
@@ -30,12 +33,15 @@ impl<'a> Filter<'a> {
         ensures taps { result.taps ≡ taps }
         ensures shift { result.shift ≡ shift }
         ensures in_range { IsInRange result.weights.now result.taps result.shift result.small }
+        ensures greatest { (j : ℕ) → unsigned_abs (token_at result.weights.now j) ≤ result.greatest }
     {
+        let greatest = greatest_size(weights);
         Filter {
             weights,
             taps,
             shift,
-            small: are_small(weights, taps as usize),
+            small: is_small(greatest),
+            greatest,
         }
     }
 
@@ -62,10 +68,11 @@ impl<'a> Filter<'a> {
 
     /// Whether there are sixteen taps, and each product of a weight with one of these tokens is narrow.
     pub(crate) fn is_narrow(&self, inputs: &[i32]) -> bool
+        requires { (j : ℕ) → unsigned_abs (token_at self.now.weights.now j) ≤ self.now.greatest }
         ensures { IsTrue result → IsNarrow self.now.weights.now self.now.taps self.now.small inputs.now }
     {
         if self.is_sixteen() {
-            return are_narrow(self.weights, inputs);
+            return are_narrow(self.weights, self.greatest, inputs);
         }
         false
     }

@@ -4,7 +4,7 @@ ghost use Rattle.std.specs.Prelude.{◌≡◌, ◌≤◌, ◌<◌, ◌+◌, ◌-
 ghost use Rattle.csdf_kernel.specs.Loop.{beside, latest_of, loop_values};
 ghost use Rattle.csdf_kernel.specs.Value.{HasFilterInRange};
 
-use crate::outputs::{Outputs, make_room, push_value, total_of};
+use crate::outputs::{Outputs, filter_of, make_room, push_value_by, total_of};
 use csdf_model::Kernel;
 use std::alloc::AllocError;
 
@@ -66,12 +66,14 @@ pub fn eval_loop(
 {
     let size = total_of(counts);
     make_room(outputs, firings as usize * size)?;
+    let filter = filter_of(kernel);
     let each = window.len() - state.len();
     let mut at = 0;
     for _firing in 0..firings {
         let own = latest(state, outputs.as_slice(), size, before);
         lay(window, is_first, own, &others[at..at + each]);
-        push_value(outputs, kernel, counts, window);
+        let narrow = filter.is_narrow(window);
+        push_value_by(outputs, kernel, &filter, narrow, counts, window);
         at += each;
     }
     Ok(())

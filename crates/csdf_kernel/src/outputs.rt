@@ -1,7 +1,8 @@
 //! The outputs of a job, in one list.
-ghost use Rattle.std.specs.Prelude.{◌≡◌, ◌≤◌, ◌<◌, ◌^◌, ◌*◌, ◌++◌, ◌∷◌, [], length, sum, All, IsOk, IsTrue, OnOk, OnErr};
+ghost use Rattle.std.specs.Prelude.{◌≡◌, ◌≤◌, ◌<◌, ◌^◌, ◌*◌, ◌++◌, ◌∷◌, ℕ, [], length, sum, unsigned_abs, All, IsOk, IsTrue, OnOk, OnErr};
 ghost use Rattle.smallvec.specs.SmallVec.{HasRoomFor};
-ghost use Rattle.csdf_kernel.specs.Value.{value_of, values_of, GivesAsRead, HasFilterInRange};
+ghost use Rattle.csdf_kernel.specs.Filter.{IsFilterOf, IsInRange, IsNarrow};
+ghost use Rattle.csdf_kernel.specs.Value.{token_at, value_of, values_of, GivesAsRead, HasFilterInRange};
 
 use crate::channels::{push_copies, push_filtered, push_same, push_source};
 use crate::filter::Filter;
@@ -21,13 +22,40 @@ pub(crate) fn total_of(counts: &[u32]) -> usize
     counts.iter().sum::<u32>() as usize
 }
 
-/// The kernel's value of one firing, at the end of a list that has room for it.
+/// The filter of the kernel, with its weights gone through once; where it is none, one that nobody asks.
+pub(crate) fn filter_of(kernel: &Kernel) -> Filter<'_>
+    requires { HasFilterInRange kernel.now }
+    ensures filter { IsFilterOf kernel.now result.weights.now result.taps result.shift }
+    ensures in_range { IsInRange result.weights.now result.taps result.shift result.small }
+    ensures greatest { (j : ℕ) → unsigned_abs (token_at result.weights.now j) ≤ result.greatest }
+{
+    match kernel {
+        Kernel::Fir {
+            weights,
+            taps,
+            shift,
+        } => Filter::new(weights, *taps, *shift),
+        Kernel::Source | Kernel::Sink | Kernel::Copy | Kernel::Sum => Filter::new(&[], 0, 0),
+    }
+}
+
+/// The kernel's value of one firing, at the end of a list that has room for it. Its filter is there, and
+/// is narrow where it is marked so.
 #[tactic(auto, unfolding(crate::specs::Value::value_of))]
-pub fn push_value(outputs: &mut Outputs, kernel: &Kernel, counts: &[u32], inputs: &[i32])
+pub(crate) fn push_value_by(
+    outputs: &mut Outputs,
+    kernel: &Kernel,
+    filter: &Filter<'_>,
+    narrow: bool,
+    counts: &[u32],
+    inputs: &[i32],
+)
     requires few_counts { length counts.now ≤ 128 }
     requires small_counts { All (λ count. count ≤ 64) counts.now }
     requires few_inputs { length inputs.now ≤ 8192 }
-    requires filter_in_range { HasFilterInRange kernel.now }
+    requires filter { IsFilterOf kernel.now filter.now.weights.now filter.now.taps filter.now.shift }
+    requires in_range { IsInRange filter.now.weights.now filter.now.taps filter.now.shift filter.now.small }
+    requires narrow { IsTrue narrow → IsNarrow filter.now.weights.now filter.now.taps filter.now.small inputs.now }
     requires room { HasRoomFor outputs.old (sum counts.now) }
     ensures items { outputs.new.items ≡ outputs.old.items ++ value_of kernel.now counts.now inputs.now }
     ensures capacity { outputs.new.capacity ≡ outputs.old.capacity }
@@ -38,15 +66,23 @@ pub fn push_value(outputs: &mut Outputs, kernel: &Kernel, counts: &[u32], inputs
         Kernel::Sink => push_same(outputs, count, 0),
         Kernel::Copy => push_copies(outputs, counts, inputs),
         Kernel::Sum => push_same(outputs, count, clamped(sum_of(inputs))),
-        Kernel::Fir {
-            weights,
-            taps,
-            shift,
-        } => {
-            let filter = Filter::new(weights, *taps, *shift);
-            push_filtered(outputs, counts, &filter, inputs);
-        }
+        Kernel::Fir { .. } => push_filtered(outputs, counts, filter, narrow, inputs),
     }
+}
+
+/// The kernel's value of one firing, at the end of a list that has room for it.
+pub fn push_value(outputs: &mut Outputs, kernel: &Kernel, counts: &[u32], inputs: &[i32])
+    requires few_counts { length counts.now ≤ 128 }
+    requires small_counts { All (λ count. count ≤ 64) counts.now }
+    requires few_inputs { length inputs.now ≤ 8192 }
+    requires filter_in_range { HasFilterInRange kernel.now }
+    requires room { HasRoomFor outputs.old (sum counts.now) }
+    ensures items { outputs.new.items ≡ outputs.old.items ++ value_of kernel.now counts.now inputs.now }
+    ensures capacity { outputs.new.capacity ≡ outputs.old.capacity }
+{
+    let filter = filter_of(kernel);
+    let narrow = filter.is_narrow(inputs);
+    push_value_by(outputs, kernel, &filter, narrow, counts, inputs);
 }
 
 /// Room for so many tokens in the place of what the list holds, which is let go.
@@ -122,7 +158,8 @@ fn push_all(outputs: &mut Outputs, tokens: &[i32])
 }
 
 /// The kernel's values of so many firings of the same counts, end to end, at the end of a list that has
-/// room for them. Each firing has the next `need` of the inputs.
+/// room for them. Each firing has the next `need` of the inputs. A filter's weights, and whether its
+/// products are narrow, are looked at once for all of them.
 fn push_values(
     outputs: &mut Outputs,
     kernel: &Kernel,
@@ -139,9 +176,18 @@ fn push_values(
     requires room { HasRoomFor outputs.old (firings * sum counts.now) }
     ensures { outputs.new.items ≡ outputs.old.items ++ values_of kernel.now counts.now need firings inputs.now }
 {
+    let filter = filter_of(kernel);
+    let narrow = filter.is_narrow(inputs);
     let mut at = 0;
     for _firing in 0..firings {
-        push_value(outputs, kernel, counts, &inputs[at..at + need]);
+        push_value_by(
+            outputs,
+            kernel,
+            &filter,
+            narrow,
+            counts,
+            &inputs[at..at + need],
+        );
         at += need;
     }
 }

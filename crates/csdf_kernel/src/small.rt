@@ -12,7 +12,7 @@ const GREATEST_SMALL: u32 = 1 << 27;
 const GREATEST_NARROW: u64 = 1 << 26;
 
 /// The greatest size of the numbers.
-fn greatest_size(numbers: &[i32]) -> u32
+pub(crate) fn greatest_size(numbers: &[i32]) -> u32
     ensures { (j : ℕ) → unsigned_abs (token_at numbers.now j) ≤ result }
 {
     let mut greatest = 0;
@@ -22,22 +22,21 @@ fn greatest_size(numbers: &[i32]) -> u32
     greatest
 }
 
-/// Whether each weight of the taps is small. Greater ones may add up in 64 bits too, and are not asked
-/// for.
-pub(crate) fn are_small(weights: &[i32], taps: usize) -> bool
-    ensures { IsTrue result → AreSmall weights.now taps }
+/// Whether a weight of this size is small. Greater ones may add up in 64 bits too, and are not asked for.
+pub(crate) fn is_small(size: u32) -> bool
+    ensures { IsTrue result → size ≤ 2 ^ 27 }
 {
-    let counting = taps.min(weights.len());
-    greatest_size(&weights[..counting]) <= GREATEST_SMALL
+    size <= GREATEST_SMALL
 }
 
-/// Whether the product of any weight with any token is narrow.
-pub(crate) fn are_narrow(weights: &[i32], inputs: &[i32]) -> bool
+/// Whether the product of any weight, of at most this size, with any token is narrow.
+pub(crate) fn are_narrow(weights: &[i32], greatest: u32, inputs: &[i32]) -> bool
+    requires { (j : ℕ) → unsigned_abs (token_at weights.now j) ≤ greatest }
     ensures { IsTrue result → AreNarrow weights.now inputs.now }
 {
-    let weight = u64::from(greatest_size(weights));
-    let token = u64::from(greatest_size(inputs));
-    weight * token <= GREATEST_NARROW
+    // `weights` is there for the contract alone.
+    let _ = weights;
+    u64::from(greatest) * u64::from(greatest_size(inputs)) <= GREATEST_NARROW
 }
 
 /// A narrow product.

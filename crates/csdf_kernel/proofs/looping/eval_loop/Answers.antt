@@ -26,20 +26,20 @@ loop-firing-preserved c =
     let old : List ℤ = c.loop-firing.outputs.items in
     let x : List ℤ = value_of c.args.kernel.now c.args.counts.now c.lay.new.window in
     let size : length x ≡ c.total_of-size.result = length_of_value c.args.kernel.now c.args.counts.now _ ∙ sym c.total_of-size.ensures in
-    let grown = c.push_value.ensures.items in
-    let longer : length c.push_value.new.outputs.items ≡ length old + sum c.args.counts.now =
+    let grown = c.push_value_by.ensures.items in
+    let longer : length c.push_value_by.new.outputs.items ≡ length old + sum c.args.counts.now =
     ap length grown ∙ length-append old x ∙ ap (λ k. length old + k) (size ∙ c.total_of-size.ensures) in
     let part = c.requires.part in
     let left = room_less (sum c.args.counts.now) c.args.firings c.loop-firing._firing (length old) _ more c.loop-firing.invariant.room in
     let state : List ℤ = latest_of c.args.state.now old c.total_of-size.result c.args.before in
-    let next : latest_of c.args.state.now c.push_value.new.outputs.items c.total_of-size.result c.args.before ≡ take (length state) (drop c.args.before x) =
+    let next : latest_of c.args.state.now c.push_value_by.new.outputs.items c.total_of-size.result c.args.before ≡ take (length state) (drop c.args.before x) =
     ap (λ (u : List ℤ). latest_of c.args.state.now u c.total_of-size.result c.args.before) grown
     ∙ latest_more c.args.state.now old x c.total_of-size.result c.args.before size
     ∙ ap (λ (j : ℕ). take j (drop c.args.before x)) (sym c.loop-firing.invariant.sized) in
     record {
       values = one_loop_more c.args.kernel.now c.args.counts.now c.args.is_first (length c.args.window.now - length c.args.state.now) c.args.before
           c.args.firings
-          c.loop-firing._firing c.loop-firing.at c.args.others.now state _ old c.push_value.new.outputs.items x _ more
+          c.loop-firing._firing c.loop-firing.at c.args.others.now state _ old c.push_value_by.new.outputs.items x _ more
           (ap (value_of c.args.kernel.now c.args.counts.now) (c.lay.ensures
           ∙ ap (λ (u : List ℤ). beside c.args.is_first u
           (take (c.loop-firing.at + (length c.args.window.now - length c.args.state.now) - c.loop-firing.at)
@@ -50,5 +50,5 @@ loop-firing-preserved c =
       window = c.lay.auto.window ∙ c.loop-firing.invariant.window;
       inputs = room_less (length c.args.window.now - length c.args.state.now) c.args.firings c.loop-firing._firing c.loop-firing.at _ more
           c.loop-firing.invariant.inputs;
-      room = omega (arith, longer, left, c.push_value.ensures.capacity);
+      room = omega (arith, longer, left, c.push_value_by.ensures.capacity);
     }
