@@ -13,7 +13,7 @@ use Rattle.csdf_analysis.specs.declared.stall.Wait.{Wait}
 use Rattle.csdf_analysis.specs.Laws.{IsWithinAll}
 use Rattle.csdf_analysis.specs.Period.{held, held_after, no_firings, IsReached, CanGo}
 use Rattle.csdf_analysis.specs.Running.{IsAt, IsStalled}
-use Rattle.csdf_analysis.specs.Stalling.{AreWaits, IsEnd, IsStall, LacksRoom, LacksTokens, SaysOf}
+use Rattle.csdf_analysis.specs.Stalling.{AreWaits, IsEnd, IsStall, IsFull, IsShort, SaysOf}
 use Rattle.csdf_analysis.proofs.CountLemmas.{less_or_not, sum_within, all_same}
 use Rattle.csdf_analysis.proofs.PeriodLemmas.{after_length, fed_first, from_none, reached_fed, some_can_go}
 
@@ -60,45 +60,45 @@ stall_is channels seen q firings capacities s made same_channels same_firings sa
     subst (λ cs. IsStall cs q capacities s) same_channels
     (subst (λ ks. IsStall seen ks capacities s) same_firings (subst (λ ks. IsStall seen firings ks s) same_bounds there))
 
--- ---- what an actor lacks
+-- ---- what an actor waits for
 
--- no channel lacks tokens or room where none of the first k does, and there are no more
-pub no_tokens : (channels : List Channel) (n : List ℕ) (a k : ℕ) → length channels ≤ k → ((i : ℕ) → i < k → LacksTokens channels n a i → ⊥) → (i : ℕ)
-    → LacksTokens channels n a i → ⊥
-no_tokens channels n a k all none i lacks = none i (let lt = slice_get_within channels i lacks.channel lacks.place in omega arith) lacks
+-- no channel is short or full where none of the first k is, and there are no more
+pub none_short : (channels : List Channel) (n : List ℕ) (a k : ℕ) → length channels ≤ k → ((i : ℕ) → i < k → IsShort channels n a i → ⊥) → (i : ℕ)
+    → IsShort channels n a i → ⊥
+none_short channels n a k all none i short = none i (let lt = slice_get_within channels i short.channel short.place in omega arith) short
 
-pub no_room : (channels : List Channel) (bounds n : List ℕ) (a k : ℕ) → length channels ≤ k → ((i : ℕ) → i < k → LacksRoom channels bounds n a i → ⊥)
-    → (i : ℕ) → LacksRoom channels bounds n a i → ⊥
-no_room channels bounds n a k all none i lacks = none i (let lt = slice_get_within channels i lacks.channel lacks.place in omega arith) lacks
+pub none_full : (channels : List Channel) (bounds n : List ℕ) (a k : ℕ) → length channels ≤ k → ((i : ℕ) → i < k → IsFull channels bounds n a i → ⊥)
+    → (i : ℕ) → IsFull channels bounds n a i → ⊥
+none_full channels bounds n a k all none i full = none i (let lt = slice_get_within channels i full.channel full.place in omega arith) full
 
-pub lacks_room : (channels : List Channel) (bounds n : List ℕ) (a i bound filled : ℕ) (v : Channel) → slice_get channels i ≡ Some v → v.from ≡ a
+pub is_full : (channels : List Channel) (bounds n : List ℕ) (a i bound filled : ℕ) (v : Channel) → slice_get channels i ≡ Some v → v.from ≡ a
     → bound ≡ get_or bounds i 0 → ((c : Channel) → slice_get channels i ≡ Some c → filled ≡ held_after c.from n c)
-    → (nat_lt bound filled ≡ true → LacksRoom channels bounds n a i) × (LacksRoom channels bounds n a i → nat_lt bound filled ≡ true)
-lacks_room channels bounds n a i bound filled v at from bound_is filled_is = (
+    → (nat_lt bound filled ≡ true → IsFull channels bounds n a i) × (IsFull channels bounds n a i → nat_lt bound filled ≡ true)
+is_full channels bounds n a i bound filled v at from bound_is filled_is = (
   λ yes.
       (let lt = ltb-true bound filled yes in
       let whole = filled_is v at in
       let there : held_after v.from n v ≡ held_after a n v = ap (λ b. held_after b n v) from in
       record { channel = v; place = at; output = from; many = omega arith }),
-  λ lacks.
-      (let whole = filled_is lacks.channel lacks.place in
-      let there : held_after lacks.channel.from n lacks.channel ≡ held_after a n lacks.channel = ap (λ b. held_after b n lacks.channel) lacks.output in
-      let many = lacks.many in
+  λ full.
+      (let whole = filled_is full.channel full.place in
+      let there : held_after full.channel.from n full.channel ≡ held_after a n full.channel = ap (λ b. held_after b n full.channel) full.output in
+      let many = full.many in
       lt-ltb bound filled (omega arith)),
 )
 
--- an actor with firings left that lacks neither is able to fire
-pub lacks_neither : (channels : List Channel) (q bounds n : List ℕ) (a : ℕ) → a < length n → get_or n a 0 < get_or q a 0
-    → ((i : ℕ) → LacksTokens channels n a i → ⊥) → ((i : ℕ) → LacksRoom channels bounds n a i → ⊥) → CanGo channels q bounds n a
-lacks_neither channels q bounds n a exists left tokens room = record {
+-- an actor with firings left, with no short input and no full output, is able to fire
+pub neither_short_nor_full : (channels : List Channel) (q bounds n : List ℕ) (a : ℕ) → a < length n → get_or n a 0 < get_or q a 0
+    → ((i : ℕ) → IsShort channels n a i → ⊥) → ((i : ℕ) → IsFull channels bounds n a i → ⊥) → CanGo channels q bounds n a
+neither_short_nor_full channels q bounds n a exists left short full = record {
   able = record {
     exists = exists;
     tokens = λ i c at to. elim (less_or_not (held c n) (consumption c (get_or n a 0))) [
-      | inl less ↦ absurd (tokens i (record { channel = c; place = at; input = to; few = less }))
+      | inl less ↦ absurd (short i (record { channel = c; place = at; input = to; few = less }))
       | inr ge ↦ ge
     ];
     room = λ i c at from. elim (less_or_not (get_or bounds i 0) (held_after a n c)) [
-      | inl less ↦ absurd (room i (record { channel = c; place = at; output = from; many = less }))
+      | inl less ↦ absurd (full i (record { channel = c; place = at; output = from; many = less }))
       | inr ge ↦ ge
     ];
   };

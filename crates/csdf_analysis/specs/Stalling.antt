@@ -19,14 +19,14 @@ bounds_for by.Full q channels = full_capacities q channels
 bounds_for by.Given q channels = first_bounds q channels
 
 -- the channel is an input of the actor, and holds fewer tokens than its next firing takes
-pub record LacksTokens (channels : List Channel) (n : List ℕ) (a i : ℕ) : Type 0 where
+pub record IsShort (channels : List Channel) (n : List ℕ) (a i : ℕ) : Type 0 where
   pub channel : Channel
   pub place : slice_get channels i ≡ Some channel
   pub input : channel.to ≡ a
   pub few : held_by channel n < consumption channel (slice_index n a)
 
 -- the channel is an output of the actor, and would hold more than its capacity after the actor's next firing
-pub record LacksRoom (channels : List Channel) (bounds n : List ℕ) (a i : ℕ) : Type 0 where
+pub record IsFull (channels : List Channel) (bounds n : List ℕ) (a i : ℕ) : Type 0 where
   pub channel : Channel
   pub place : slice_get channels i ≡ Some channel
   pub output : channel.from ≡ a
@@ -39,8 +39,8 @@ pub record IsFirst (P : ℕ → Type 0) (i : ℕ) : Type 0 where
 
 -- what an actor waits for: tokens of the first input that lacks them, or else room in the first output that lacks it
 abbrev pub WaitsFor : List Channel → List ℕ → List ℕ → ℕ → Wait → Type 0
-WaitsFor channels bounds n a (wait.Tokens i) = IsFirst (LacksTokens channels n a) i
-WaitsFor channels bounds n a (wait.Room i) = ((j : ℕ) → LacksTokens channels n a j → ⊥) × IsFirst (LacksRoom channels bounds n a) i
+WaitsFor channels bounds n a (wait.Tokens i) = IsFirst (IsShort channels n a) i
+WaitsFor channels bounds n a (wait.Room i) = ((j : ℕ) → IsShort channels n a j → ⊥) × IsFirst (IsFull channels bounds n a) i
 
 -- what is said of an actor: what it waits for, or nothing where it has fired as often as in a period
 abbrev pub SaysOf : List Channel → List ℕ → List ℕ → List ℕ → ℕ → Option Wait → Type 0

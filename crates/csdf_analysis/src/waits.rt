@@ -2,7 +2,7 @@
 
 ghost use Rattle.std.specs.Prelude.{◌≡◌, ◌<◌, ◌≤◌, ◌↔◌, ℕ, IfOk, IsTrue, MatchOption, length};
 ghost use Rattle.csdf_analysis.specs.Running.{IsRun, IsStalled};
-ghost use Rattle.csdf_analysis.specs.Stalling.{AreWaits, IsFirst, LacksRoom, LacksTokens, SaysOf};
+ghost use Rattle.csdf_analysis.specs.Stalling.{AreWaits, IsFirst, IsFull, IsShort, SaysOf};
 
 use crate::net::Net;
 use crate::run::Run;
@@ -10,11 +10,11 @@ use crate::stall::Wait;
 use std::alloc::{AllocError, Global};
 
 /// Whether the channel is an input of the actor that holds too few tokens for its next firing.
-fn lacks_tokens(net: &Net, run: &Run, actor: u32, number: u32) -> bool
+fn is_short(net: &Net, run: &Run, actor: u32, number: u32) -> bool
     requires run { IsRun net.now run.now }
     requires actor { actor < length net.now.firings }
     requires exists { number < length net.now.channels }
-    ensures { IsTrue result ↔ LacksTokens net.now.channels run.now.counts.items actor number }
+    ensures { IsTrue result ↔ IsShort net.now.channels run.now.counts.items actor number }
 {
     if net.channel(number).to != actor {
         return false;
@@ -25,10 +25,10 @@ fn lacks_tokens(net: &Net, run: &Run, actor: u32, number: u32) -> bool
 
 /// Whether the channel is an output of the actor that would hold too many tokens after its next
 /// firing.
-fn lacks_room(net: &Net, run: &Run, actor: u32, number: u32) -> bool
+fn is_full(net: &Net, run: &Run, actor: u32, number: u32) -> bool
     requires run { IsRun net.now run.now }
     requires exists { number < length net.now.channels }
-    ensures { IsTrue result ↔ LacksRoom net.now.channels run.now.bounds.items run.now.counts.items actor number }
+    ensures { IsTrue result ↔ IsFull net.now.channels run.now.bounds.items run.now.counts.items actor number }
 {
     net.channel(number).from == actor && run.filled(net, number) > run.bounds[number as usize]
 }
@@ -37,11 +37,11 @@ fn lacks_room(net: &Net, run: &Run, actor: u32, number: u32) -> bool
 fn first_short(net: &Net, run: &Run, actor: u32) -> Option<u32>
     requires run { IsRun net.now run.now }
     requires actor { actor < length net.now.firings }
-    ensures { MatchOption result ((i : ℕ) → LacksTokens net.now.channels run.now.counts.items actor i → ⊥)
-        (IsFirst (LacksTokens net.now.channels run.now.counts.items actor)) }
+    ensures { MatchOption result ((i : ℕ) → IsShort net.now.channels run.now.counts.items actor i → ⊥)
+        (IsFirst (IsShort net.now.channels run.now.counts.items actor)) }
 {
     for number in 0..net.channels() as u32 {
-        if lacks_tokens(net, run, actor, number) {
+        if is_short(net, run, actor, number) {
             return Some(number);
         }
     }
@@ -51,11 +51,11 @@ fn first_short(net: &Net, run: &Run, actor: u32) -> Option<u32>
 /// The first output of the actor that would hold too many tokens after its next firing.
 fn first_full(net: &Net, run: &Run, actor: u32) -> Option<u32>
     requires run { IsRun net.now run.now }
-    ensures { MatchOption result ((i : ℕ) → LacksRoom net.now.channels run.now.bounds.items run.now.counts.items actor i → ⊥)
-        (IsFirst (LacksRoom net.now.channels run.now.bounds.items run.now.counts.items actor)) }
+    ensures { MatchOption result ((i : ℕ) → IsFull net.now.channels run.now.bounds.items run.now.counts.items actor i → ⊥)
+        (IsFirst (IsFull net.now.channels run.now.bounds.items run.now.counts.items actor)) }
 {
     for number in 0..net.channels() as u32 {
-        if lacks_room(net, run, actor, number) {
+        if is_full(net, run, actor, number) {
             return Some(number);
         }
     }

@@ -4,7 +4,9 @@ use Rattle.std.specs.Prelude.{ℤ, Ok, sum_by}
 use Rattle.std.proofs.lemmas.List.Elements.{recursion_from_All}
 use Rattle.csdf_pool.specs.Pool.{Shared}
 use Rattle.csdf_pool.proofs.CallerLemmas.{sizes_add_up}
+use Rattle.csdf_core.specs.declared.firing_core.Core.TheInside.{Inside}
 use Rattle.csdf_core.specs.Blocks.{IsPlain, takes_in, puts_in}
+use Rattle.csdf_core.specs.Inside.{now_in}
 use Rattle.csdf_core.specs.Moves.{Move}
 use Rattle.csdf_core.specs.Moves.{Begin, Read, Write, Finish}
 use Rattle.csdf_core.specs.Next.{begun, fetched, written, finished}
@@ -38,6 +40,17 @@ pub record Machine : Type 0 where
 pub record IsGood (plan : Plan) (m : Machine) : Type 0 where
   pub sound : IsSound plan m.now m.peaks m.sums m.started m.kept m.pool
   pub chains : tokens_in m.pool ≡ m.now.tokens
+
+-- of a core
+abbrev pub machine : Inside → Machine
+machine core = record {
+  now = now_in core;
+  peaks = core.peaks.items;
+  sums = core.sums.items;
+  started = core.started;
+  kept = core.reserved;
+  pool = core.pool;
+}
 
 abbrev pub view : Plan → Machine → View
 view plan m = record { plan = plan; now = m.now; peaks = m.peaks; pool = m.pool }

@@ -1,30 +1,26 @@
 -- A block of firings is its moves, one after another.
 use Rattle.std.proofs.Common.{◌≡◌, ℕ, zero, suc, ◌+◌, ◌<◌, ◌≤◌, inl, inr, ◌⊎◌, List, [], ◌∷◌, ◌++◌, length, get_or, set, take, drop, refl, ap, ap₂, subst, ◌∙◌}
-use Rattle.std.proofs.Common.{sym, arith, Option, Some, None, set-set, length-set, get_or-set_same}
+use Rattle.std.proofs.Common.{sym, arith, Option, Some, None, set-set, get_or-set_same}
 use Rattle.std.specs.Prelude.{ℤ, IfSome}
 use Rattle.std.specs.List.{AllByRecursion}
 use Rattle.std.proofs.Math.Seq.{take-append_seam, drop-append_seam}
 use Rattle.std.proofs.lemmas.List.{set-get_or, take-append-drop, length-take-le, length-drop, length-append}
 use Rattle.csdf_pool.specs.Pool.{Shared}
-use Rattle.csdf_core.specs.declared.stage.Stage.TheVariants.{Idle, Begun, Fetched, Written}
 use Rattle.csdf_core.specs.Blocks.{needs_of, gifts_of, takes_at, gives_at, firings_of, AreAccepted, answers_to, handed_by, FindsAll, capacity_at, IsPlain}
 use Rattle.csdf_core.specs.Blocks.{takes_in, puts_in, fronts, reads_over, pool_after, peaks_after, Suffices, parts_of, reads_among}
-use Rattle.csdf_core.specs.Moves.{Begin, Read, Write, Finish}
 use Rattle.csdf_core.specs.Plan.{Channel, Plan}
 use Rattle.csdf_core.specs.Ports.{inputs_at, outputs_at, take_at, give_at, tokens_in, tokens_at, raise_over, EnoughOver}
 use Rattle.csdf_core.specs.Rows.{need, gift}
 use Rattle.csdf_core.specs.Shows.{Plays}
-use Rattle.csdf_core.specs.Step.{count, stage, given, refusal, first_of, write_table, begun_count}
-use Rattle.csdf_core.proofs.Accepting.{reads_free, writes_free, finishes_free}
+use Rattle.csdf_core.specs.Step.{count, given, begun_count}
 use Rattle.csdf_core.specs.Transfers.{after_read}
 use Rattle.csdf_core.proofs.BlockBegins.{begins_next}
-use Rattle.csdf_core.proofs.BlockMachines.{Machine, IsGood, view, plays_first, ins, outs, ins_within, outs_within, all_told, m_begun, m_fetched, m_written}
-use Rattle.csdf_core.proofs.BlockMachines.{m_finished, good_begun, good_fetched, good_written, good_finished, follows_begun, follows_fetched}
-use Rattle.csdf_core.proofs.BlockMachines.{follows_written, follows_finished, read_is, write_is}
+use Rattle.csdf_core.proofs.BlockMachines.{Machine, IsGood, view, ins, outs, ins_within, outs_within, all_told, read_is, write_is}
 use Rattle.csdf_core.proofs.BlockPools.{Holds}
 use Rattle.csdf_core.proofs.BlockPorts.{both, each, took, gave, none_moved, takes_in_more, puts_in_more, past, holds_took, holds_gave}
 use Rattle.csdf_core.proofs.BlockPorts.{free_took, free_takes, free_puts, out_after, raise_none, raise_twice, peaks_at, AreWithin, AreApart}
 use Rattle.csdf_core.proofs.BlockTokens.{are_apart, inputs_after, outputs_after, taken_fronts, reads_same, length-fronts}
+use Rattle.csdf_core.proofs.FiringMoves.{IsFired, fired1, fired2, fired4, is_fired, plays_fired}
 use Rattle.csdf_core.proofs.Moving.{peaks_here, enough_here}
 use Rattle.csdf_core.proofs.Presents.{present_same}
 use Rattle.csdf_core.proofs.PortLemmas.{need_is}
@@ -80,78 +76,25 @@ module _ (plan : Plan) (a : ℕ) where
     k = count m.now a
 
     abbrev m1 : Machine
-    m1 = m_begun plan a m
+    m1 = fired1 plan a m v
 
     abbrev m2 : Machine
-    m2 = m_fetched plan a m1
-
-    abbrev m3 : Machine
-    m3 = m_written plan a m2 v
+    m2 = fired2 plan a m v
 
     abbrev pub m4 : Machine
-    m4 = m_finished plan a m3
+    m4 = fired4 plan a m v
 
-    lt : a < length m.now.stages
-    lt = let staged = good.sound.fit.staged in let there = h.there in omega arith
-
-    pub none1 : refusal plan m.now (Begin a) ≡ None
-    none1 = begins_next plan m.now a n good.sound.fit h
-
-    good1 : IsGood plan m1
-    good1 = good_begun plan a m good none1
-
-    at1 : stage m1.now a ≡ Begun
-    at1 = get_or-set_same m.now.stages a Begun Idle lt
-
-    pub none2 : refusal plan m1.now (Read a) ≡ None
-    none2 = reads_free plan m1.now a h.there at1
-
-    good2 : IsGood plan m2
-    good2 = good_fetched plan a m1 good1 none2
-
-    at2 : stage m2.now a ≡ Fetched
-    at2 = get_or-set_same m1.now.stages a Fetched Idle (let e = length-set m.now.stages a Begun in let l = lt in omega (arith, e, l))
-
-    pub none3 : first_of (write_table plan m2.now a v) ≡ None
-    none3 = writes_free plan m2.now a v h.there at2 len
-
-    good3 : IsGood plan m3
-    good3 = good_written plan a m2 good2 v none3
-
-    lt3 : a < length m3.now.stages
-    lt3 = let staged = good3.sound.fit.staged in let there = h.there in omega arith
-
-    lt2 : a < length m2.now.stages
-    lt2 = let staged = good2.sound.fit.staged in let there = h.there in omega arith
-
-    at3 : stage m3.now a ≡ Written
-    at3 = get_or-set_same m2.now.stages a Written Idle lt2
-
-    pub none4 : refusal plan m3.now (Finish a) ≡ None
-    none4 = finishes_free plan m3.now a h.there at3
-
-    pub good4 : IsGood plan m4
-    good4 = good_finished plan a m3 good3 none4 few
+    pub four : IsFired plan a m v
+    four = is_fired plan a m v good h.there h.idle (begins_next plan m.now a n good.sound.fit h) len few
 
     -- what has changed
     pub pool4 : IsPlain plan.channels a → m4.pool ≡ puts_in (outs plan a) (takes_in (ins plan a) (need a k plan.channels) m.pool) v
-    pool4 plain = write_is plan a m2 good2 plain v len ∙ ap (λ (q : Shared). puts_in (outs plan a) q v) (read_is plan a m1 good1 plain)
-
-    pub stages4 : m4.now.stages ≡ m.now.stages
-    stages4 =
-        set-set (set (set m.now.stages a Begun) a Fetched) a Written Idle
-        ∙ set-set (set m.now.stages a Begun) a Fetched Idle
-        ∙ set-set m.now.stages a Begun Idle
-        ∙ ap (set m.now.stages a) (sym h.idle)
-        ∙ set-get_or m.now.stages a Idle
-
-    pub kept4 : m4.kept ≡ m.kept
-    kept4 = omega (arith, len)
+    pool4 plain = write_is plan a m2 four.good2 plain v len ∙ ap (λ (q : Shared). puts_in (outs plan a) q v) (read_is plan a m1 four.good1 plain)
 
     pub peaks4 : m4.peaks ≡ raise_over (outs plan a) m4.now.tokens m.peaks
     peaks4 =
-        sym (peaks_here plan m2.now a v m4.now.tokens m.peaks (raise_over (outs plan a) m4.now.tokens m.peaks) good2.sound.fit good2.sound.peaked
-        good2.sound.high refl refl)
+        sym (peaks_here plan m2.now a v m4.now.tokens m.peaks (raise_over (outs plan a) m4.now.tokens m.peaks) four.good2.sound.fit four.good2.sound.peaked
+        four.good2.sound.high refl refl)
 
     room4 : length v ≤ length m.pool.free
     room4 = let r = room_for m (suc n) good h in omega (arith, r, len)
@@ -162,20 +105,17 @@ module _ (plan : Plan) (a : ℕ) where
     outputs4 : AllByRecursion (λ d. length (tokens_at m4.now.tokens d) ≤ length (tokens_at m.now.tokens d) + give_at plan.channels k d) (outs plan a)
     outputs4 = outputs_after plan.channels a k m.now.tokens v good.sound.fit.queued
 
-    pub number4 : count m4.now a ≡ suc k
-    number4 = get_or-set_same m.now.counts a (suc k) 0 (let counted = good.sound.fit.counted in let there = h.there in omega (arith, counted, there))
-
     -- the free cells are fewer by what was written at most
     free4 : length m.pool.free ≤ length m4.pool.free + length v
     free4 =
         let more = free_takes (take_at plan.channels k) (ins plan a) m.pool (ins_within plan a (length m.pool.chains) good.sound.chained) in
-        let left = free_puts (give_at plan.channels k) (outs plan a) m2.pool v (outs_within plan a (length m2.pool.chains) good2.sound.chained)
+        let left = free_puts (give_at plan.channels k) (outs plan a) m2.pool v (outs_within plan a (length m2.pool.chains) four.good2.sound.chained)
         (omega (arith, more, room4)) in
         omega (arith, more, left)
 
     -- the firing finds its tokens, and cells
     pub enough4 : EnoughOver (take_at plan.channels k) (ins plan a) (tokens_in m.pool)
-    enough4 = subst (EnoughOver (take_at plan.channels k) (ins plan a)) (sym good.chains) (enough_here plan m1.now a k good1.sound.fit none2 refl)
+    enough4 = subst (EnoughOver (take_at plan.channels k) (ins plan a)) (sym good.chains) (enough_here plan m1.now a k four.good1.sound.fit four.none2 refl)
 
     pub cells4 : gift a k plan.channels ≤ length (after_read plan a k m.pool).free
     cells4 =
@@ -186,8 +126,8 @@ module _ (plan : Plan) (a : ℕ) where
     finds4 = record {
       apart = h.apart;
       there = h.there;
-      number = number4;
-      idle = get_or-set_same m3.now.stages a Idle Idle lt3;
+      number = four.number;
+      idle = four.idle;
       limit = (let l = h.limit in omega (arith, l));
       opens = h.opens;
       supply = λ source. (let s = h.supply source in let e : k + suc n ≡ suc k + n = omega arith in let t = ap (given plan a) e in omega (arith, s, t));
@@ -202,9 +142,9 @@ module _ (plan : Plan) (a : ℕ) where
           (let r : length (tokens_at m4.now.tokens c) + gives_at plan.channels (suc k) n c ≤ capacity_at plan.channels c = omega (arith, x, y) in r))
           h.room outputs4;
       firings = fewer plan.firings (begun_count m.now) (begun_count m4.now) n
-          (let x = good.sound.starts in let y = good4.sound.starts in omega (arith, x, y)) h.firings;
-      cells = (let c = h.cells in let x = all_told plan a m good in let y = all_told plan a m4 good4 in let u = good.sound.keeps in let w = good4.sound.keeps in
-          omega (arith, c, x, y, u, w, kept4, free4, len));
+          (let x = good.sound.starts in let y = four.good4.sound.starts in omega (arith, x, y)) h.firings;
+      cells = (let c = h.cells in let x = all_told plan a m good in let y = all_told plan a m4 four.good4 in let u = good.sound.keeps in let w = four.good4.sound.keeps in
+          let kept = four.kept in omega (arith, c, x, y, u, w, kept, free4, len));
     }
 
   module _ (n : ℕ) (v : List ℤ) (m new : Machine) (good : IsGood plan m) (h : FindsAll plan m.now a (count m.now a) (suc n))
@@ -259,7 +199,7 @@ module _ (plan : Plan) (a : ℕ) where
     -- and its peaks raised once
     peaks_step : new.peaks ≡ raise_over (outs plan a) new.now.tokens m.peaks
     peaks_step =
-        let g4 : IsGood plan n4 = good4 n m v1 good h len1 few1 in
+        let g4 : IsGood plan n4 = (four n m v1 good h len1 few1).good4 in
         let f4 : FindsAll plan n4.now a (suc j) n = finds4 n m v1 good h len1 few1 in
         let h4 : FindsAll plan n4.now a (count n4.now a) n = subst (λ (x : ℕ). FindsAll plan n4.now a x n) (sym f4.number) f4 in
         let lenw : length w ≡ gifts_of plan.channels a (suc j) n = (let d = length-drop g v in omega (arith, d, len)) in
@@ -315,11 +255,9 @@ module _ (plan : Plan) (a : ℕ) where
       let lenw : length w ≡ gifts_of plan.channels a (suc k) n = (let d = length-drop g v in omega (arith, d, len)) in
       let few1 : g ≤ 8192 = (let f = few 0 (omega arith) in let e = ap (λ (x : ℕ). gift a x plan.channels) (let z : k + 0 ≡ k = omega arith in z) in
       omega (arith, f, e)) in
-      let n1 : Machine = m_begun plan a m in
-      let n2 : Machine = m_fetched plan a n1 in
-      let n3 : Machine = m_written plan a n2 v1 in
-      let n4 : Machine = m_finished plan a n3 in
-      let g4 : IsGood plan n4 = good4 n m v1 good h len1 few1 in
+      let s : IsFired plan a m v1 = four n m v1 good h len1 few1 in
+      let n4 : Machine = fired4 plan a m v1 in
+      let g4 : IsGood plan n4 = s.good4 in
       let f4 : FindsAll plan n4.now a (suc k) n = finds4 n m v1 good h len1 few1 in
       let number : count n4.now a ≡ suc k = f4.number in
       let h4 : FindsAll plan n4.now a (count n4.now a) n = subst (λ (x : ℕ). FindsAll plan n4.now a x n) (sym number) f4 in
@@ -345,11 +283,9 @@ module _ (plan : Plan) (a : ℕ) where
           let more : ℕ = needs_of plan.channels a (suc k) n in
           let v1 : List ℤ = take g v in
           let w : List ℤ = drop g v in
-          let n1 : Machine = m_begun plan a m in
-          let n2 : Machine = m_fetched plan a n1 in
-          let n3 : Machine = m_written plan a n2 v1 in
-          let n4 : Machine = m_finished plan a n3 in
-          let g4 : IsGood plan n4 = good4 n m v1 good h len1 few1 in
+          let s : IsFired plan a m v1 = four n m v1 good h len1 few1 in
+          let n4 : Machine = fired4 plan a m v1 in
+          let g4 : IsGood plan n4 = s.good4 in
           let f4 : FindsAll plan n4.now a (suc k) n = finds4 n m v1 good h len1 few1 in
           let h4 : FindsAll plan n4.now a (count n4.now a) n = subst (λ (x : ℕ). FindsAll plan n4.now a x n) (sym f4.number) f4 in
           let summed : a < length m.sums = (let c = good.sound.tallied in let there = h.there in omega (arith, c, there)) in
@@ -360,13 +296,13 @@ module _ (plan : Plan) (a : ℕ) where
           (inputs4 n m v1 good h len1 few1) in
           record {
             counts = b.counts ∙ set-set m.now.counts a (suc k) (suc k + n) ∙ ap (set m.now.counts a) (let e : suc k + n ≡ k + suc n = omega arith in e);
-            stages = b.stages ∙ stages4 n m v1 good h len1 few1;
+            stages = b.stages ∙ s.stages;
             opens = b.opens;
             sums = b.sums ∙ set-set m.sums a (get_or m.sums a 0 + g) (get_or n4.sums a 0 + gifts_of plan.channels a (suc k) n)
                 ∙ ap (set m.sums a) (let e = get_or-set_same m.sums a (get_or m.sums a 0 + g) 0 summed in
                 let z : get_or n4.sums a 0 + gifts_of plan.channels a (suc k) n ≡ get_or m.sums a 0 + (g + gifts_of plan.channels a (suc k) n) = omega (arith, e) in z);
             started = (let e = b.started in omega (arith, e));
-            kept = b.kept ∙ kept4 n m v1 good h len1 few1;
+            kept = b.kept ∙ s.kept;
             cells = b.cells;
             peaks = b.peaks ∙ ap (peaks_after plan a (suc k) n n4.pool w)
                 (peaks4 n m v1 good h len1 few1 ∙ ap (λ (ts : List (List ℤ)). raise_over (outs plan a) ts m.peaks) (sym g4.chains));
@@ -374,10 +310,7 @@ module _ (plan : Plan) (a : ℕ) where
             plain_pool = λ plain. pool_step n v m new good h len len1 few1 plain b;
             plain_peaks = λ plain. peaks_step n v m new good h len len1 few1 plain b;
             good = b.good;
-            accepted = (
-              none1 n m v1 good h len1 few1,
-              (none2 n m v1 good h len1 few1, (none3 n m v1 good h len1 few1, (none4 n m v1 good h len1 few1, b.accepted))),
-            );
+            accepted = (s.none1, (s.none2, (s.none3, (s.none4, b.accepted))));
             handed = ap₂ (λ (x y : List ℤ). x ++ y) (taken_fronts plan.channels a k m.now.tokens good.sound.fit.queued) (b.handed ∙ later);
             reads =
                 let one : AllByRecursion (λ c. take_at plan.channels k c ≤ length (tokens_at m.now.tokens c)) (ins plan a) = each (ins plan a)
@@ -390,13 +323,7 @@ module _ (plan : Plan) (a : ℕ) where
                 ap (λ (x : ℕ). drop x (first ++ others)) (sym size) ∙ drop-append_seam first others in
                 ap₂ (λ (x : List ℤ) (xs : List (List ℤ)). x ∷ xs) (taken_fronts plan.channels a k m.now.tokens good.sound.fit.queued ∙ sym front)
                 (b.reads ∙ ap (parts_of plan.channels a (suc k) n) (later ∙ sym back));
-            plays = plays_first plan m n1 new (Begin a) _ _ _ (follows_begun plan a m good (none1 n m v1 good h len1 few1))
-                (plays_first plan n1 n2 new (Read a) _ _ _
-                (follows_fetched plan a n1 (good1 n m v1 good h len1 few1) (none2 n m v1 good h len1 few1))
-                (plays_first plan n2 n3 new (Write a v1) _ _ _
-                (follows_written plan a n2 (good2 n m v1 good h len1 few1) v1 (none3 n m v1 good h len1 few1))
-                (plays_first plan n3 n4 new (Finish a) _ _ _
-                (follows_finished plan a n3 (good3 n m v1 good h len1 few1) (none4 n m v1 good h len1 few1)) b.plays)));
+            plays = plays_fired plan a m new v1 _ _ s b.plays;
           }
 
 -- ---- where the code lands

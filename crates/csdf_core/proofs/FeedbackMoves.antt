@@ -1,27 +1,24 @@
 -- Firings of an actor that keeps its state in a channel to itself are their moves, one after another.
 use Rattle.std.proofs.Common.{◌≡◌, ℕ, zero, suc, ◌+◌, ◌-◌, ◌*◌, ◌<◌, ◌≤◌, max, inl, inr, List, [], ◌∷◌, ◌++◌, length, get_or, set, take, drop, refl, ap}
-use Rattle.std.proofs.Common.{ap₂, subst, ◌∙◌, sym, arith, None, set-set, length-set, get_or-set_same, suc-mul, append-nil}
+use Rattle.std.proofs.Common.{ap₂, subst, ◌∙◌, sym, arith, set-set, get_or-set_same, suc-mul, append-nil}
 use Rattle.std.specs.Prelude.{ℤ}
 use Rattle.std.proofs.lemmas.Bool.Decides.{eqb_tells}
 use Rattle.std.proofs.lemmas.List.{set-get_or, length-take-le, length-drop, length-append}
-use Rattle.csdf_core.specs.declared.stage.Stage.TheVariants.{Idle, Begun, Fetched, Written}
 use Rattle.csdf_core.specs.Blocks.{gifts_of, firings_of, AreAccepted, answers_to}
 use Rattle.csdf_core.specs.Feedback.{KeepsState, GoesOn, shares_of}
-use Rattle.csdf_core.specs.Moves.{Begin, Read, Write, Finish}
 use Rattle.csdf_core.specs.Plan.{Plan, from_at}
 use Rattle.csdf_core.specs.Ports.{take_at, own_take_at, tokens_at}
 use Rattle.csdf_core.specs.Rows.{need, gift, left, AreThere}
 use Rattle.csdf_core.specs.Shows.{Plays, raised}
-use Rattle.csdf_core.specs.Step.{count, stage, refusal, first_of, write_table, begun_count, held}
-use Rattle.csdf_core.proofs.Accepting.{reads_free, writes_free, finishes_free}
-use Rattle.csdf_core.proofs.BlockMachines.{Machine, IsGood, view, plays_first, m_begun, m_fetched, m_written, m_finished}
-use Rattle.csdf_core.proofs.BlockMachines.{good_begun, good_fetched, good_written, good_finished, follows_begun, follows_fetched}
-use Rattle.csdf_core.proofs.BlockMachines.{follows_written, follows_finished}
+use Rattle.csdf_core.specs.Step.{count, begun_count, held}
+use Rattle.csdf_core.proofs.BlockMachines.{Machine, IsGood, view}
 use Rattle.csdf_core.proofs.BlockMoves.{AreFew, fewer}
 use Rattle.csdf_core.proofs.BlockPorts.{peak_at}
 use Rattle.csdf_core.proofs.BlockTokens.{outputs_after}
 use Rattle.csdf_core.proofs.FeedbackTokens.{own_give_at, given_before, goes_next, state_length, tokens_after, room_after, state_takes, state_needed}
+use Rattle.csdf_core.proofs.FiringMoves.{IsFired, fired1, fired4, is_fired, plays_fired}
 use Rattle.csdf_core.proofs.GoingTokens.{moved, moved_later, moved_out, own_give_none, fired_at, raised_past}
+use Rattle.csdf_core.proofs.Kept.{reads}
 use Rattle.csdf_core.proofs.OnePhase.{same_gift}
 use Rattle.csdf_core.proofs.Peaceful.{peaks_stay}
 use Rattle.csdf_core.proofs.Ready.{are_there}
@@ -49,74 +46,11 @@ module _ (plan : Plan) (a own : ℕ) (keeps : KeepsState plan a own) where
     abbrev k : ℕ
     k = count m.now a
 
-    abbrev m1 : Machine
-    m1 = m_begun plan a m
-
-    abbrev m2 : Machine
-    m2 = m_fetched plan a m1
-
-    abbrev m3 : Machine
-    m3 = m_written plan a m2 v
-
     abbrev pub m4 : Machine
-    m4 = m_finished plan a m3
+    m4 = fired4 plan a m v
 
-    lt : a < length m.now.stages
-    lt = let staged = good.sound.fit.staged in let there = h.there in omega arith
-
-    pub none1 : refusal plan m.now (Begin a) ≡ None
-    none1 = goes_next plan a own keeps m.now n good.sound.fit h
-
-    pub good1 : IsGood plan m1
-    good1 = good_begun plan a m good none1
-
-    at1 : stage m1.now a ≡ Begun
-    at1 = get_or-set_same m.now.stages a Begun Idle lt
-
-    pub none2 : refusal plan m1.now (Read a) ≡ None
-    none2 = reads_free plan m1.now a h.there at1
-
-    pub good2 : IsGood plan m2
-    good2 = good_fetched plan a m1 good1 none2
-
-    at2 : stage m2.now a ≡ Fetched
-    at2 = get_or-set_same m1.now.stages a Fetched Idle (let e = length-set m.now.stages a Begun in let l = lt in omega (arith, e, l))
-
-    pub none3 : first_of (write_table plan m2.now a v) ≡ None
-    none3 = writes_free plan m2.now a v h.there at2 len
-
-    pub good3 : IsGood plan m3
-    good3 = good_written plan a m2 good2 v none3
-
-    lt3 : a < length m3.now.stages
-    lt3 = let staged = good3.sound.fit.staged in let there = h.there in omega arith
-
-    lt2 : a < length m2.now.stages
-    lt2 = let staged = good2.sound.fit.staged in let there = h.there in omega arith
-
-    at3 : stage m3.now a ≡ Written
-    at3 = get_or-set_same m2.now.stages a Written Idle lt2
-
-    pub none4 : refusal plan m3.now (Finish a) ≡ None
-    none4 = finishes_free plan m3.now a h.there at3
-
-    pub good4 : IsGood plan m4
-    good4 = good_finished plan a m3 good3 none4 few
-
-    -- what has changed
-    pub stages4 : m4.now.stages ≡ m.now.stages
-    stages4 =
-        set-set (set (set m.now.stages a Begun) a Fetched) a Written Idle
-        ∙ set-set (set m.now.stages a Begun) a Fetched Idle
-        ∙ set-set m.now.stages a Begun Idle
-        ∙ ap (set m.now.stages a) (sym h.idle)
-        ∙ set-get_or m.now.stages a Idle
-
-    pub kept4 : m4.kept ≡ m.kept
-    kept4 = omega (arith, len)
-
-    pub number4 : count m4.now a ≡ suc k
-    number4 = get_or-set_same m.now.counts a (suc k) 0 (let counted = good.sound.fit.counted in let there = h.there in omega (arith, counted, there))
+    pub four : IsFired plan a m v
+    four = is_fired plan a m v good h.there h.idle (goes_next plan a own keeps m.now n good.sound.fit h) len few
 
     -- a channel's tokens after the firing
     tokens4 : (c : ℕ) → c < length plan.channels
@@ -128,9 +62,10 @@ module _ (plan : Plan) (a own : ℕ) (keeps : KeepsState plan a own) where
     -- no more is held than before, but for what it gave to others
     held4 : held m4.now + need a k plan.channels ≡ held m.now + gift a k plan.channels
     held4 =
-        let there : AreThere a k plan.channels m.now.tokens = are_there m1.now a plan.channels m.now.tokens at1 good1.sound.fit.ready in
+        let there : AreThere a k plan.channels m.now.tokens = are_there (fired1 plan a m v).now a plan.channels m.now.tokens (reads plan (fired1 plan a m v).now a four.none2).at
+        four.good1.sound.fit.ready in
         let out = held-left a k plan.channels m.now.tokens good.sound.fit.queued there in
-        let put = held-joined a k plan.channels (left a k plan.channels m.now.tokens) v good2.sound.fit.queued len in
+        let put = held-joined a k plan.channels (left a k plan.channels m.now.tokens) v four.good2.sound.fit.queued len in
         omega (arith, out, put)
 
     -- no peak after it is passed, but where as many tokens stay
@@ -163,8 +98,8 @@ module _ (plan : Plan) (a own : ℕ) (keeps : KeepsState plan a own) where
     pub finds4 : GoesOn plan m4.now a own (suc k) n
     finds4 = record {
       there = h.there;
-      number = number4;
-      idle = get_or-set_same m3.now.stages a Idle Idle lt3;
+      number = four.number;
+      idle = four.idle;
       limit = (let l = h.limit in omega (arith, l));
       opens = h.opens;
       state = state_length plan a own keeps k n m.now.tokens v good.sound.fit.queued len h.state ∙ state_takes plan a own keeps k (suc k);
@@ -172,7 +107,7 @@ module _ (plan : Plan) (a own : ℕ) (keeps : KeepsState plan a own) where
       room = room_after plan a own keeps k n m.now.tokens v good.sound.fit.queued len h.state
           (outputs_after plan.channels a k m.now.tokens v good.sound.fit.queued) h.room;
       firings = fewer plan.firings (begun_count m.now) (begun_count m4.now) n
-          (let x = good.sound.starts in let y = good4.sound.starts in omega (arith, x, y)) h.firings;
+          (let x = good.sound.starts in let y = four.good4.sound.starts in omega (arith, x, y)) h.firings;
       cells =
           let c = h.cells in
           let each : gift a (suc k) plan.channels - take_at plan.channels (suc k) own ≡ gift a k plan.channels - take_at plan.channels k own =
@@ -182,8 +117,8 @@ module _ (plan : Plan) (a own : ℕ) (keeps : KeepsState plan a own) where
           let low = state_needed plan a own keeps k in
           let now4 = held4 in
           let u = good.sound.keeps in
-          let w = good4.sound.keeps in
-          let kept = kept4 in
+          let w = four.good4.sound.keeps in
+          let kept = four.kept in
           omega (arith, c, all, more, low, now4, u, w, kept);
     }
 
@@ -217,11 +152,9 @@ module _ (plan : Plan) (a own : ℕ) (keeps : KeepsState plan a own) where
       let lenw : length w ≡ gifts_of plan.channels a (suc k) n = (let d = length-drop g v in omega (arith, d, len)) in
       let few1 : g ≤ 8192 = (let f = few 0 (omega arith) in let e = ap (λ (x : ℕ). gift a x plan.channels) (let z : k + 0 ≡ k = omega arith in z) in
       omega (arith, f, e)) in
-      let n1 : Machine = m_begun plan a m in
-      let n2 : Machine = m_fetched plan a n1 in
-      let n3 : Machine = m_written plan a n2 v1 in
-      let n4 : Machine = m_finished plan a n3 in
-      let g4 : IsGood plan n4 = good4 n m v1 good h len1 few1 in
+      let s : IsFired plan a m v1 = four n m v1 good h len1 few1 in
+      let n4 : Machine = fired4 plan a m v1 in
+      let g4 : IsGood plan n4 = s.good4 in
       let f4 : GoesOn plan n4.now a own (suc k) n = finds4 n m v1 good h len1 few1 in
       let number : count n4.now a ≡ suc k = f4.number in
       let h4 : GoesOn plan n4.now a own (count n4.now a) n = subst (λ (x : ℕ). GoesOn plan n4.now a own x n) (sym number) f4 in
@@ -245,25 +178,23 @@ module _ (plan : Plan) (a own : ℕ) (keeps : KeepsState plan a own) where
           let g : ℕ = gift a k plan.channels in
           let v1 : List ℤ = take g v in
           let w : List ℤ = drop g v in
-          let n1 : Machine = m_begun plan a m in
-          let n2 : Machine = m_fetched plan a n1 in
-          let n3 : Machine = m_written plan a n2 v1 in
-          let n4 : Machine = m_finished plan a n3 in
-          let g4 : IsGood plan n4 = good4 n m v1 good h len1 few1 in
+          let s : IsFired plan a m v1 = four n m v1 good h len1 few1 in
+          let n4 : Machine = fired4 plan a m v1 in
+          let g4 : IsGood plan n4 = s.good4 in
           let summed : a < length m.sums = (let c = good.sound.tallied in let there = h.there in omega (arith, c, there)) in
           let low : (c : ℕ) → c < length plan.channels
           → length (tokens_at n4.now.tokens c) ≤ max (get_or m.peaks c 0) (length (tokens_at new.now.tokens c)) = λ c lt.
           low4 n m v1 good h len1 few1 c lt n w (tokens_at new.now.tokens c) (b.tokens c lt) in
           record {
             counts = b.counts ∙ set-set m.now.counts a (suc k) (suc k + n) ∙ ap (set m.now.counts a) (let e : suc k + n ≡ k + suc n = omega arith in e);
-            stages = b.stages ∙ stages4 n m v1 good h len1 few1;
+            stages = b.stages ∙ s.stages;
             opens = b.opens;
             sums = b.sums ∙ set-set m.sums a (get_or m.sums a 0 + g) (get_or n4.sums a 0 + gifts_of plan.channels a (suc k) n)
                 ∙ ap (set m.sums a) (let e = get_or-set_same m.sums a (get_or m.sums a 0 + g) 0 summed in
                 let z : get_or n4.sums a 0 + gifts_of plan.channels a (suc k) n ≡ get_or m.sums a 0 + (g + gifts_of plan.channels a (suc k) n) =
                 omega (arith, e) in z);
             started = (let e = b.started in omega (arith, e));
-            kept = b.kept ∙ kept4 n m v1 good h len1 few1;
+            kept = b.kept ∙ s.kept;
             none = λ e. absurd (omega (arith, e));
             tokens = λ c lt.
                 b.tokens c lt ∙ moved_later plan a own keeps k c n w (tokens_at n4.now.tokens c)
@@ -272,15 +203,6 @@ module _ (plan : Plan) (a own : ℕ) (keeps : KeepsState plan a own) where
                 (b.good.sound.fit.queued ∙ sym good.sound.peaked)
                 (λ c lt. low c (let p = good.sound.peaked in omega (arith, p, lt)));
             good = b.good;
-            accepted = (
-              none1 n m v1 good h len1 few1,
-              (none2 n m v1 good h len1 few1, (none3 n m v1 good h len1 few1, (none4 n m v1 good h len1 few1, b.accepted))),
-            );
-            plays = plays_first plan m n1 new (Begin a) _ _ _ (follows_begun plan a m good (none1 n m v1 good h len1 few1))
-                (plays_first plan n1 n2 new (Read a) _ _ _
-                (follows_fetched plan a n1 (good1 n m v1 good h len1 few1) (none2 n m v1 good h len1 few1))
-                (plays_first plan n2 n3 new (Write a v1) _ _ _
-                (follows_written plan a n2 (good2 n m v1 good h len1 few1) v1 (none3 n m v1 good h len1 few1))
-                (plays_first plan n3 n4 new (Finish a) _ _ _
-                (follows_finished plan a n3 (good3 n m v1 good h len1 few1) (none4 n m v1 good h len1 few1)) b.plays)));
+            accepted = (s.none1, (s.none2, (s.none3, (s.none4, b.accepted))));
+            plays = plays_fired plan a m new v1 _ _ s b.plays;
           }

@@ -19,7 +19,7 @@ use Rattle.csdf_core.proofs.BlockMoves.{AreFew}
 use Rattle.csdf_core.proofs.BlockPorts.{both}
 use Rattle.csdf_core.proofs.BlockReads.{fronts_more}
 use Rattle.csdf_core.proofs.BlockTokens.{taken_fronts, reads_same, length-fronts, one_read}
-use Rattle.csdf_core.proofs.FeedbackMoves.{m4, good4, finds4}
+use Rattle.csdf_core.proofs.FeedbackMoves.{m4, four, finds4}
 use Rattle.csdf_core.proofs.OnePhase.{same_takes, same_gives, same_gift, takes_times, sum_same}
 use Rattle.csdf_core.proofs.PhaseLemmas.{numbers_own}
 use Rattle.csdf_core.proofs.FeedbackTokens.{asks_other, all_there, state_after, other_after, state_before, ins_all}
@@ -90,7 +90,7 @@ module _ (plan : Plan) (a own : ℕ) (keeps : KeepsState plan a own) (is_first :
       let ih = subst (λ (x : ℕ). reads_among plan n4.now (firings_of cs a x n w)
       ≡ parts_of cs a x n (loop_reads is_first each_is before_is given n (tokens_at n4.now.tokens own)
       (reads_over cs others x n (tokens_at n4.now.tokens)) w)) number
-      (loop_read fixed n w n4 (good4 plan a own keeps n m v1 good h len1 few1) h4 (lenw ∙ ap (λ (x : ℕ). gifts_of cs a x n) (sym number)) few4) in
+      (loop_read fixed n w n4 (four plan a own keeps n m v1 good h len1 few1).good4 h4 (lenw ∙ ap (λ (x : ℕ). gifts_of cs a x n) (sym number)) few4) in
       step n v m good h len (fixed k) len1 n4.now.tokens
       (reads_among plan n4.now (firings_of cs a (suc k) n w)) refl ih
     where

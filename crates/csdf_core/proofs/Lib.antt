@@ -44,6 +44,7 @@ pub mod BlockPorts
 pub mod BlockTokens
 pub mod BlockBegins
 pub mod BlockMachines
+pub mod FiringMoves
 pub mod BlockMoves
 pub mod FewGifts
 pub mod OnePhase

@@ -34,12 +34,19 @@ produce_at channels c = slice_index_or (map (λ (channel : Channel). channel.pro
 abbrev pub consume_at : List Channel → ℕ → List ℕ
 consume_at channels c = slice_index_or (map (λ (channel : Channel). channel.consume) channels) c []
 
--- how many tokens firing number k of actor a takes out of the channel, and how many it puts in
+-- how many tokens firing number k of a channel's producer puts in, and how many that of its consumer takes out
+abbrev pub production : Channel → ℕ → ℕ
+production channel k = rate channel.produce k
+
+abbrev pub consumption : Channel → ℕ → ℕ
+consumption channel k = rate channel.consume k
+
+-- the same of an actor's firing number k, which takes nothing of a channel that is no input of it and gives nothing to one that is no output of it
 abbrev pub takes_of : ℕ → ℕ → Channel → ℕ
-takes_of a k channel = if channel.to == a then rate channel.consume k else 0
+takes_of a k channel = if channel.to == a then consumption channel k else 0
 
 abbrev pub gives_of : ℕ → ℕ → Channel → ℕ
-gives_of a k channel = if channel.from == a then rate channel.produce k else 0
+gives_of a k channel = if channel.from == a then production channel k else 0
 
 -- there are as many cells as the capacities add up to
 abbrev pub HasAmpleCells : Plan → Type 0

@@ -2,9 +2,8 @@
 use Rattle.std.specs.Prelude.{ℕ, ◌+◌, ◌-◌, ◌≤◌, ◌==◌, max, Bool, false, not, nat_lt, List, [], ◌∷◌, ◌++◌, ℤ, length, take, drop, map, slice_index}
 use Rattle.std.specs.Prelude.{slice_index_or, slice_set}
 use Rattle.csdf_model.specs.Graph.{numbers_from}
-use Rattle.csdf_model.specs.Rates.{rate}
 use Rattle.csdf_pool.specs.Pool.{Shared, held_tokens}
-use Rattle.csdf_core.specs.Plan.{Channel, takes_of}
+use Rattle.csdf_core.specs.Plan.{Channel, consumption, production, takes_of}
 
 -- the inputs and the outputs of an actor, by number
 abbrev pub inputs_at : List Channel → ℕ → List ℕ
@@ -13,12 +12,12 @@ inputs_at channels a = numbers_from 0 (λ c. c.to == a) channels
 abbrev pub outputs_at : List Channel → ℕ → List ℕ
 outputs_at channels a = numbers_from 0 (λ c. c.from == a) channels
 
--- how many tokens firing number k takes out of a channel, and how many it puts in, by the channel's number
+-- how many tokens firing number k of a channel's consumer takes out, and how many that of its producer puts in, by the channel's number
 abbrev pub take_at : List Channel → ℕ → ℕ → ℕ
-take_at channels k c = slice_index (map (λ (channel : Channel). rate channel.consume k) channels) c
+take_at channels k c = slice_index (map (λ (channel : Channel). consumption channel k) channels) c
 
 abbrev pub give_at : List Channel → ℕ → ℕ → ℕ
-give_at channels k c = slice_index (map (λ (channel : Channel). rate channel.produce k) channels) c
+give_at channels k c = slice_index (map (λ (channel : Channel). production channel k) channels) c
 
 -- the tokens of a channel
 abbrev pub tokens_at : List (List ℤ) → ℕ → List ℤ

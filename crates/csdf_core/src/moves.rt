@@ -76,17 +76,32 @@ impl Core {
         ensures unchanged { OnErr result (self.new ≡ self.old) }
         ensures unread { OnErr result (into.new ≡ into.old) }
     {
+        // Read for the prover: what a core keeps.
+        let _layout = &self.layout;
         if let Some(refusal) = self.read_refusal(actor) {
             return Err(refusal);
         }
+        let n = self.need(actor);
+        self.read_tested(actor, &mut into[..n]);
+        Ok(n)
+    }
+
+    /// Takes the tokens of the firing, which has begun and not read, out into the slice, the inputs
+    /// in file order. The slice has a place for each of them.
+    pub fn read_tested(&mut self, actor: u32, into: &mut [i32])
+        requires accepted { refusal self.old.plan self.old.now (Read actor) ≡ None }
+        requires whole { length into.old ≡ need actor (count self.old.now actor) self.old.plan.channels }
+        ensures step { Follows self.old self.new (Read actor) (Ok into.new) }
+        ensures whole { length into.new ≡ length into.old }
+        ensures cells { self.new.pool ≡ after_read self.old.plan actor (count self.old.now actor) self.old.pool }
+    {
         let turn = self.turn(actor);
         let need = self.need(actor) as u64;
         let gift = self.gives(actor) as u64;
         let layout = &self.layout;
-        let n = take_inputs(layout, &mut self.pool, actor, turn, into);
+        take_inputs(layout, &mut self.pool, actor, turn, into);
         self.reserved = self.reserved - gift.saturating_sub(need) + gift;
         self.stages[actor as usize] = Stage::Fetched;
-        Ok(n)
     }
 
     /// Puts the firing's tokens in, the outputs in file order, or answers the first refusal of
@@ -97,9 +112,21 @@ impl Core {
         ensures unchanged { OnErr result (self.new ≡ self.old) }
         ensures cells { OnOk result (self.new.pool ≡ after_write self.old.plan actor (count self.old.now actor) self.old.pool tokens.now) }
     {
+        let _layout = &self.layout;
         if let Some(refusal) = self.write_refusal(actor, tokens) {
             return Err(refusal);
         }
+        self.write_tested(actor, tokens);
+        Ok(())
+    }
+
+    /// Puts the tokens of the firing, which has read and not written, in, the outputs in file order.
+    /// They are as many as it gives.
+    pub fn write_tested(&mut self, actor: u32, tokens: &[i32])
+        requires { refusal self.old.plan self.old.now (Write actor tokens.now) ≡ None }
+        ensures step { Follows self.old self.new (Write actor tokens.now) (Ok []) }
+        ensures cells { self.new.pool ≡ after_write self.old.plan actor (count self.old.now actor) self.old.pool tokens.now }
+    {
         let turn = self.turn(actor);
         prove!(tokens.len() <= self.pool.free_len() as usize);
         let layout = &self.layout;
@@ -107,7 +134,6 @@ impl Core {
         raise_peaks(layout, &self.pool, &mut self.peaks, actor);
         self.reserved -= tokens.len() as u64;
         self.stages[actor as usize] = Stage::Written;
-        Ok(())
     }
 
     /// Ends the actor's firing, or answers the first refusal of `Unknown` and `NotWritten`.
@@ -117,9 +143,20 @@ impl Core {
         ensures unchanged { OnErr result (self.new ≡ self.old) }
         ensures cells { self.new.pool ≡ self.old.pool }
     {
+        let _layout = &self.layout;
         if let Some(refusal) = self.finish_refusal(actor) {
             return Err(refusal);
         }
+        self.finish_tested(actor);
+        Ok(())
+    }
+
+    /// Ends the actor's firing, which has written.
+    pub fn finish_tested(&mut self, actor: u32)
+        requires { refusal self.old.plan self.old.now (Finish actor) ≡ None }
+        ensures step { Follows self.old self.new (Finish actor) (Ok []) }
+        ensures cells { self.new.pool ≡ self.old.pool }
+    {
         let turn = self.turn(actor);
         let written = self.gives(actor) as u64;
         let next = turn_after(&self.layout, actor, turn);
@@ -132,7 +169,6 @@ impl Core {
         self.needs[a] = need as u32;
         self.gifts[a] = gift as u32;
         self.stages[a] = Stage::Idle;
-        Ok(())
     }
 
     /// Closes the channel, or answers the first refusal of `Unknown`, `Closed` and `Busy`. Its
@@ -143,10 +179,20 @@ impl Core {
         ensures unchanged { OnErr result (self.new ≡ self.old) }
         ensures cells { self.new.pool ≡ self.old.pool }
     {
+        let _layout = &self.layout;
         if let Some(refusal) = self.close_refusal(channel) {
             return Err(refusal);
         }
-        self.opens[channel as usize] = false;
+        self.close_tested(channel);
         Ok(())
+    }
+
+    /// Closes the channel, which is open, and whose producer is not between its begin and its write.
+    pub fn close_tested(&mut self, channel: u32)
+        requires { refusal self.old.plan self.old.now (Close channel) ≡ None }
+        ensures step { Follows self.old self.new (Close channel) (Ok []) }
+        ensures cells { self.new.pool ≡ self.old.pool }
+    {
+        self.opens[channel as usize] = false;
     }
 }

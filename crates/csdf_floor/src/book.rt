@@ -20,7 +20,6 @@ ghost use Rattle.csdf_floor.specs.Floor.{IsUnderWay, task_of};
 ghost use Rattle.csdf_floor.specs.Outcome.{report_of, report_on};
 ghost use Rattle.csdf_floor.specs.Inside.{AreClosed, HasGiven, HasRoom, HasTaken, IsBook, IsNext, is_due};
 
-use crate::certain;
 use crate::jobs::{blank, refill};
 use crate::lists::Lists;
 use crate::outcome::ChannelReport;
@@ -279,7 +278,7 @@ impl Book {
         ensures tokens { slice_index_or self.new.reads actor [] ≡ slice_index_or (reads_of (program self.new.shown.work) self.new.shown.journal) actor [] }
     {
         let buffer = &mut self.reads[actor as usize];
-        certain::read(&mut self.core, actor, buffer);
+        self.core.read_tested(actor, buffer);
         let is_sink = self.work.is_sink(actor);
         self.sinks.append_where(is_sink, actor, buffer);
         self.journal.note_read(actor);
@@ -294,7 +293,7 @@ impl Book {
             (slice_index_or (reads_of (program self.old.shown.work) self.old.shown.journal) actor []) }
         ensures next { IsNext self.old self.new (Write actor tokens.now) }
     {
-        certain::write(&mut self.core, actor, tokens);
+        self.core.write_tested(actor, tokens);
         self.journal.note_write(actor, tokens);
     }
 
@@ -304,7 +303,7 @@ impl Book {
         requires accepted { refusal self.old.shown.core.plan self.old.shown.core.now (Finish actor) ≡ None }
         ensures next { IsNext self.old self.new (Finish actor) }
     {
-        certain::finish(&mut self.core, actor);
+        self.core.finish_tested(actor);
         self.journal.note_finish(actor);
     }
 
@@ -331,7 +330,7 @@ impl Book {
         requires over { is_over self.old.shown.core.plan self.old.shown.core.now (producer self.old.shown.core.plan channel) ≡ true }
         ensures next { IsNext self.old self.new (Close channel) }
     {
-        certain::close(&mut self.core, channel);
+        self.core.close_tested(channel);
         self.journal.note_close(channel);
     }
 

@@ -3,7 +3,6 @@
 #![tactic(auto)]
 
 mod book;
-mod certain;
 mod draft;
 mod drafting;
 mod ending;

@@ -1,4 +1,4 @@
-use Rattle.std.proofs.Common.{◌≡◌, subst, ◌∙◌}
+use Rattle.std.proofs.Common.{subst, ◌∙◌}
 use Rattle.csdf_model.specs.Graph.{Graph}
 use Rattle.csdf_analysis.specs.Acceptance.{IsNotAccepted}
 use Rattle.csdf_analysis.proofs.RoomyLemmas.{room_refused, own_firings}

@@ -1,10 +1,6 @@
-use Rattle.std.proofs.Common.{◌≡◌, None, sym, ◌∙◌, refl}
-use Rattle.csdf_core.specs.State.{Present}
+use Rattle.std.proofs.Common.{sym, ◌∙◌}
 use Rattle.csdf_core.specs.Moves.{Close}
-use Rattle.csdf_core.specs.Step.{refusal}
-use Rattle.csdf_core.specs.Inside.{now_in}
-use Rattle.csdf_core.proofs.Follows.{follows_refused, follows_accepted}
-use Rattle.csdf_core.proofs.SoundLemmas.{sound_closed}
+use Rattle.csdf_core.proofs.Follows.{follows_refused}
 use Rattle.csdf_core.proofs.Peaceful.{peaks_stay}
 use Rattle.csdf_core.proofs.firing_core.Core.close.Goals as goal
 
@@ -12,22 +8,3 @@ pub returns-in-Some-clause-step : goal.returns-in-Some-clause-step
 returns-in-Some-clause-step c =
     rw (← c.self.view_is) (follows_refused _ (Close c.args.channel) c.in-Some.refusal (rw (← c.self.view_is) at (sym c.close_refusal.ensures ∙ c.in-Some.is))
     (peaks_stay _ _ _ _ _ _ _ c.self.invariant.sound) c.self.invariant.sound.cells)
-
-pub invariant_of-self : goal.invariant_of-self
-invariant_of-self c =
-    let p : Present = now_in c.self.inside in
-    let none : refusal c.self.inside.layout p (Close c.args.channel) ≡ None = rw (← c.self.view_is) at (sym c.close_refusal.ensures ∙ c.in_default.is) in
-    record {
-      amounts = c.self.invariant.amounts;
-      phases = c.self.invariant.phases;
-      sound = sound_closed c.self.inside.layout p c.self.inside.peaks.items c.self.inside.sums.items
-          c.self.inside.started c.self.inside.reserved c.self.inside.pool
-          c.args.channel c.self.invariant.sound none;
-    }
-
-pub returns-clause-step : goal.returns-clause-step
-returns-clause-step c =
-    let p : Present = now_in c.self.inside in
-    let none : refusal c.self.inside.layout p (Close c.args.channel) ≡ None = rw (← c.self.view_is) at (sym c.close_refusal.ensures ∙ c.in_default.is) in
-    rw (← c.self.view_is) (follows_accepted _ _ (Close c.args.channel) _ refl none refl refl c.self.invariant.sound.fit refl c.self.invariant.sound.cells
-    (sym (peaks_stay _ _ _ _ _ _ _ c.self.invariant.sound)))

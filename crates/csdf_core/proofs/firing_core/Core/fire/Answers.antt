@@ -4,31 +4,19 @@ use Rattle.std.specs.Vec.{with_items}
 use Rattle.std.proofs.lemmas.List.{with_items_is, get_or_default}
 use Rattle.csdf_core.specs.Plan.{Plan}
 use Rattle.csdf_core.specs.State.{Present}
-use Rattle.csdf_core.specs.declared.firing_core.Core.TheInside.{Inside}
 use Rattle.csdf_core.specs.Inside.{now_in}
 use Rattle.csdf_core.specs.Ports.{inputs_at, tokens_in, raise_over}
 use Rattle.csdf_core.specs.Blocks.{needs_of, gifts_of, takes_at, takes_in, puts_in, pool_after, peaks_after, Suffices, HoldAll, firings_of, answers_to, FindsAll}
 use Rattle.csdf_core.specs.Shows.{Plays}
 use Rattle.csdf_core.specs.Step.{count}
 use Rattle.csdf_core.proofs.AmountLemmas.{amounts_finished}
-use Rattle.csdf_core.proofs.BlockMachines.{Machine, IsGood, view, ins, outs}
+use Rattle.csdf_core.proofs.BlockMachines.{Machine, IsGood, machine, view, ins, outs}
 use Rattle.csdf_core.proofs.BlockMoves.{IsBlock, AreFew, room_for, block_of, landed, pool_lands, peaks_land}
 use Rattle.csdf_core.proofs.BlockTokens.{one_needs, hold_same}
 use Rattle.csdf_core.proofs.PhaseLemmas.{phases_finished}
 use Rattle.csdf_core.proofs.SoundLemmas.{few_started}
 use Rattle.csdf_core.proofs.firing_core.Core.fire.Goals as goal
 use Rattle.csdf_core.proofs.firing_core.Core.fire.Goals.{After-index_mut}
-
--- what the code begins with
-abbrev pub machine : Inside → Machine
-machine core = record {
-  now = now_in core;
-  peaks = core.peaks.items;
-  sums = core.sums.items;
-  started = core.started;
-  kept = core.reserved;
-  pool = core.pool;
-}
 
 pub move_tokens-requires-clause-room : goal.move_tokens-requires-clause-room
 move_tokens-requires-clause-room c =

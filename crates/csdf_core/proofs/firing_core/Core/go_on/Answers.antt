@@ -3,7 +3,6 @@ use Rattle.std.proofs.Common.{◌≡◌, ◌≤◌, ◌<◌, ◌+◌, ◌*◌, �
 use Rattle.std.specs.Prelude.{ℤ, IfSome, sum_by}
 use Rattle.std.specs.Vec.{with_items}
 use Rattle.std.proofs.lemmas.List.{with_items_is, get_or_default}
-use Rattle.csdf_core.specs.declared.firing_core.Core.TheInside.{Inside}
 use Rattle.csdf_core.specs.Blocks.{gifts_of, firings_of, answers_to}
 use Rattle.csdf_core.specs.Feedback.{GoesOn, IsFeedback, lasts_at, gone_on}
 use Rattle.csdf_core.specs.Inside.{now_in}
@@ -14,7 +13,7 @@ use Rattle.csdf_core.specs.Shows.{Plays}
 use Rattle.csdf_core.specs.State.{Present}
 use Rattle.csdf_core.specs.Step.{count}
 use Rattle.csdf_core.proofs.AmountLemmas.{amounts_finished}
-use Rattle.csdf_core.proofs.BlockMachines.{Machine, IsGood, view, outs, all_told}
+use Rattle.csdf_core.proofs.BlockMachines.{Machine, IsGood, machine, view, outs, all_told}
 use Rattle.csdf_core.proofs.BlockMoves.{AreFew}
 use Rattle.csdf_core.proofs.FeedbackMoves.{IsLoopBlock, loop_of}
 use Rattle.csdf_core.proofs.FeedbackReads.{other_there}
@@ -26,16 +25,6 @@ use Rattle.csdf_core.proofs.PhaseLemmas.{phases_finished}
 use Rattle.csdf_core.proofs.SoundLemmas.{few_started}
 use Rattle.csdf_core.proofs.firing_core.Core.go_on.Goals as goal
 use Rattle.csdf_core.proofs.firing_core.Core.go_on.Goals.{After-look_ahead-ahead, After-index_mut}
-
-abbrev machine : Inside → Machine
-machine core = record {
-  now = now_in core;
-  peaks = core.peaks.items;
-  sums = core.sums.items;
-  started = core.started;
-  kept = core.reserved;
-  pool = core.pool;
-}
 
 -- what is known at the beginning
 module _ (c : After-look_ahead-ahead) where

@@ -7,7 +7,7 @@ use Rattle.csdf_core.specs.Inside.{now_in}
 use Rattle.csdf_core.specs.Ports.{inputs_at, tokens_at, tokens_in}
 use Rattle.csdf_core.specs.Blocks.{needs_of, gifts_of, takes_at, reads_over, parts_of, HoldAll, FindsAll}
 use Rattle.csdf_core.specs.Step.{count}
-use Rattle.csdf_core.proofs.BlockMachines.{Machine}
+use Rattle.csdf_core.proofs.BlockMachines.{Machine, machine}
 use Rattle.csdf_core.proofs.BlockMoves.{IsBlock, block_of}
 use Rattle.csdf_core.proofs.firing_core.Core.peek.Goals as goal
 use Rattle.csdf_core.proofs.firing_core.Core.peek.Goals.{After-copy_reads}
@@ -40,14 +40,7 @@ module _ (c : After-copy_reads) where
   k = count p c.args.actor
 
   abbrev m : Machine
-  m = record {
-    now = now_in c.self.inside;
-    peaks = c.self.inside.peaks.items;
-    sums = c.self.inside.sums.items;
-    started = c.self.inside.started;
-    kept = c.self.inside.reserved;
-    pool = c.self.inside.pool;
-  }
+  m = machine c.self.inside
 
   made : (v : List ℤ) → length v ≡ gifts_of plan.channels c.args.actor k c.args.n → (new : Machine) × IsBlock plan c.args.actor k c.args.n v m new
   made v len =

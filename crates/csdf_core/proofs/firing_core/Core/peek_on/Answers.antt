@@ -9,7 +9,7 @@ use Rattle.csdf_core.specs.Plan.{Plan}
 use Rattle.csdf_core.specs.Ports.{tokens_at, tokens_in}
 use Rattle.csdf_core.specs.State.{Present}
 use Rattle.csdf_core.specs.Step.{count}
-use Rattle.csdf_core.proofs.BlockMachines.{Machine}
+use Rattle.csdf_core.proofs.BlockMachines.{machine}
 use Rattle.csdf_core.proofs.FeedbackReads.{others_enough, read_with}
 use Rattle.csdf_core.proofs.FeedbackTokens.{state_takes}
 use Rattle.csdf_core.proofs.PortLemmas.{tokens_at-map}
@@ -64,14 +64,6 @@ returns c =
     let at : After-gives_few = (goal.at.returns c).After-gives_few in
     let own : ℕ = c.args.feedback.channel in
     let chain : List Held = get_or c.self.inside.pool.chains own [] in
-    let m : Machine = record {
-      now = now_in c.self.inside;
-      peaks = c.self.inside.peaks.items;
-      sums = c.self.inside.sums.items;
-      started = c.self.inside.started;
-      kept = c.self.inside.reserved;
-      pool = c.self.inside.pool;
-    } in
     let state_is : c.copy_front.new.tokens ≡ tokens_at (tokens_in c.self.inside.pool) own = c.copy_front.ensures
     ∙ sym (take-map (λ (held : Held). held.1) (length c.args.state.now) chain)
     ∙ ap (take (length c.args.state.now)) (sym (tokens_at-map c.self.inside.pool.chains own))
@@ -80,6 +72,6 @@ returns c =
     c.copy_other.ensures
     ∙ ap (λ (x : ℕ). from_front (others_of c.args.feedback.other) x (tokens_in c.self.inside.pool)) c.requires.others in
     record {
-      read = rw (← c.self.view_is) (λ v len. read_with (plan at) (a at) c.args.feedback (told at) c.args.n v m
+      read = rw (← c.self.view_is) (λ v len. read_with (plan at) (a at) c.args.feedback (told at) c.args.n v (machine c.self.inside)
           (record { sound = c.self.invariant.sound; chains = refl }) (finds at) len (λ i lt. c.gives_few.ensures (a at) (k at + i)) _ _ state_is others_are);
     }
