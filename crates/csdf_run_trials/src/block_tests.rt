@@ -23,7 +23,20 @@ channel = [
 ]
 "#;
 
-/// The same with a sum in the place of the copy, which keeps its state in a channel to itself.
+/// The same where each actor has two phases: in the first it moves one token of an input, in the second
+/// two. The copy gives its token twice, and then the first of its two.
+const PHASES: &str = r#"actor = [
+  { name = "a", kernel = "source", phases = 2 },
+  { name = "b", kernel = "copy", phases = 2 },
+  { name = "c", kernel = "sink", phases = 2 },
+]
+channel = [
+  { name = "x", from = "a", to = "b", produce = [1, 2], consume = [1, 2], capacity = 3 },
+  { name = "y", from = "b", to = "c", produce = [2, 1], consume = [1, 2], capacity = 3 },
+]
+"#;
+
+/// The same as the first with a sum in the place of the copy, which keeps its state in a channel to itself.
 const SUMS: &str = r#"actor = [
   { name = "a", kernel = "source" },
   { name = "b", kernel = "sum" },
@@ -114,9 +127,11 @@ fn check_turns(
 }
 
 /// Graphs, and what comes of them where no moves are kept. Three firings fill a channel, so three are made
-/// at once, and then the fourth.
-const NOT_KEPT: [(&str, &str); 3] = [
+/// at once, and then the fourth; with two phases two firings fill it.
+const NOT_KEPT: [(&str, &str); 4] = [
     (LINE, "3 3 3 1 1 1 [][][5, -6, 7, 8]"),
+    // 5 gives 5, 5, and -6, 7 give -6; then 8 gives 8, 8, of which the sink takes one
+    (PHASES, "2 2 2 1 1 1 [][][5, 5, -6, 8]"),
     // running sums: each firing reads what the one before it wrote to itself
     (SUMS, "3 3 3 1 1 1 [][][5, -1, 6, 14]"),
     // from 1, 1 and 5: 3 goes to the sink, and 3, 11 are the next state; then 25, and 25, -1; 23, and
@@ -133,8 +148,9 @@ fn firings_are_made_at_once(rt: HostRuntime) -> Result<(), Fail> {
 }
 
 /// The same where the moves are kept; the sums are made one by one.
-const KEPT: [(&str, &str); 2] = [
+const KEPT: [(&str, &str); 3] = [
     (LINE, "3 3 3 1 1 1 [][][5, -6, 7, 8]"),
+    (PHASES, "2 2 2 1 1 1 [][][5, 5, -6, 8]"),
     (SUMS, "3 3 3 1 1 1 [][][5, -1, 6, 14]"),
 ];
 
