@@ -222,8 +222,6 @@ fn have_room(layout: &Layout, pool: &Pool, actor: u32, given: u64) -> bool
 fn hold_theirs(layout: &Layout, pool: &Pool, actor: u32, turn: Turn, n: u32, needed: u64) -> bool
     requires actor { actor < length layout.now.sources }
     requires same { length pool.now.chains ≡ length layout.now.channels }
-    requires in_phase { IsInPhase layout.now.channels actor turn.firing turn.phase }
-    requires low { turn.phase < MAX_PHASES }
     requires few { turn.firing + n ≤ MAX_FIRINGS_PER_ACTOR }
     requires needed { needed ≡ needs_of layout.now.channels actor turn.firing n }
     ensures { IsTrue result ↔ HoldAll (tokens_in pool.now) (takes_at layout.now.channels turn.firing n) (inputs_at layout.now.channels actor) }
@@ -240,8 +238,6 @@ fn hold_theirs(layout: &Layout, pool: &Pool, actor: u32, turn: Turn, n: u32, nee
 fn have_theirs(layout: &Layout, pool: &Pool, actor: u32, turn: Turn, n: u32, given: u64) -> bool
     requires actor { actor < length layout.now.sources }
     requires same { length pool.now.chains ≡ length layout.now.channels }
-    requires in_phase { IsInPhase layout.now.channels actor turn.firing turn.phase }
-    requires low { turn.phase < MAX_PHASES }
     requires few { turn.firing + n ≤ MAX_FIRINGS_PER_ACTOR }
     requires given { given ≡ gifts_of layout.now.channels actor turn.firing n }
     requires small { given ≤ 8192 * MAX_FIRINGS_PER_ACTOR }
