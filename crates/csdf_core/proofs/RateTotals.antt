@@ -3,6 +3,7 @@ use Rattle.std.proofs.Common.{◌≡◌, ℕ, zero, suc, ◌+◌, ◌*◌, ◌�
 use Rattle.std.proofs.Math.Nat.{mod-one, suc-mul}
 use Rattle.csdf_model.specs.Rates.{rate, total}
 
+-- more firings move no less
 pub total_grows : (rates : List ℕ) (k n : ℕ) → total rates k ≤ total rates (k + n)
 total_grows rates k zero = let e = ap (total rates) (let z : k + 0 ≡ k = omega arith in z) in omega (arith, e)
 total_grows rates k (suc n) =
@@ -10,7 +11,7 @@ total_grows rates k (suc n) =
     omega (arith, e, total_grows rates k n)
 
 module _ (rates : List ℕ) (moved : ℕ → ℕ → ℕ) (none : (k : ℕ) → moved k 0 ≡ 0) (more : (k n : ℕ) → moved k (suc n) ≡ rate rates k + moved (suc k) n) where
-  -- n of them from number k on move what the first k + n do beyond the first k
+  -- n firings from number k on move what the first k + n do beyond the first k
   pub total_from : (k n : ℕ) → total rates k + moved k n ≡ total rates (k + n)
   total_from k zero = let e = ap (total rates) (let z : k + 0 ≡ k = omega arith in z) in omega (arith, none k, e)
   total_from k (suc n) =
@@ -21,7 +22,7 @@ module _ (rates : List ℕ) (moved : ℕ → ℕ → ℕ) (none : (k : ℕ) → 
   few_from small k zero = omega (arith, none k)
   few_from small k (suc n) = omega (arith, more k n, small k, few_from small (suc k) n)
 
--- with one rate each moves as much
+-- where there is one rate, each firing moves as much
 pub total_of_one : (rates : List ℕ) (r k n : ℕ) → length rates ≡ 1 → r ≡ get_or rates 0 0 → total rates k + n * r ≡ total rates (k + n)
 total_of_one rates r k n one is =
     total_from rates (λ _ m. m * r) (λ _. omega arith)

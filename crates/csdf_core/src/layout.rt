@@ -19,7 +19,7 @@ use crate::setup::Setup;
 use crate::turn::Turn;
 use csdf_model::{
     Channel, Graph, Kernel, MAX_ACTORS, MAX_CHANNELS, MAX_FIRINGS_PER_ACTOR, MAX_PHASES,
-    MAX_TOKENS_PER_FIRING, total,
+    MAX_TOKENS_PER_FIRING, rate, total,
 };
 use std::alloc::{AllocError, Global};
 use std::marker::Model;
@@ -60,9 +60,12 @@ fn moved(rates: &[u32], firing: u32, n: u32) -> u64
     requires { firing + n ≤ MAX_FIRINGS_PER_ACTOR }
     ensures { total rates.now firing + result ≡ total rates.now (firing + n) }
 {
-    // Most actors have one phase, and then nothing is divided.
+    // Most actors have one phase, and then nothing is divided. Blocks of one firing are many.
     if rates.len() == 1 {
         return u64::from(n) * u64::from(rates[0]);
+    }
+    if n == 1 {
+        return u64::from(rate(rates, firing));
     }
     total(rates, firing + n) - total(rates, firing)
 }
