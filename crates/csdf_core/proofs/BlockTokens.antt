@@ -190,24 +190,6 @@ one_read cs (c ∷ []) k n m ts one all = ap (λ i. take i (tokens_at ts c)) (sy
 one_read cs (c ∷ d ∷ ns) k n m ts one all = absurd (omega arith)
 
 -- ---- one firing more is made
-pub takes_step : (cs : List Channel) (k n i c sum total : ℕ) → i < n → sum + takes_at cs k (n - i) c ≡ total
-    → sum + take_at cs k c + takes_at cs (k + 1) (n - (i + 1)) c ≡ total
-takes_step cs k n i c sum total lt e =
-    let z : n - i ≡ suc (n - (i + 1)) = omega (arith, lt) in
-    let s : takes_at cs k (n - i) c ≡ take_at cs k c + takes_at cs (suc k) (n - (i + 1)) c = ap (λ x. takes_at cs k x c) z in
-    let y : takes_at cs (suc k) (n - (i + 1)) c ≡ takes_at cs (k + 1) (n - (i + 1)) c =
-    ap (λ x. takes_at cs x (n - (i + 1)) c) (let u : suc k ≡ k + 1 = omega arith in u) in
-    omega (arith, e, s, y)
-
-pub gives_step : (cs : List Channel) (k n i c sum total : ℕ) → i < n → sum + gives_at cs k (n - i) c ≡ total
-    → sum + give_at cs k c + gives_at cs (k + 1) (n - (i + 1)) c ≡ total
-gives_step cs k n i c sum total lt e =
-    let z : n - i ≡ suc (n - (i + 1)) = omega (arith, lt) in
-    let s : gives_at cs k (n - i) c ≡ give_at cs k c + gives_at cs (suc k) (n - (i + 1)) c = ap (λ x. gives_at cs k x c) z in
-    let y : gives_at cs (suc k) (n - (i + 1)) c ≡ gives_at cs (k + 1) (n - (i + 1)) c =
-    ap (λ x. gives_at cs x (n - (i + 1)) c) (let u : suc k ≡ k + 1 = omega arith in u) in
-    omega (arith, e, s, y)
-
 pub drop_sum : {A : Type 0} (m n : ℕ) (xs : List A) → drop (m + n) xs ≡ drop n (drop m xs)
 drop_sum zero n xs = ap (λ k. drop k xs) (let e : zero + n ≡ n = omega arith in e)
 drop_sum (suc m) n [] = drop-nil (suc m + n) ∙ sym (drop-nil n)

@@ -1,5 +1,6 @@
 pub mod Presents
 pub mod Totals
+pub mod RateTotals
 pub mod Flows
 pub mod Answered
 pub mod Kept

@@ -4,7 +4,7 @@ use Rattle.std.specs.List.{AllByRecursion}
 use Rattle.std.proofs.Math.Nat.{add-mod_right, mod-add-div', mul-add, mul-le-mul_left, mul_left_comm, suc-mul}
 use Rattle.std.proofs.lemmas.List.Elements.{recursion_from_All}
 use Rattle.csdf_model.specs.Rates.{rate}
-use Rattle.csdf_core.specs.Blocks.{needs_of, gifts_of, takes_at, gives_at}
+use Rattle.csdf_core.specs.Blocks.{needs_of, gifts_of}
 use Rattle.csdf_core.specs.Phases.{IsPhase, IsInPhase, HasPhases}
 use Rattle.csdf_core.specs.Plan.{Channel, from_at, to_at, produce_at, consume_at}
 use Rattle.csdf_core.specs.Ports.{inputs_at, outputs_at, take_at, give_at}
@@ -99,12 +99,6 @@ module _ (cs : List Channel) (a r : ℕ) (has : HasPhases cs a r) where
 
   pub gifts_rounds : (k j n : ℕ) → gifts_of cs a k (j * r + n) ≡ j * gifts_of cs a k r + gifts_of cs a k n
   gifts_rounds = whole_rounds (gifts_of cs a) (λ k. gift a k cs) (λ k. refl) (λ k n. refl) r gift_later
-
-  pub takes_rounds : (c : ℕ) → c < length cs → to_at cs c ≡ a → (k j n : ℕ) → takes_at cs k (j * r + n) c ≡ j * takes_at cs k r c + takes_at cs k n c
-  takes_rounds c lt own = whole_rounds (λ k n. takes_at cs k n c) (λ k. take_at cs k c) (λ k. refl) (λ k n. refl) r (take_later c lt own)
-
-  pub gives_rounds : (c : ℕ) → c < length cs → from_at cs c ≡ a → (k j n : ℕ) → gives_at cs k (j * r + n) c ≡ j * gives_at cs k r c + gives_at cs k n c
-  gives_rounds c lt own = whole_rounds (λ k n. gives_at cs k n c) (λ k. give_at cs k c) (λ k. refl) (λ k n. refl) r (give_later c lt own)
 
   in_phase_later : (k phase : ℕ) → IsInPhase cs a k phase → IsInPhase cs a (k + r) phase
   in_phase_later k phase h = record {

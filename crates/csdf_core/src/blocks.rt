@@ -12,7 +12,7 @@ use crate::first_refusal::is_at;
 use crate::gathering::gather;
 use crate::layout::Layout;
 use crate::readiness::first_closed;
-use crate::several::{fire_each, given_of, has_no_loop, have_room_each, hold_each, taken_of};
+use crate::several::{fire_each, has_no_loop, have_room_each, hold_each};
 use crate::stage::Stage;
 use crate::transfer::{gift_of, need_of, raise_peaks};
 use crate::turn::{Turn, turn_after};
@@ -203,38 +203,34 @@ fn room_times(layout: &Layout, pool: &Pool, actor: u32, turn: Turn, most: u32) -
     n
 }
 
-/// How many times over the actor's inputs hold what so many firings take of each.
-fn held_rounds(layout: &Layout, pool: &Pool, actor: u32, turn: Turn, firings: u32, most: u32) -> u32
+/// How many times over the actor's inputs hold what a round of so many firings takes of each.
+fn held_rounds(layout: &Layout, pool: &Pool, actor: u32, firing: u32, round: u32, most: u32) -> u32
     requires actor { actor < length layout.now.sources }
     requires same { length pool.now.chains ≡ length layout.now.channels }
-    requires in_phase { IsInPhase layout.now.channels actor turn.firing turn.phase }
-    requires low { turn.phase < MAX_PHASES }
-    requires few { turn.firing + firings ≤ MAX_FIRINGS_PER_ACTOR }
+    requires few { firing + round ≤ MAX_FIRINGS_PER_ACTOR }
     ensures most { result ≤ most }
 {
     let inputs = layout.inputs(actor);
     let mut rounds = most;
     for channel in inputs {
-        let each = taken_of(layout, actor, *channel, turn, firings);
+        let each = layout.taken(*channel, firing, round);
         rounds = times(u64::from(pool.len(*channel)), each, rounds);
     }
     rounds
 }
 
-/// How many times over the actor's outputs have room for what so many firings give to each.
-fn room_rounds(layout: &Layout, pool: &Pool, actor: u32, turn: Turn, firings: u32, most: u32) -> u32
+/// How many times over the actor's outputs have room for what a round of so many firings gives to each.
+fn room_rounds(layout: &Layout, pool: &Pool, actor: u32, firing: u32, round: u32, most: u32) -> u32
     requires actor { actor < length layout.now.sources }
     requires same { length pool.now.chains ≡ length layout.now.channels }
-    requires in_phase { IsInPhase layout.now.channels actor turn.firing turn.phase }
-    requires low { turn.phase < MAX_PHASES }
-    requires few { turn.firing + firings ≤ MAX_FIRINGS_PER_ACTOR }
+    requires few { firing + round ≤ MAX_FIRINGS_PER_ACTOR }
     ensures most { result ≤ most }
 {
     let outputs = layout.outputs(actor);
     let mut rounds = most;
     for channel in outputs {
         let room = layout.capacity(*channel).saturating_sub(pool.len(*channel));
-        let each = given_of(layout, actor, *channel, turn, firings);
+        let each = layout.given(*channel, firing, round);
         rounds = times(u64::from(room), each, rounds);
     }
     rounds
@@ -291,8 +287,6 @@ fn have_room(layout: &Layout, pool: &Pool, actor: u32, given: u64) -> bool
 fn hold_theirs(layout: &Layout, pool: &Pool, actor: u32, turn: Turn, n: u32, needed: u64) -> bool
     requires actor { actor < length layout.now.sources }
     requires same { length pool.now.chains ≡ length layout.now.channels }
-    requires in_phase { IsInPhase layout.now.channels actor turn.firing turn.phase }
-    requires low { turn.phase < MAX_PHASES }
     requires few { turn.firing + n ≤ MAX_FIRINGS_PER_ACTOR }
     requires needed { needed ≡ needs_of layout.now.channels actor turn.firing n }
     ensures { IsTrue result ↔ HoldAll (tokens_in pool.now) (takes_at layout.now.channels turn.firing n) (inputs_at layout.now.channels actor) }
@@ -309,8 +303,6 @@ fn hold_theirs(layout: &Layout, pool: &Pool, actor: u32, turn: Turn, n: u32, nee
 fn have_theirs(layout: &Layout, pool: &Pool, actor: u32, turn: Turn, n: u32, given: u64) -> bool
     requires actor { actor < length layout.now.sources }
     requires same { length pool.now.chains ≡ length layout.now.channels }
-    requires in_phase { IsInPhase layout.now.channels actor turn.firing turn.phase }
-    requires low { turn.phase < MAX_PHASES }
     requires few { turn.firing + n ≤ MAX_FIRINGS_PER_ACTOR }
     requires given { given ≡ gifts_of layout.now.channels actor turn.firing n }
     requires small { given ≤ 8192 * MAX_FIRINGS_PER_ACTOR }
@@ -583,8 +575,8 @@ impl Core {
         let turn = self.turn(actor);
         let round = look_ahead(&self.layout, actor, turn, phases);
         let rounds = limited / phases;
-        let held = held_rounds(&self.layout, &self.pool, actor, turn, phases, rounds);
-        let roomy = room_rounds(&self.layout, &self.pool, actor, turn, phases, held);
+        let held = held_rounds(&self.layout, &self.pool, actor, turn.firing, phases, rounds);
+        let roomy = room_rounds(&self.layout, &self.pool, actor, turn.firing, phases, held);
         let supplied = self.supplied(actor, round.given, roomy);
         phases * self.celled(round.given, supplied)
     }

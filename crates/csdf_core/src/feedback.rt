@@ -23,11 +23,11 @@ use crate::first_refusal::is_at;
 use crate::going::put_lasting;
 use crate::layout::Layout;
 use crate::readiness::first_closed;
-use crate::several::{drop_tokens, given_of, taken_of};
+use crate::several::drop_tokens;
 use crate::stage::Stage;
 use crate::transfer::{gift_of, need_of, raise_peaks};
 use crate::turn::Turn;
-use csdf_model::{MAX_FIRINGS_PER_ACTOR, MAX_PHASES, MAX_TOKENS_PER_FIRING};
+use csdf_model::{MAX_FIRINGS_PER_ACTOR, MAX_TOKENS_PER_FIRING};
 use csdf_pool::Pool;
 
 /// The channel in which an actor keeps its state: it goes from the actor to itself, and each firing takes all that it
@@ -127,23 +127,18 @@ fn asked_of(layout: &Layout, actor: u32, own: u32, channel: u32, turn: Turn, n: 
     requires channel { channel < length layout.now.channels }
     requires own { to_at layout.now.channels channel ≡ actor }
     requires in_phase { IsInPhase layout.now.channels actor turn.firing turn.phase }
-    requires low { turn.phase < MAX_PHASES }
     requires few { turn.firing + n ≤ MAX_FIRINGS_PER_ACTOR }
     ensures value { result ≡ asks_at layout.now.channels own turn.firing n channel }
 {
     if channel == own {
         return u64::from(layout.takes(channel, turn));
     }
-    taken_of(layout, actor, channel, turn, n)
+    layout.taken(channel, turn.firing, n)
 }
 
 /// For how many tokens n firings have to find room in the output: in the channel to the actor itself for none.
-fn filled_of(layout: &Layout, actor: u32, own: u32, channel: u32, turn: Turn, n: u32) -> u64
-    requires actor { actor < length layout.now.sources }
+fn filled_of(layout: &Layout, own: u32, channel: u32, turn: Turn, n: u32) -> u64
     requires channel { channel < length layout.now.channels }
-    requires own { from_at layout.now.channels channel ≡ actor }
-    requires in_phase { IsInPhase layout.now.channels actor turn.firing turn.phase }
-    requires low { turn.phase < MAX_PHASES }
     requires few { turn.firing + n ≤ MAX_FIRINGS_PER_ACTOR }
     ensures value { result ≡ fills_at layout.now.channels own turn.firing n channel }
     ensures small { result ≤ MAX_TOKENS_PER_FIRING * n }
@@ -151,7 +146,7 @@ fn filled_of(layout: &Layout, actor: u32, own: u32, channel: u32, turn: Turn, n:
     if channel == own {
         return 0;
     }
-    given_of(layout, actor, channel, turn, n)
+    layout.given(channel, turn.firing, n)
 }
 
 /// Whether each input of the actor holds what its next n firings have to find there.
@@ -159,7 +154,6 @@ fn hold_asked(layout: &Layout, pool: &Pool, actor: u32, own: u32, turn: Turn, n:
     requires actor { actor < length layout.now.sources }
     requires same { length pool.now.chains ≡ length layout.now.channels }
     requires in_phase { IsInPhase layout.now.channels actor turn.firing turn.phase }
-    requires low { turn.phase < MAX_PHASES }
     requires few { turn.firing + n ≤ MAX_FIRINGS_PER_ACTOR }
     ensures { IsTrue result ↔ HoldAll (tokens_in pool.now) (asks_at layout.now.channels own turn.firing n) (inputs_at layout.now.channels actor) }
 {
@@ -177,15 +171,13 @@ fn hold_asked(layout: &Layout, pool: &Pool, actor: u32, own: u32, turn: Turn, n:
 fn have_asked(layout: &Layout, pool: &Pool, actor: u32, own: u32, turn: Turn, n: u32) -> bool
     requires actor { actor < length layout.now.sources }
     requires same { length pool.now.chains ≡ length layout.now.channels }
-    requires in_phase { IsInPhase layout.now.channels actor turn.firing turn.phase }
-    requires low { turn.phase < MAX_PHASES }
     requires few { turn.firing + n ≤ MAX_FIRINGS_PER_ACTOR }
     ensures { IsTrue result ↔ HaveRoomFor layout.now.channels (tokens_in pool.now) (fills_at layout.now.channels own turn.firing n)
         (outputs_at layout.now.channels actor) }
 {
     let outputs = layout.outputs(actor);
     for channel in outputs {
-        let given = filled_of(layout, actor, own, *channel, turn, n);
+        let given = filled_of(layout, own, *channel, turn, n);
         if u64::from(pool.len(*channel)) + given > u64::from(layout.capacity(*channel)) {
             return false;
         }

@@ -3,10 +3,12 @@
 //! The readers that are marked so are inlined: each firing calls several of them for each of its
 //! channels, and a call costs more than the loads that it makes.
 
-ghost use Rattle.std.specs.Prelude.{ℕ, ◌≡◌, ◌<◌, ◌≤◌, length, map, slice_get, slice_index, slice_index_or, false, All, IfOk, Some};
+ghost use Rattle.std.specs.Prelude.{ℕ, ◌≡◌, ◌+◌, ◌*◌, ◌<◌, ◌≤◌, length, map, slice_get, slice_index, slice_index_or, false, All, IfOk, Some};
 ghost use Rattle.csdf_core.specs.Plan.{Channel as ChannelModel, consume_at, from_at, produce_at, to_at};
 ghost use Rattle.csdf_core.specs.Layout.{is_source_kernel, plan_for, with_capacity};
 ghost use Rattle.csdf_model.specs.Graph.{channel_view};
+ghost use Rattle.csdf_model.specs.Rates.{total};
+ghost use Rattle.csdf_core.specs.Blocks.{takes_at, gives_at};
 ghost use Rattle.csdf_core.specs.Playable.{IsPlayable};
 ghost use Rattle.csdf_core.specs.Rows.{gift};
 ghost use Rattle.csdf_core.specs.Streams.{part};
@@ -17,7 +19,7 @@ use crate::setup::Setup;
 use crate::turn::Turn;
 use csdf_model::{
     Channel, Graph, Kernel, MAX_ACTORS, MAX_CHANNELS, MAX_FIRINGS_PER_ACTOR, MAX_PHASES,
-    MAX_TOKENS_PER_FIRING,
+    MAX_TOKENS_PER_FIRING, rate, total,
 };
 use std::alloc::{AllocError, Global};
 use std::marker::Model;
@@ -50,6 +52,22 @@ fn is_source(kernel: Kernel) -> bool
     ensures { result ≡ is_source_kernel kernel }
 {
     matches!(kernel, Kernel::Source)
+}
+
+/// How many tokens n firings move at these rates, from this one on.
+#[inline(always)]
+fn moved(rates: &[u32], firing: u32, n: u32) -> u64
+    requires { firing + n ≤ MAX_FIRINGS_PER_ACTOR }
+    ensures { total rates.now firing + result ≡ total rates.now (firing + n) }
+{
+    // Most actors have one phase, and then nothing is divided. Blocks of one firing are many.
+    if rates.len() == 1 {
+        return u64::from(n) * u64::from(rates[0]);
+    }
+    if n == 1 {
+        return u64::from(rate(rates, firing));
+    }
+    total(rates, firing + n) - total(rates, firing)
 }
 
 /// The same numbers in a list of their own.
@@ -194,6 +212,29 @@ impl Layout {
     {
         let channel = self.channel(channel);
         channel.produce[turn.phase as usize]
+    }
+
+    /// How many tokens n firings of the channel's consumer take out, from this one on.
+    #[inline(always)]
+    pub(crate) fn taken(&self, channel: u32, firing: u32, n: u32) -> u64
+        requires channel { channel < length self.now.channels }
+        requires few { firing + n ≤ MAX_FIRINGS_PER_ACTOR }
+        ensures { result ≡ takes_at self.now.channels firing n channel }
+    {
+        let channel = self.channel(channel);
+        moved(&channel.consume, firing, n)
+    }
+
+    /// How many tokens n firings of the channel's producer put in, from this one on.
+    #[inline(always)]
+    pub(crate) fn given(&self, channel: u32, firing: u32, n: u32) -> u64
+        requires channel { channel < length self.now.channels }
+        requires few { firing + n ≤ MAX_FIRINGS_PER_ACTOR }
+        ensures value { result ≡ gives_at self.now.channels firing n channel }
+        ensures small { result ≤ MAX_TOKENS_PER_FIRING * n }
+    {
+        let channel = self.channel(channel);
+        moved(&channel.produce, firing, n)
     }
 
     /// The channel's producer.

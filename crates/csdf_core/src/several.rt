@@ -1,11 +1,10 @@
 //! Blocks of firings of an actor with several inputs or outputs: what they move of each channel.
 
-ghost use Rattle.std.specs.Prelude.{ℕ, ◌≡◌, ◌≢◌, ◌+◌, ◌*◌, ◌<◌, ◌≤◌, ◌↔◌, IsTrue, length, take, drop};
+ghost use Rattle.std.specs.Prelude.{ℕ, ◌≡◌, ◌≢◌, ◌+◌, ◌<◌, ◌≤◌, ◌↔◌, IsTrue, length, take, drop};
 ghost use Rattle.std.specs.List.{AllByRecursion};
 ghost use Rattle.csdf_pool.specs.Pool.{IsPartition, after_takes};
 ghost use Rattle.csdf_core.specs.Blocks.{gifts_of, takes_at, gives_at, HoldAll, HaveRoomFor, HasNoLoop, pool_after, peaks_after, Suffices};
 ghost use Rattle.csdf_core.specs.Phases.{IsInPhase};
-ghost use Rattle.csdf_core.specs.Plan.{from_at, to_at};
 ghost use Rattle.csdf_core.specs.Ports.{inputs_at, outputs_at, take_at, tokens_in, tokens_at, EnoughOver, raise_over};
 ghost use Rattle.csdf_core.specs.Rows.{gift};
 ghost use Rattle.csdf_core.specs.Transfers.{after_read, after_write};
@@ -14,7 +13,7 @@ ghost use Rattle.std.specs.Prelude.{slice_set};
 use crate::layout::Layout;
 use crate::transfer::{gift_of, put_outputs, raise_peaks};
 use crate::turn::{Turn, turn_after};
-use csdf_model::{MAX_FIRINGS_PER_ACTOR, MAX_PHASES, MAX_TOKENS_PER_FIRING};
+use csdf_model::{MAX_FIRINGS_PER_ACTOR, MAX_PHASES};
 use csdf_pool::Pool;
 
 /// Whether no channel goes from the actor to itself.
@@ -31,132 +30,16 @@ pub(crate) fn has_no_loop(layout: &Layout, actor: u32) -> bool
     true
 }
 
-/// How many tokens n firings take of an input, from this one on, added up one by one.
-fn taken_one_by_one(layout: &Layout, actor: u32, channel: u32, turn: Turn, n: u32) -> u64
-    requires actor { actor < length layout.now.sources }
-    requires channel { channel < length layout.now.channels }
-    requires own { to_at layout.now.channels channel ≡ actor }
-    requires in_phase { IsInPhase layout.now.channels actor turn.firing turn.phase }
-    requires low { turn.phase < MAX_PHASES }
-    requires few { turn.firing + n ≤ MAX_FIRINGS_PER_ACTOR }
-    ensures value { result ≡ takes_at layout.now.channels turn.firing n channel }
-    ensures small { result ≤ MAX_TOKENS_PER_FIRING * n }
-{
-    let mut next = turn;
-    let mut sum = 0;
-    for _firing in 0..n {
-        sum += u64::from(layout.takes(channel, next));
-        next = turn_after(layout, actor, next);
-    }
-    sum
-}
-
-/// How many tokens n firings give to an output, from this one on, added up one by one.
-fn given_one_by_one(layout: &Layout, actor: u32, channel: u32, turn: Turn, n: u32) -> u64
-    requires actor { actor < length layout.now.sources }
-    requires channel { channel < length layout.now.channels }
-    requires own { from_at layout.now.channels channel ≡ actor }
-    requires in_phase { IsInPhase layout.now.channels actor turn.firing turn.phase }
-    requires low { turn.phase < MAX_PHASES }
-    requires few { turn.firing + n ≤ MAX_FIRINGS_PER_ACTOR }
-    ensures value { result ≡ gives_at layout.now.channels turn.firing n channel }
-    ensures small { result ≤ MAX_TOKENS_PER_FIRING * n }
-{
-    let mut next = turn;
-    let mut sum = 0;
-    for _firing in 0..n {
-        sum += u64::from(layout.gives(channel, next));
-        next = turn_after(layout, actor, next);
-    }
-    sum
-}
-
-/// How many tokens n firings take of an input, from this one on: in each round of the actor's phases as many
-/// as in the first, and what is left one by one.
-fn taken_in_rounds(layout: &Layout, actor: u32, channel: u32, turn: Turn, n: u32) -> u64
-    requires actor { actor < length layout.now.sources }
-    requires channel { channel < length layout.now.channels }
-    requires own { to_at layout.now.channels channel ≡ actor }
-    requires in_phase { IsInPhase layout.now.channels actor turn.firing turn.phase }
-    requires low { turn.phase < MAX_PHASES }
-    requires few { turn.firing + n ≤ MAX_FIRINGS_PER_ACTOR }
-    ensures value { result ≡ takes_at layout.now.channels turn.firing n channel }
-{
-    let phases = layout.phases(actor);
-    let rest = taken_one_by_one(layout, actor, channel, turn, n % phases);
-    if n < phases {
-        return rest;
-    }
-    let round = taken_one_by_one(layout, actor, channel, turn, phases);
-    u64::from(n / phases) * round + rest
-}
-
-/// How many tokens n firings give to an output, from this one on: in each round of the actor's phases as many
-/// as in the first, and what is left one by one.
-fn given_in_rounds(layout: &Layout, actor: u32, channel: u32, turn: Turn, n: u32) -> u64
-    requires actor { actor < length layout.now.sources }
-    requires channel { channel < length layout.now.channels }
-    requires own { from_at layout.now.channels channel ≡ actor }
-    requires in_phase { IsInPhase layout.now.channels actor turn.firing turn.phase }
-    requires low { turn.phase < MAX_PHASES }
-    requires few { turn.firing + n ≤ MAX_FIRINGS_PER_ACTOR }
-    ensures value { result ≡ gives_at layout.now.channels turn.firing n channel }
-    ensures small { result ≤ MAX_TOKENS_PER_FIRING * n }
-{
-    let phases = layout.phases(actor);
-    let rest = given_one_by_one(layout, actor, channel, turn, n % phases);
-    if n < phases {
-        return rest;
-    }
-    let round = given_one_by_one(layout, actor, channel, turn, phases);
-    u64::from(n / phases) * round + rest
-}
-
-/// How many tokens n firings take of an input, from this one on.
-pub(crate) fn taken_of(layout: &Layout, actor: u32, channel: u32, turn: Turn, n: u32) -> u64
-    requires actor { actor < length layout.now.sources }
-    requires channel { channel < length layout.now.channels }
-    requires own { to_at layout.now.channels channel ≡ actor }
-    requires in_phase { IsInPhase layout.now.channels actor turn.firing turn.phase }
-    requires low { turn.phase < MAX_PHASES }
-    requires few { turn.firing + n ≤ MAX_FIRINGS_PER_ACTOR }
-    ensures value { result ≡ takes_at layout.now.channels turn.firing n channel }
-{
-    if layout.phases(actor) == 1 {
-        return u64::from(n) * u64::from(layout.takes(channel, turn));
-    }
-    taken_in_rounds(layout, actor, channel, turn, n)
-}
-
-/// How many tokens n firings give to an output, from this one on.
-pub(crate) fn given_of(layout: &Layout, actor: u32, channel: u32, turn: Turn, n: u32) -> u64
-    requires actor { actor < length layout.now.sources }
-    requires channel { channel < length layout.now.channels }
-    requires own { from_at layout.now.channels channel ≡ actor }
-    requires in_phase { IsInPhase layout.now.channels actor turn.firing turn.phase }
-    requires low { turn.phase < MAX_PHASES }
-    requires few { turn.firing + n ≤ MAX_FIRINGS_PER_ACTOR }
-    ensures value { result ≡ gives_at layout.now.channels turn.firing n channel }
-    ensures small { result ≤ MAX_TOKENS_PER_FIRING * n }
-{
-    if layout.phases(actor) == 1 {
-        return u64::from(n) * u64::from(layout.gives(channel, turn));
-    }
-    given_in_rounds(layout, actor, channel, turn, n)
-}
-
 /// Whether each input of the actor holds what its next n firings take of it.
 pub(crate) fn hold_each(layout: &Layout, pool: &Pool, actor: u32, turn: Turn, n: u32) -> bool
     requires actor { actor < length layout.now.sources }
     requires same { length pool.now.chains ≡ length layout.now.channels }
-    requires in_phase { IsInPhase layout.now.channels actor turn.firing turn.phase }
-    requires low { turn.phase < MAX_PHASES }
     requires few { turn.firing + n ≤ MAX_FIRINGS_PER_ACTOR }
     ensures { IsTrue result ↔ HoldAll (tokens_in pool.now) (takes_at layout.now.channels turn.firing n) (inputs_at layout.now.channels actor) }
 {
     let inputs = layout.inputs(actor);
     for channel in inputs {
-        let needed = taken_of(layout, actor, *channel, turn, n);
+        let needed = layout.taken(*channel, turn.firing, n);
         if u64::from(pool.len(*channel)) < needed {
             return false;
         }
@@ -168,15 +51,13 @@ pub(crate) fn hold_each(layout: &Layout, pool: &Pool, actor: u32, turn: Turn, n:
 pub(crate) fn have_room_each(layout: &Layout, pool: &Pool, actor: u32, turn: Turn, n: u32) -> bool
     requires actor { actor < length layout.now.sources }
     requires same { length pool.now.chains ≡ length layout.now.channels }
-    requires in_phase { IsInPhase layout.now.channels actor turn.firing turn.phase }
-    requires low { turn.phase < MAX_PHASES }
     requires few { turn.firing + n ≤ MAX_FIRINGS_PER_ACTOR }
     ensures { IsTrue result ↔ HaveRoomFor layout.now.channels (tokens_in pool.now) (gives_at layout.now.channels turn.firing n)
         (outputs_at layout.now.channels actor) }
 {
     let outputs = layout.outputs(actor);
     for channel in outputs {
-        let given = given_of(layout, actor, *channel, turn, n);
+        let given = layout.given(*channel, turn.firing, n);
         if u64::from(pool.len(*channel)) + given > u64::from(layout.capacity(*channel)) {
             return false;
         }

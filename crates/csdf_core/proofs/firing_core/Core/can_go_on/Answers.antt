@@ -105,9 +105,6 @@ have_asked-requires-clause-actor c = grind (arith, common_steps)
 pub hold_asked-requires-clause-actor : goal.hold_asked-requires-clause-actor
 hold_asked-requires-clause-actor c = grind (arith, common_steps)
 
-pub have_asked-requires-clause-in_phase : goal.have_asked-requires-clause-in_phase
-have_asked-requires-clause-in_phase c = grind (arith, common_steps)
-
 pub hold_asked-requires-clause-in_phase : goal.hold_asked-requires-clause-in_phase
 hold_asked-requires-clause-in_phase c = grind (arith, common_steps)
 

@@ -79,12 +79,6 @@ returns-then-not-has_cells c = grind (arith, common_steps)
 pub have_theirs-requires-clause-actor : goal.have_theirs-requires-clause-actor
 have_theirs-requires-clause-actor c = grind (arith, common_steps)
 
-pub have_theirs-requires-clause-in_phase : goal.have_theirs-requires-clause-in_phase
-have_theirs-requires-clause-in_phase c = grind (arith, common_steps)
-
-pub hold_theirs-requires-clause-in_phase : goal.hold_theirs-requires-clause-in_phase
-hold_theirs-requires-clause-in_phase c = grind (arith, common_steps)
-
 pub hold_theirs-requires-clause-actor : goal.hold_theirs-requires-clause-actor
 hold_theirs-requires-clause-actor c = grind (arith, common_steps)
 
