@@ -23,6 +23,30 @@ use Rattle.csdf_floor.proofs.Makings.{length_made}
 use Rattle.csdf_floor.proofs.Sequential.{sum_of_counts}
 use Rattle.csdf_floor.proofs.Works.{playable_program}
 
+-- ---- one firing more
+
+pub needs_more : (cs : List Channel) (a k n : ℕ) → needs_of cs a k (n + 1) ≡ needs_of cs a k n + need a (k + n) cs
+needs_more cs a k zero =
+    let e = ap (λ (j : ℕ). need a j cs) (let z : k + 0 ≡ k = omega arith in z) in
+    let one : needs_of cs a k (0 + 1) ≡ need a k cs + 0 = ap (needs_of cs a k) (let z : 0 + 1 ≡ 1 = omega arith in z) in
+    omega (arith, e, one)
+needs_more cs a k (suc n) =
+    let rest = needs_more cs a (suc k) n in
+    let all : needs_of cs a k (suc n + 1) ≡ need a k cs + needs_of cs a (suc k) (n + 1) = ap (needs_of cs a k) (let z : suc n + 1 ≡ suc (n + 1) = omega arith in z) in
+    let last = ap (λ (j : ℕ). need a j cs) (let z : suc k + n ≡ k + suc n = omega arith in z) in
+    omega (arith, all, rest, last)
+
+pub gifts_more : (cs : List Channel) (a k n : ℕ) → gifts_of cs a k (n + 1) ≡ gifts_of cs a k n + gift a (k + n) cs
+gifts_more cs a k zero =
+    let e = ap (λ (j : ℕ). gift a j cs) (let z : k + 0 ≡ k = omega arith in z) in
+    let one : gifts_of cs a k (0 + 1) ≡ gift a k cs + 0 = ap (gifts_of cs a k) (let z : 0 + 1 ≡ 1 = omega arith in z) in
+    omega (arith, e, one)
+gifts_more cs a k (suc n) =
+    let rest = gifts_more cs a (suc k) n in
+    let all : gifts_of cs a k (suc n + 1) ≡ gift a k cs + gifts_of cs a (suc k) (n + 1) = ap (gifts_of cs a k) (let z : suc n + 1 ≡ suc (n + 1) = omega arith in z) in
+    let last = ap (λ (j : ℕ). gift a j cs) (let z : suc k + n ≡ k + suc n = omega arith in z) in
+    omega (arith, all, rest, last)
+
 -- ---- one firing after another
 
 -- the first of those that are left

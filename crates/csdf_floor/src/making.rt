@@ -163,7 +163,8 @@ impl Book {
     }
 
     /// How many of its next firings the actor can make at once, at most so many: 0 where the journal
-    /// is kept, and for an actor with a channel to itself (see [`goes_on`](Book::goes_on)).
+    /// is kept, and for an actor with a channel to itself (see [`goes_on`](Book::goes_on)). With several
+    /// phases it may be fewer than it can make.
     pub(crate) fn block(&self, actor: u32, most: u32) -> Block
         requires { actor < length self.now.shown.core.plan.sources }
         ensures most { result.firings ≤ most }
@@ -181,7 +182,10 @@ impl Book {
                 given: 0,
             };
         }
-        self.core.block(actor, most)
+        if self.core.has_one_phase(actor) {
+            return self.core.block(actor, most);
+        }
+        self.phased_block(actor, most)
     }
 
     /// Makes room for the actor's next n firings, with a buffer for so many tokens, and the closing of its

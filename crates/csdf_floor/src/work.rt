@@ -8,7 +8,7 @@ ghost use Rattle.csdf_core.specs.Headline.{capacity_of};
 ghost use Rattle.csdf_core.specs.Layout.{is_source_kernel, plan_for, with_capacity};
 ghost use Rattle.csdf_core.specs.Plan.{consume_at, produce_at, to_at};
 ghost use Rattle.csdf_core.specs.Ports.{give_at, inputs_at, outputs_at, take_at};
-ghost use Rattle.csdf_core.specs.Rows.{need};
+ghost use Rattle.csdf_core.specs.Rows.{gift, need};
 ghost use Rattle.csdf_core.specs.Step.{is_source, producer};
 ghost use Rattle.csdf_kernel.specs.Value.{HasFilterInRange};
 ghost use Rattle.csdf_floor.specs.Journal.{output_counts};
@@ -191,7 +191,7 @@ impl Work {
     }
 
     /// The channels that end at the actor, in file order.
-    fn inputs(&self, actor: u32) -> &[u32]
+    pub(crate) fn inputs(&self, actor: u32) -> &[u32]
         requires { actor < length self.now.accepted.graph.actors }
         ensures value { result.now ≡ inputs_at (program self.now).plan.channels actor }
         ensures within { All (λ c. c < length (program self.now).plan.channels) result.now }
@@ -272,6 +272,19 @@ impl Work {
         let mut sum = 0;
         for channel in self.inputs(actor) {
             sum += self.consumption(*channel, firing) as usize;
+        }
+        sum
+    }
+
+    /// How many tokens the firing of the actor writes.
+    pub(crate) fn gift(&self, actor: u32, firing: u32) -> usize
+        requires { actor < length self.now.accepted.graph.actors }
+        ensures value { result ≡ gift actor firing (program self.now).plan.channels }
+        ensures small { result ≤ 8192 }
+    {
+        let mut sum = 0;
+        for channel in self.outputs(actor) {
+            sum += self.production(*channel, firing) as usize;
         }
         sum
     }
