@@ -10,7 +10,7 @@ use Rattle.std.proofs.lemmas.List.Elements.{recursion_from_All}
 use Rattle.std.proofs.lemmas.List.Sums.{sum_by-cons}
 use Rattle.csdf_model.specs.Rates.{rate}
 use Rattle.csdf_pool.specs.Pool.{Shared}
-use Rattle.csdf_core.specs.Blocks.{needs_of, gifts_of, takes_at, gives_at, fronts, reads_over, from_front, HasNoLoop, HoldAll, HaveRoomFor, capacity_at}
+use Rattle.csdf_core.specs.Blocks.{needs_of, gifts_of, takes_at, fronts, reads_over, from_front, HasNoLoop, HoldAll}
 use Rattle.csdf_core.specs.Blocks.{pool_fired, pool_after, peaks_after, Suffices}
 use Rattle.csdf_core.specs.Plan.{Channel, Plan, from_at, to_at, gives_of}
 use Rattle.csdf_core.specs.Ports.{inputs_at, outputs_at, take_at, give_at, own_take_at, tokens_at, tokens_in, raise_over}
@@ -18,7 +18,7 @@ use Rattle.csdf_core.specs.Rows.{left, joined, shares, taken, need, gift}
 use Rattle.csdf_core.specs.Transfers.{after_read, after_write}
 use Rattle.csdf_core.proofs.BlockPorts.{AreApart, both, each}
 use Rattle.csdf_core.proofs.PhaseLemmas.{numbers_own}
-use Rattle.csdf_core.proofs.PortLemmas.{fronts_all, rates_by_number, need_is, gift_is, numbers_within, own_take}
+use Rattle.csdf_core.proofs.PortLemmas.{fronts_all, rates_by_number, need_is, numbers_within, own_take}
 
 -- ---- one channel after the reads and writes
 pub left_at : (a k : ℕ) (cs : List Channel) (ts : List (List ℤ)) (c : ℕ) → length ts ≡ length cs → c < length cs
@@ -150,24 +150,10 @@ module _ (cs : List Channel) (a : ℕ) where
       (λ c (x : take_at cs k c ≡ need a k cs) (y : takes_at cs (suc k) n c ≡ needs_of cs a (suc k) n). ap₂ (λ (i j : ℕ). i + j) x y)
       (one_of (take_at cs k) (inputs_at cs a) (need a k cs) one (need_is a k cs)) (one_needs (suc k) n one)
 
-  pub one_gifts : (k n : ℕ) → length (outputs_at cs a) ≤ 1 → AllByRecursion (λ c. gives_at cs k n c ≡ gifts_of cs a k n) (outputs_at cs a)
-  one_gifts k zero one = always 0 (outputs_at cs a)
-  one_gifts k (suc n) one =
-      both (outputs_at cs a)
-      (λ c (x : give_at cs k c ≡ gift a k cs) (y : gives_at cs (suc k) n c ≡ gifts_of cs a (suc k) n). ap₂ (λ (i j : ℕ). i + j) x y)
-      (one_of (give_at cs k) (outputs_at cs a) (gift a k cs) one (gift_is a k cs)) (one_gifts (suc k) n one)
-
 -- amounts may be told in another way
 pub hold_same : (ts : List (List ℤ)) (f g : ℕ → ℕ) (ns : List ℕ) → AllByRecursion (λ c. f c ≡ g c) ns → HoldAll ts f ns → HoldAll ts g ns
 hold_same ts f g ns same hold =
     both ns (λ c (e : f c ≡ g c) (h : f c ≤ length (tokens_at ts c)). (let r : g c ≤ length (tokens_at ts c) = omega (arith, e, h) in r)) same hold
-
-pub room_same : (cs : List Channel) (ts : List (List ℤ)) (f g : ℕ → ℕ) (ns : List ℕ) → AllByRecursion (λ c. f c ≡ g c) ns
-    → HaveRoomFor cs ts f ns → HaveRoomFor cs ts g ns
-room_same cs ts f g ns same room =
-    both ns
-    (λ c (e : f c ≡ g c) (h : length (tokens_at ts c) + f c ≤ capacity_at cs c).
-    (let r : length (tokens_at ts c) + g c ≤ capacity_at cs c = omega (arith, e, h) in r)) same room
 
 pub turned : (f g : ℕ → ℕ) (ns : List ℕ) → AllByRecursion (λ c. f c ≡ g c) ns → AllByRecursion (λ c. g c ≡ f c) ns
 turned f g ns same = each ns (λ c (e : f c ≡ g c). sym e) same

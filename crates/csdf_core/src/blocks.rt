@@ -133,6 +133,22 @@ pub(crate) fn look_ahead(layout: &Layout, actor: u32, turn: Turn, n: u32) -> Ahe
     in_rounds(layout, actor, turn, n)
 }
 
+/// How many tokens n firings give, from this one on.
+#[inline(always)]
+fn given_in_all(layout: &Layout, actor: u32, turn: Turn, n: u32) -> u64
+    requires actor { actor < length layout.now.sources }
+    requires in_phase { IsInPhase layout.now.channels actor turn.firing turn.phase }
+    requires low { turn.phase < MAX_PHASES }
+    requires few { turn.firing + n ≤ MAX_FIRINGS_PER_ACTOR }
+    ensures value { result ≡ gifts_of layout.now.channels actor turn.firing n }
+    ensures small { result ≤ 8192 * n }
+{
+    if layout.phases(actor) == 1 {
+        return u64::from(n) * gift_of(layout, actor, turn) as u64;
+    }
+    one_by_one(layout, actor, turn, n).given
+}
+
 /// A number of firings that an actor can make one after the other, and how many tokens they read
 /// and write in all.
 #[derive(Clone, Copy, Debug, PartialEq, Eq)]
@@ -248,71 +264,6 @@ fn is_plain(layout: &Layout, actor: u32) -> bool
         return false;
     }
     true
-}
-
-/// Whether each input of the actor holds so many tokens.
-fn hold_all(layout: &Layout, pool: &Pool, actor: u32, needed: u64) -> bool
-    requires actor { actor < length layout.now.sources }
-    requires same { length pool.now.chains ≡ length layout.now.channels }
-    ensures { IsTrue result ↔ HoldAll (tokens_in pool.now) (λ _. needed) (inputs_at layout.now.channels actor) }
-{
-    let inputs = layout.inputs(actor);
-    for channel in inputs {
-        if u64::from(pool.len(*channel)) < needed {
-            return false;
-        }
-    }
-    true
-}
-
-/// Whether each output of the actor has room for so many tokens more.
-fn have_room(layout: &Layout, pool: &Pool, actor: u32, given: u64) -> bool
-    requires actor { actor < length layout.now.sources }
-    requires same { length pool.now.chains ≡ length layout.now.channels }
-    requires small { given ≤ 8192 * MAX_FIRINGS_PER_ACTOR }
-    ensures { IsTrue result ↔ HaveRoomFor layout.now.channels (tokens_in pool.now) (λ _. given) (outputs_at layout.now.channels actor) }
-{
-    let outputs = layout.outputs(actor);
-    for channel in outputs {
-        if u64::from(pool.len(*channel)) + given > u64::from(layout.capacity(*channel)) {
-            return false;
-        }
-    }
-    true
-}
-
-/// Whether each input of the actor holds what its next n firings take of it, which is so many
-/// tokens in all.
-#[inline(always)]
-fn hold_theirs(layout: &Layout, pool: &Pool, actor: u32, turn: Turn, n: u32, needed: u64) -> bool
-    requires actor { actor < length layout.now.sources }
-    requires same { length pool.now.chains ≡ length layout.now.channels }
-    requires few { turn.firing + n ≤ MAX_FIRINGS_PER_ACTOR }
-    requires needed { needed ≡ needs_of layout.now.channels actor turn.firing n }
-    ensures { IsTrue result ↔ HoldAll (tokens_in pool.now) (takes_at layout.now.channels turn.firing n) (inputs_at layout.now.channels actor) }
-{
-    if layout.inputs(actor).len() > 1 {
-        return hold_each(layout, pool, actor, turn, n);
-    }
-    hold_all(layout, pool, actor, needed)
-}
-
-/// Whether each output of the actor has room for what its next n firings give to it, which is so
-/// many tokens in all.
-#[inline(always)]
-fn have_theirs(layout: &Layout, pool: &Pool, actor: u32, turn: Turn, n: u32, given: u64) -> bool
-    requires actor { actor < length layout.now.sources }
-    requires same { length pool.now.chains ≡ length layout.now.channels }
-    requires few { turn.firing + n ≤ MAX_FIRINGS_PER_ACTOR }
-    requires given { given ≡ gifts_of layout.now.channels actor turn.firing n }
-    requires small { given ≤ 8192 * MAX_FIRINGS_PER_ACTOR }
-    ensures { IsTrue result ↔ HaveRoomFor layout.now.channels (tokens_in pool.now) (gives_at layout.now.channels turn.firing n)
-        (outputs_at layout.now.channels actor) }
-{
-    if layout.outputs(actor).len() > 1 {
-        return have_room_each(layout, pool, actor, turn, n);
-    }
-    have_room(layout, pool, actor, given)
 }
 
 /// Takes so many tokens out of the actor's input, where it has one.
@@ -754,20 +705,20 @@ impl Core {
         if first_closed(&self.layout, &self.opens, actor).is_some() {
             return false;
         }
-        let ahead = look_ahead(&self.layout, actor, turn, n);
-        if !hold_theirs(&self.layout, &self.pool, actor, turn, n, ahead.needed) {
+        if !hold_each(&self.layout, &self.pool, actor, turn, n) {
             return false;
         }
-        if !have_theirs(&self.layout, &self.pool, actor, turn, n, ahead.given) {
+        if !have_room_each(&self.layout, &self.pool, actor, turn, n) {
             return false;
         }
-        if !self.has_supply(actor, ahead.given) {
+        let given = given_in_all(&self.layout, actor, turn, n);
+        if !self.has_supply(actor, given) {
             return false;
         }
         if !self.may_begin(n) {
             return false;
         }
-        if !self.has_cells(ahead.given) {
+        if !self.has_cells(given) {
             return false;
         }
         true

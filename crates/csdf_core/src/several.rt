@@ -1,4 +1,5 @@
-//! Blocks of firings of an actor with several inputs or outputs: what they move of each channel.
+//! What the firings of a block find and move, channel by channel, where an actor may have several
+//! inputs and outputs.
 
 ghost use Rattle.std.specs.Prelude.{ℕ, ◌≡◌, ◌≢◌, ◌+◌, ◌<◌, ◌≤◌, ◌↔◌, IsTrue, length, take, drop};
 ghost use Rattle.std.specs.List.{AllByRecursion};

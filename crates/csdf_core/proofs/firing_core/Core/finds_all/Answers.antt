@@ -23,7 +23,7 @@ returns c =
     let n : ℕ = c.args.n in
     let k : ℕ = count p a in
     let firing : c.turn-turn.result.firing ≡ k = rw (← c.self.view_is) at c.turn-turn.ensures.firing in
-    let given : c.look_ahead-ahead.result.given ≡ gifts_of plan.channels a k n = c.look_ahead-ahead.ensures.given
+    let given : c.given_in_all-given.result ≡ gifts_of plan.channels a k n = c.given_in_all-given.ensures.value
     ∙ ap (λ (x : ℕ). gifts_of plan.channels a x n) firing in
     let supply = rw (← c.self.view_is) at (c.if-not-has_supply.ensures.0 refl) in
     let cells = rw (← c.self.view_is) at (c.if-not-has_cells.ensures.0 refl) in
@@ -38,9 +38,9 @@ returns c =
             ∙ none_of c.first_closed.result (sym c.is_some.ensures ∙ c.if-is_some.false);
         supply = λ source. (let s = supply source in omega (arith, s, given, given_more plan a k n));
         tokens = subst (λ x. HoldAll (tokens_in c.self.inside.pool) (takes_at plan.channels x n) (inputs_at plan.channels a)) firing
-            (c.if-not-hold_theirs.ensures.0 refl);
+            (c.if-not-hold_each.ensures.0 refl);
         room = subst (λ x. HaveRoomFor plan.channels (tokens_in c.self.inside.pool) (gives_at plan.channels x n) (outputs_at plan.channels a)) firing
-            (c.if-not-have_theirs.ensures.0 refl);
+            (c.if-not-have_room_each.ensures.0 refl);
         firings = rw (← c.self.view_is) at (c.if-not-may_begin.ensures.0 refl);
         cells = omega (arith, cells, given);
       },
@@ -55,7 +55,7 @@ returns-then-not-has_supply c =
     let n : ℕ = c.args.n in
     let k : ℕ = count p a in
     let firing : c.turn-turn.result.firing ≡ k = rw (← c.self.view_is) at c.turn-turn.ensures.firing in
-    let given : c.look_ahead-ahead.result.given ≡ gifts_of plan.channels a k n = c.look_ahead-ahead.ensures.given
+    let given : c.given_in_all-given.result ≡ gifts_of plan.channels a k n = c.given_in_all-given.ensures.value
     ∙ ap (λ (x : ℕ). gifts_of plan.channels a x n) firing in
     let short = rw (← c.self.view_is) at c.if-not-has_supply.ensures.1 in
     rw (← c.self.view_is)
@@ -76,23 +76,23 @@ returns-then-not-may_begin c = grind (arith, common_steps)
 pub returns-then-not-has_cells : goal.returns-then-not-has_cells
 returns-then-not-has_cells c = grind (arith, common_steps)
 
-pub have_theirs-requires-clause-actor : goal.have_theirs-requires-clause-actor
-have_theirs-requires-clause-actor c = grind (arith, common_steps)
+pub have_room_each-requires-clause-actor : goal.have_room_each-requires-clause-actor
+have_room_each-requires-clause-actor c = grind (arith, common_steps)
 
-pub hold_theirs-requires-clause-actor : goal.hold_theirs-requires-clause-actor
-hold_theirs-requires-clause-actor c = grind (arith, common_steps)
+pub hold_each-requires-clause-actor : goal.hold_each-requires-clause-actor
+hold_each-requires-clause-actor c = grind (arith, common_steps)
 
-pub look_ahead-ahead-requires-clause-actor : goal.look_ahead-ahead-requires-clause-actor
-look_ahead-ahead-requires-clause-actor c = grind (arith, common_steps)
+pub given_in_all-given-requires-clause-actor : goal.given_in_all-given-requires-clause-actor
+given_in_all-given-requires-clause-actor c = grind (arith, common_steps)
 
-pub look_ahead-ahead-requires-clause-in_phase : goal.look_ahead-ahead-requires-clause-in_phase
-look_ahead-ahead-requires-clause-in_phase c = grind (arith, common_steps)
+pub given_in_all-given-requires-clause-in_phase : goal.given_in_all-given-requires-clause-in_phase
+given_in_all-given-requires-clause-in_phase c = grind (arith, common_steps)
 
-pub have_theirs-requires-clause-same : goal.have_theirs-requires-clause-same
-have_theirs-requires-clause-same c = grind (arith, common_steps)
+pub have_room_each-requires-clause-same : goal.have_room_each-requires-clause-same
+have_room_each-requires-clause-same c = grind (arith, common_steps)
 
-pub hold_theirs-requires-clause-same : goal.hold_theirs-requires-clause-same
-hold_theirs-requires-clause-same c = grind (arith, common_steps)
+pub hold_each-requires-clause-same : goal.hold_each-requires-clause-same
+hold_each-requires-clause-same c = grind (arith, common_steps)
 
 pub first_closed-requires-clause-actor : goal.first_closed-requires-clause-actor
 first_closed-requires-clause-actor c = grind (arith, common_steps)

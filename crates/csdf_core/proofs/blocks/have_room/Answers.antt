@@ -1,6 +1,0 @@
-use Rattle.std.proofs.Common.{arith}
-use Rattle.std.proofs.lemmas.Grind.{common_steps}
-use Rattle.csdf_core.proofs.blocks.have_room.Goals as goal
-
-pub returns-then-from-given : goal.returns-then-from-given
-returns-then-from-given c = grind (arith, common_steps)

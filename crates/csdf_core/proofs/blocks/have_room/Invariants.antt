@@ -1,9 +1,0 @@
-use Rattle.std.proofs.Common.{ℕ, ◌+◌, ◌<◌, ◌≤◌, length, get_or}
-use Rattle.csdf_core.specs.Blocks.{capacity_at}
-use Rattle.csdf_core.specs.Ports.{tokens_at, tokens_in}
-use Rattle.csdf_core.proofs.blocks.have_room.Given as goal
-
--- the outputs so far have room for as many
-abbrev pub invariant-loop-channel : goal.invariant-loop-channel
-invariant-loop-channel l = (j : ℕ) → j < l.channel-index
-    → length (tokens_at (tokens_in l.pool) (get_or l.outputs j 0)) + l.given ≤ capacity_at l.layout.channels (get_or l.outputs j 0)
