@@ -146,7 +146,7 @@ fn given_in_all(layout: &Layout, actor: u32, turn: Turn, n: u32) -> u64
     if layout.phases(actor) == 1 {
         return u64::from(n) * gift_of(layout, actor, turn) as u64;
     }
-    one_by_one(layout, actor, turn, n).given
+    in_rounds(layout, actor, turn, n).given
 }
 
 /// A number of firings that an actor can make one after the other, and how many tokens they read
