@@ -24,7 +24,7 @@ use csdf_bytes::{Slice, TokenFault, read_tokens};
 use csdf_floor::{ChannelReport, Ending, Outcome, RunFault, printed_report};
 use csdf_graph::{GraphFault, read_graph};
 use csdf_journal::Keeping;
-use csdf_model::{Actor, Graph, Kernel};
+use csdf_model::{Actor, Graph, Kernel, MAX_ACTORS};
 use std::alloc::{AllocError, Global};
 use std::sync::Wait;
 use std::thread::Threads;
@@ -90,7 +90,7 @@ fn is_sink(actor: &Actor) -> bool
 
 /// How many sources there are.
 fn source_count(actors: &[Actor]) -> usize
-    requires { length actors.now ≤ 64 }
+    requires { length actors.now ≤ MAX_ACTORS }
     ensures { result ≡ source_count (map actor_view actors.now) }
 {
     let mut count = 0;
@@ -136,7 +136,7 @@ fn push_feed(feeds: &mut Vec<Vec<i32>>, actor: u32, feed: Vec<i32>) -> Result<()
 
 /// The tokens for each actor, from one text for each source.
 fn feeds_of(alloc: Global, actors: &[Actor], texts: &[Vec<u8>]) -> Result<Vec<Vec<i32>>, TextsFault>
-    requires { length actors.now ≤ 64 }
+    requires { length actors.now ≤ MAX_ACTORS }
     ensures feeds { IfOk result (λ feeds. feeds_from 0 (map actor_view actors.now) (texts_in texts.now) ≡ Ok (feeds_in feeds.items)) }
     ensures refused { IfErr result (IsReadFault (feeds_from 0 (map actor_view actors.now) (texts_in texts.now))) }
 {
