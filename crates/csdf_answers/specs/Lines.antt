@@ -3,6 +3,7 @@ use Rattle.std.specs.Prelude.{ℕ, ◌==◌, nat_lt, Bool, List, [], ◌∷◌, 
 use Rattle.std.specs.List.{filter, slice_split}
 use Rattle.std.specs.Str.{bytes_eq}
 use Rattle.std.specs.Result.{result_ok}
+use Rattle.csdf_model.specs.declared.limits.TheConstants.{MAX_ACTORS, MAX_CHANNELS}
 use Rattle.csdf_model.specs.Graph.{Graph, Actor, Channel}
 use Rattle.csdf_model.specs.Names.{is_name, number_in}
 use Rattle.csdf_bytes.specs.TokenText.{token_in}
@@ -22,13 +23,13 @@ words_of line = filter (λ word. nat_lt 0 (length word)) (slice_split is_space l
 
 -- ---- numbers for names
 
--- the actor's number, or 64, which no graph has
+-- the actor's number, or one that no graph has: numbers begin at 0
 abbrev pub actor_in : Graph → List ℕ → ℕ
-actor_in g name = unwrap_or (number_in (map (λ (a : Actor). a.name) g.actors) name) 64
+actor_in g name = unwrap_or (number_in (map (λ (a : Actor). a.name) g.actors) name) MAX_ACTORS
 
--- the channel's number, or 128, which no graph has
+-- the channel's number, or one that no graph has
 abbrev pub channel_in : Graph → List ℕ → ℕ
-channel_in g name = unwrap_or (number_in (map (λ (c : Channel). c.name) g.channels) name) 128
+channel_in g name = unwrap_or (number_in (map (λ (c : Channel). c.name) g.channels) name) MAX_CHANNELS
 
 -- ---- lines
 

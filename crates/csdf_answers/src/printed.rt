@@ -8,7 +8,7 @@ ghost use Rattle.csdf_core.specs.Shows.{as_reply};
 ghost use Rattle.csdf_answers.specs.Printed.{names_of, name_at, spaced, spaced_tokens, refusal_text, reply_text, reply_line, chain_line, chain_lines, cells_text};
 
 use csdf_core::{Core, Refusal, Reply};
-use csdf_model::Channel;
+use csdf_model::{Channel, MAX_CHANNELS};
 use csdf_pool::Cells;
 use std::alloc::AllocError;
 
@@ -141,7 +141,7 @@ fn push_chain(text: &mut String, name: &str, core: &Core, number: u32) -> Result
 /// Appends the lines of all channels.
 fn push_chains(text: &mut String, channels: &[Channel], core: &Core) -> Result<(), AllocError>
     requires same { length channels.now ≡ length core.now.plan.channels }
-    requires few { length channels.now ≤ 128 }
+    requires few { length channels.now ≤ MAX_CHANNELS }
     ensures { OnOk result (string_bytes text.new ≡ string_bytes text.old ++ chain_lines core.now.pool
         (enumerate_from 0 (names_of (map channel_view channels.now)))) }
 {
@@ -158,7 +158,7 @@ pub(crate) fn push_cells_text(
     core: &Core,
 ) -> Result<(), AllocError>
     requires same { length channels.now ≡ length core.now.plan.channels }
-    requires few { length channels.now ≤ 128 }
+    requires few { length channels.now ≤ MAX_CHANNELS }
     ensures text { OnOk result (string_bytes text.new ≡ string_bytes text.old ++ cells_text (names_of (map channel_view channels.now)) core.now.pool) }
     ensures size { OnOk result (core.now.pool.size ≡ core.now.plan.cells) }
 {

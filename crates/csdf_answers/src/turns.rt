@@ -10,7 +10,7 @@ ghost use Rattle.csdf_answers.specs.Turns.{Turns, TurnsAll};
 use crate::line::Line;
 use crate::printed::{push_cells_text, push_reply_line};
 use csdf_core::{Core, Move, play_on};
-use csdf_model::Channel;
+use csdf_model::{Channel, MAX_CHANNELS};
 use std::alloc::{AllocError, Global};
 use std::slice;
 
@@ -43,7 +43,7 @@ fn turn(
     text: &mut String,
 ) -> Result<(), AllocError>
     requires same { length channels.now ≡ length core.old.plan.channels }
-    requires few { length channels.now ≤ 128 }
+    requires few { length channels.now ≤ MAX_CHANNELS }
     ensures { OnOk result (Turns (names_of (map channel_view channels.now)) core.old core.new
         (line_view line.now) (string_bytes text.old) (string_bytes text.new)) }
 {
@@ -61,7 +61,7 @@ pub(crate) fn turn_all(
     lines: &[Line<'_>],
 ) -> Result<String, AllocError>
     requires same { length channels.now ≡ length core.old.plan.channels }
-    requires few { length channels.now ≤ 128 }
+    requires few { length channels.now ≤ MAX_CHANNELS }
     ensures { IfOk result (λ text. TurnsAll (names_of (map channel_view channels.now)) core.old (map line_view lines.now) (string_bytes text)) }
 {
     let mut text = String::new(alloc);

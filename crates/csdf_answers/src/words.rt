@@ -4,7 +4,7 @@ ghost use Rattle.std.specs.Prelude.{◌≡◌, map, IfOk, option_map, unwrap_or}
 ghost use Rattle.csdf_answers.specs.Lines.{words_of, tokens_of, actor_in, channel_in};
 
 use csdf_bytes::token_of;
-use csdf_model::Graph;
+use csdf_model::{Graph, MAX_ACTORS, MAX_CHANNELS};
 use std::alloc::{AllocError, Global};
 
 /// The words of a line, which stand apart by one space or more.
@@ -30,16 +30,16 @@ pub(crate) fn tokens_of(alloc: Global, words: &[&str]) -> Result<Option<Vec<i32>
     Ok(Some(tokens))
 }
 
-/// The actor's number, or 64, which no graph has.
+/// The actor's number, or one that no graph has: numbers begin at 0.
 pub(crate) fn actor_in(graph: &Graph, name: &str) -> u32
     ensures { result ≡ actor_in graph.now name.now }
 {
-    graph.actor_number(name).unwrap_or(64)
+    graph.actor_number(name).unwrap_or(MAX_ACTORS as u32)
 }
 
-/// The channel's number, or 128, which no graph has.
+/// The channel's number, or one that no graph has.
 pub(crate) fn channel_in(graph: &Graph, name: &str) -> u32
     ensures { result ≡ channel_in graph.now name.now }
 {
-    graph.channel_number(name).unwrap_or(128)
+    graph.channel_number(name).unwrap_or(MAX_CHANNELS as u32)
 }

@@ -21,7 +21,7 @@ use Rattle.csdf_floor.specs.Journal.{Program}
 use Rattle.csdf_floor.specs.Outcome.{IsEndBeside, sequential_list}
 use Rattle.csdf_analysis.specs.declared.room.Room.{Room}
 use Rattle.csdf_analysis.specs.declared.length.Length.{Length}
-use Rattle.csdf_run.specs.Texts.{◌>>=◌, AreTextsBeside, IsTextBeside, TellRun, TellSequentialRun, feed_in, feeds_from, sink_texts, sinks_among, text_at}
+use Rattle.csdf_run.specs.Texts.{◌>>=◌, AreTextsBeside, IsTextBeside, TellGraphRun, TellSequentialGraphRun, feed_in, feeds_from, sink_texts, sinks_among, text_at}
 use Rattle.csdf_floor.specs.Work.{AreFeeds, feed_of, feeds_in, is_sink_kernel, program}
 
 -- ---- the feeds, one actor after the other
@@ -219,9 +219,9 @@ lists_beside w o run Dry end a lt =
 lists_beside w o run Stopped end a lt = end.sinks a lt
 lists_beside w o run Starved end a lt = end.sinks a lt
 
-pub as_sequential : (room : Room) (bytes : List ℕ) (texts : List (List ℕ)) (how_long : Length) (firings : Option ℕ) (t : Texts) → TellRun room bytes texts how_long firings t
-    → TellSequentialRun room bytes texts how_long firings t
-as_sequential room bytes texts how_long firings t r = record {
+pub as_sequential : (room : Room) (g : Graph) (texts : List (List ℕ)) (how_long : Length) (firings : Option ℕ) (t : Texts) → TellGraphRun room g texts how_long firings t
+    → TellSequentialGraphRun room g texts how_long firings t
+as_sequential room g texts how_long firings t r = record {
   accepted = r.accepted;
   feeds = r.feeds;
   periods = r.periods;

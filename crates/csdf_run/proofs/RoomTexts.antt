@@ -23,7 +23,7 @@ use Rattle.csdf_floor.proofs.Rooms.{differ_in_room, same_period}
 use Rattle.csdf_floor.proofs.Works.{playable_program}
 use Rattle.csdf_run.specs.declared.texts.Texts.{Texts}
 use Rattle.csdf_analysis.specs.declared.length.Length.{Length}
-use Rattle.csdf_run.specs.Texts.{MayGoOn, TellRun, TellSameInAnyRoom, feeds_from, sink_texts, texts_in}
+use Rattle.csdf_run.specs.Texts.{MayGraphGoOn, TellGraphRun, TellGraphSameInAnyRoom, TellSameInAnyRoom, feeds_from, sink_texts, texts_in}
 use Rattle.csdf_run.proofs.Lengths.{may_run, one_length}
 
 -- a text is one graph
@@ -55,8 +55,8 @@ one_feeds : (actors others : List Actor) (texts : List (List ℕ)) (one two : Li
 one_feeds actors others texts one two e x y =
     let z : Ok one ≡ Ok two = sym x ∙ ap (λ (xs : List Actor). feeds_from 0 xs texts) e ∙ y in cc
 
-module _ (room other_room : Room) (bytes : List ℕ) (texts : List (List ℕ)) (how_long : Length) (firings others : Option ℕ) (t u : Texts)
-    (may : MayGoOn room bytes how_long) (r : TellRun room bytes texts how_long firings t) (s : TellRun other_room bytes texts how_long others u) where
+module _ (room other_room : Room) (g : Graph) (texts : List (List ℕ)) (how_long : Length) (firings others : Option ℕ) (t u : Texts)
+    (may : MayGraphGoOn room g how_long) (r : TellGraphRun room g texts how_long firings t) (s : TellGraphRun other_room g texts how_long others u) where
   abbrev a : Accepted
   a = r.accepted
 
@@ -64,10 +64,7 @@ module _ (room other_room : Room) (bytes : List ℕ) (texts : List (List ℕ)) (
   b = s.accepted
 
   same_bare : without_room a.graph ≡ without_room b.graph
-  same_bare =
-      bare_with room a.q r.read.file.graph a.graph r.read.file.roomy
-      ∙ ap without_room (one_graph bytes r.read.file.graph s.read.file.graph r.read.file.read s.read.file.read)
-      ∙ sym (bare_with other_room b.q s.read.file.graph b.graph s.read.file.roomy)
+  same_bare = bare_with room a.q g a.graph r.read.in_room.roomy ∙ sym (bare_with other_room b.q g b.graph s.read.in_room.roomy)
 
   same_actors : a.graph.actors ≡ b.graph.actors
   same_actors = ap (λ (g : Graph). g.actors) same_bare
@@ -76,14 +73,14 @@ module _ (room other_room : Room) (bytes : List ℕ) (texts : List (List ℕ)) (
   same_feeds = one_feeds a.graph.actors b.graph.actors texts r.feeds s.feeds same_actors r.read.tokens s.read.tokens
 
   same_vector : a.q ≡ b.q
-  same_vector = same_period a b r.read.file.accepted s.read.file.accepted same_bare
+  same_vector = same_period a b r.read.in_room.accepted s.read.in_room.accepted same_bare
 
   same_length : r.periods ≡ s.periods
   same_length = one_length how_long a b r.periods s.periods same_vector r.goes_on s.goes_on
 
   few : HasFewFirings b s.periods
   few = subst (HasFewFirings b) same_length
-      (subst (All (λ q. r.periods * q ≤ 16384000)) same_vector (may_run room bytes how_long a r.periods may r.goes_on r.read.file).1)
+      (subst (All (λ q. r.periods * q ≤ 16384000)) same_vector (may_run room g how_long a r.periods may r.goes_on r.read.in_room).1)
 
   abbrev w : Program
   w = program_for a r.feeds r.periods firings
@@ -94,20 +91,27 @@ module _ (room other_room : Room) (bytes : List ℕ) (texts : List (List ℕ)) (
   differ : DifferInRoom w v
   differ = subst (λ (n : ℕ). DifferInRoom w (program_for b s.feeds n others)) same_length
       (subst (λ (feeds : List (List ℤ)). DifferInRoom w (program_for b feeds r.periods others)) same_feeds
-      (differ_in_room a b r.feeds r.periods firings others r.read.file.accepted s.read.file.accepted same_bare))
+      (differ_in_room a b r.feeds r.periods firings others r.read.in_room.accepted s.read.in_room.accepted same_bare))
 
   same_texts : t.ending ≡ Complete → u.ending ≡ Complete → texts_in t.sinks.items ≡ texts_in u.sinks.items
   same_texts one two =
       let all : AllSpent v.plan (present (state_of v (journal_in s.outcome))) =
       subst (IsEnding v.plan (present (state_of v (journal_in s.outcome)))) (sym s.told.ending ∙ two) s.told.outcome.ending in
-      let playable = playable_program b s.feeds s.periods others s.read.file.accepted few in
+      let playable = playable_program b s.feeds s.periods others s.read.in_room.accepted few in
       let beside = r.told.outcome.rooms v (journal_in s.outcome) differ playable s.told.outcome.honest in
       let sinks : feeds_in r.outcome.sinks.items ≡ feeds_in s.outcome.sinks.items =
       (beside.complete (sym r.told.ending ∙ one) all).sinks ∙ sym s.told.outcome.sinks in
       r.told.sinks ∙ ap (sink_texts a.graph.actors) sinks ∙ ap (λ (xs : List Actor). sink_texts xs (feeds_in s.outcome.sinks.items)) same_actors
       ∙ sym s.told.sinks
 
-pub same_in_any_room : (room : Room) (bytes : List ℕ) (texts : List (List ℕ)) (how_long : Length) (firings : Option ℕ) (t : Texts)
-    → MayGoOn room bytes how_long → TellRun room bytes texts how_long firings t → TellSameInAnyRoom bytes texts how_long t
-same_in_any_room room bytes texts how_long firings t may r other_room others u s =
-    same_texts room other_room bytes texts how_long firings others t u may r s
+pub same_in_any_room : (room : Room) (g : Graph) (texts : List (List ℕ)) (how_long : Length) (firings : Option ℕ) (t : Texts)
+    → MayGraphGoOn room g how_long → TellGraphRun room g texts how_long firings t → TellGraphSameInAnyRoom g texts how_long t
+same_in_any_room room g texts how_long firings t may r other_room others u s =
+    same_texts room other_room g texts how_long firings others t u may r s
+
+-- what is the same for the graph is for its file
+pub same_of_file : (bytes : List ℕ) (g : Graph) (texts : List (List ℕ)) (how_long : Length) (t : Texts)
+    → IsGraphOf bytes (Ok g) → TellGraphSameInAnyRoom g texts how_long t → TellSameInAnyRoom bytes texts how_long t
+same_of_file bytes g texts how_long t read same room firings other run =
+    same room firings other
+    (subst (λ (h : Graph). TellGraphRun room h texts how_long firings other) (one_graph bytes run.graph g run.read read) run.holds)

@@ -34,17 +34,30 @@ texts_in texts = map (λ (text : Vec ℕ). text.items) texts
 
 -- ---- what is read
 
--- the bytes are the file of a graph, and this is it as accepted with this room
-pub record IsFileOf (room : Room) (bytes : List ℕ) (a : Accepted) : Type 0 where
+-- the bytes are the file of a graph, and this holds of that graph
+pub record IsFileWhere (bytes : List ℕ) (P : Graph → Type 0) : Type 0 where
   pub graph : Graph
   pub read : IsGraphOf bytes (Ok graph)
-  pub roomy : IsWithRoom room a.q graph a.graph
+  pub holds : P graph
+
+-- this is the graph, as accepted with this room
+pub record IsInRoom (room : Room) (g : Graph) (a : Accepted) : Type 0 where
+  pub roomy : IsWithRoom room a.q g a.graph
   pub accepted : IsAccepted a
+
+-- the bytes are the file of a graph, and this is it as accepted with this room
+abbrev pub IsFileOf : Room → List ℕ → Accepted → Type 0
+IsFileOf room bytes a = IsFileWhere bytes (λ g. IsInRoom room g a)
 
 -- a run goes on for so many periods of the graph
 abbrev pub GoesOnFor : Length → Accepted → ℕ → Type 0
 GoesOnFor (Periods n) a periods = periods ≡ n
 GoesOnFor UntilDry a periods = IsMostPeriods a periods
+
+-- a run of the graph may go on so long
+abbrev pub MayGraphGoOn : Room → Graph → Length → Type 0
+MayGraphGoOn room g (Periods n) = (1 ≤ n) × ((a : Accepted) → IsInRoom room g a → HasFewFirings a n)
+MayGraphGoOn room g UntilDry = Unit {0}
 
 -- a run of the file's graph may go on so long
 abbrev pub MayGoOn : Room → List ℕ → Length → Type 0
@@ -73,21 +86,13 @@ feeds_from a (actor ∷ actors) texts =
     then (feed_in a (slice_index_or texts 0 []) >>= λ feed. feeds_from (suc a) actors (drop 1 texts) >>= λ feeds. Ok (feed ∷ feeds))
     else (feeds_from (suc a) actors texts >>= λ feeds. Ok ([] ∷ feeds))
 
--- the texts hold these tokens for the actors of the graph of the file, which is accepted with this room
-pub record AreTextsOf (room : Room) (bytes : List ℕ) (texts : List (List ℕ)) (a : Accepted) (feeds : List (List ℤ)) : Type 0 where
-  pub file : IsFileOf room bytes a
+-- the texts hold these tokens for the actors of the graph, which is accepted with this room
+pub record AreTextsOf (room : Room) (g : Graph) (texts : List (List ℕ)) (a : Accepted) (feeds : List (List ℤ)) : Type 0 where
+  pub in_room : IsInRoom room g a
   pub each_source : length texts ≡ source_count a.graph.actors
   pub tokens : feeds_from 0 a.graph.actors texts ≡ Ok feeds
 
 -- ---- what is refused; want of memory says nothing of the texts
-
--- why there is no accepted graph of a file
-abbrev pub IsFileFault : List ℕ → TextsFault → Type 0
-IsFileFault bytes (fault.Graph why) = why ≢ graph.Memory → IsGraphOf bytes (Err why)
-IsFileFault bytes (fault.Accept why) = (g : Graph) × IsGraphOf bytes (Ok g) × IsNotAccepted g why
-IsFileFault bytes fault.FeedCount = ⊥
-IsFileFault bytes (fault.Feed n why) = ⊥
-IsFileFault bytes (fault.Run why) = ⊥
 
 -- the text of actor n is why reading gives nothing
 abbrev pub IsReadFault : {A : Type 0} → Result A (ℕ × TokenFault) → TextsFault → Type 0
@@ -105,13 +110,21 @@ IsFeedFault actors texts (fault.Graph why) = ⊥
 IsFeedFault actors texts (fault.Accept why) = ⊥
 IsFeedFault actors texts (fault.Run why) = ⊥
 
--- why there is no run: the file comes first, then the texts, and then the run itself
+-- why there is no run of a graph: that it is not accepted comes first, then the texts, and then the run itself
+abbrev pub IsGraphRefusal : Room → Graph → List (List ℕ) → TextsFault → Type 0
+IsGraphRefusal room g texts (fault.Graph why) = ⊥
+IsGraphRefusal room g texts (fault.Accept why) = IsNotAccepted g why
+IsGraphRefusal room g texts fault.FeedCount = (a : Accepted) × IsInRoom room g a × IsFeedFault a.graph.actors texts fault.FeedCount
+IsGraphRefusal room g texts (fault.Feed n why) = (a : Accepted) × IsInRoom room g a × IsFeedFault a.graph.actors texts (fault.Feed n why)
+IsGraphRefusal room g texts (fault.Run why) = (a : Accepted) × (feeds : List (List ℤ)) × AreTextsOf room g texts a feeds
+
+-- why there is no run: the file comes first, and then its graph
 abbrev pub IsRefusal : Room → List ℕ → List (List ℕ) → TextsFault → Type 0
-IsRefusal room bytes texts (fault.Graph why) = IsFileFault bytes (fault.Graph why)
-IsRefusal room bytes texts (fault.Accept why) = IsFileFault bytes (fault.Accept why)
-IsRefusal room bytes texts fault.FeedCount = (a : Accepted) × IsFileOf room bytes a × IsFeedFault a.graph.actors texts fault.FeedCount
-IsRefusal room bytes texts (fault.Feed n why) = (a : Accepted) × IsFileOf room bytes a × IsFeedFault a.graph.actors texts (fault.Feed n why)
-IsRefusal room bytes texts (fault.Run why) = (a : Accepted) × (feeds : List (List ℤ)) × AreTextsOf room bytes texts a feeds
+IsRefusal room bytes texts (fault.Graph why) = why ≢ graph.Memory → IsGraphOf bytes (Err why)
+IsRefusal room bytes texts (fault.Accept why) = IsFileWhere bytes (λ g. IsGraphRefusal room g texts (fault.Accept why))
+IsRefusal room bytes texts fault.FeedCount = IsFileWhere bytes (λ g. IsGraphRefusal room g texts fault.FeedCount)
+IsRefusal room bytes texts (fault.Feed n why) = IsFileWhere bytes (λ g. IsGraphRefusal room g texts (fault.Feed n why))
+IsRefusal room bytes texts (fault.Run why) = IsFileWhere bytes (λ g. IsGraphRefusal room g texts (fault.Run why))
 
 -- ---- what is told
 
@@ -140,15 +153,19 @@ pub record TellOutcome (w : Work) (o : Outcome) (t : Texts) : Type 0 where
   pub channels : t.channels.items ≡ o.report.items
   pub journal : option_map (λ (text : Vec ℕ). text.items) t.journal ≡ kept_script w.accepted.graph o.journal
 
--- the texts tell an outcome of a run of the file's graph, accepted with this room, over the texts' tokens, which goes on so long
-pub record TellRun (room : Room) (bytes : List ℕ) (texts : List (List ℕ)) (how_long : Length) (firings : Option ℕ) (t : Texts) : Type 0 where
+-- the texts tell an outcome of a run of the graph, accepted with this room, over the texts' tokens, which goes on so long
+pub record TellGraphRun (room : Room) (g : Graph) (texts : List (List ℕ)) (how_long : Length) (firings : Option ℕ) (t : Texts) : Type 0 where
   pub accepted : Accepted
   pub feeds : List (List ℤ)
   pub periods : ℕ
   pub outcome : Outcome
   pub goes_on : GoesOnFor how_long accepted periods
-  pub read : AreTextsOf room bytes texts accepted feeds
+  pub read : AreTextsOf room g texts accepted feeds
   pub told : TellOutcome (work_for accepted feeds periods firings) outcome t
+
+-- the same of a run of the file's graph
+abbrev pub TellRun : Room → List ℕ → List (List ℕ) → Length → Option ℕ → Texts → Type 0
+TellRun room bytes texts how_long firings t = IsFileWhere bytes (λ g. TellGraphRun room g texts how_long firings t)
 
 -- ---- beside the sequential run
 
@@ -166,17 +183,28 @@ AreTextsBeside ending list [] (text ∷ texts) = ⊥
 AreTextsBeside ending list (a ∷ sinks) [] = ⊥
 AreTextsBeside ending list (a ∷ sinks) (text ∷ texts) = IsTextBeside ending (list a) text × AreTextsBeside ending list sinks texts
 
--- the sinks' texts are those of the sequential run of the file's graph over the texts' tokens, or of a front of it
-pub record TellSequentialRun (room : Room) (bytes : List ℕ) (texts : List (List ℕ)) (how_long : Length) (firings : Option ℕ) (t : Texts) : Type 0 where
+-- the sinks' texts are those of the sequential run of the graph over the texts' tokens, or of a front of it
+pub record TellSequentialGraphRun (room : Room) (g : Graph) (texts : List (List ℕ)) (how_long : Length) (firings : Option ℕ) (t : Texts) : Type 0 where
   pub accepted : Accepted
   pub feeds : List (List ℤ)
   pub periods : ℕ
   pub goes_on : GoesOnFor how_long accepted periods
-  pub read : AreTextsOf room bytes texts accepted feeds
+  pub read : AreTextsOf room g texts accepted feeds
   pub sinks : (run : List ℕ) → IsSequential (program_for accepted feeds periods firings) run
       → AreTextsBeside t.ending (sequential_list (program_for accepted feeds periods firings) run) (sinks_among accepted.graph.actors) (texts_in t.sinks.items)
 
+-- the same of the sequential run of the file's graph
+abbrev pub TellSequentialRun : Room → List ℕ → List (List ℕ) → Length → Option ℕ → Texts → Type 0
+TellSequentialRun room bytes texts how_long firings t = IsFileWhere bytes (λ g. TellSequentialGraphRun room g texts how_long firings t)
+
 -- ---- beside a run in another room
+
+-- any other run of the same graph over the same texts that goes on as long, in whatever room and with whatever limit on all firings, has the same texts of the
+-- sinks where both are complete
+abbrev pub TellGraphSameInAnyRoom : Graph → List (List ℕ) → Length → Texts → Type 0
+TellGraphSameInAnyRoom g texts how_long t =
+    (room : Room) (firings : Option ℕ) (other : Texts) → TellGraphRun room g texts how_long firings other → t.ending ≡ Complete → other.ending ≡ Complete
+    → texts_in t.sinks.items ≡ texts_in other.sinks.items
 
 -- any other run of the same file over the same texts that goes on as long, in whatever room and with whatever limit on all firings, has the same texts of the sinks where both are
 -- complete

@@ -3,6 +3,7 @@ use Rattle.std.specs.Prelude.{◌≡◌, ◌≢◌, ◌<◌, ◌≤◌, ◌+◌,
 use Rattle.std.specs.Prelude.{Option, Some, None, Result, Ok, Err, All, IfErr, IfOk, IfSome}
 use Rattle.std.specs.List.{Contains}
 use Rattle.std.specs.Result.{IsOk}
+use Rattle.csdf_model.specs.declared.limits.TheConstants.{MAX_FIRINGS_PER_ACTOR}
 use Rattle.csdf_claims.specs.declared.rule.View.{View}
 use Rattle.csdf_claims.specs.Face.{BoardFace}
 use Rattle.csdf_claims.specs.Board.{track_of, Holds, HasFinished, KeepsJust, joined_view}
@@ -64,7 +65,7 @@ pub record IsBlockOf (c : Claim) (most : ℕ) (b : Block) : Type 0 where
 
 -- after several firings from this one on an actor still has a number that can be claimed
 abbrev pub CanEnd : Claim → ℕ → Type 0
-CanEnd c count = 1 < count → c.firing + count ≤ 16384001
+CanEnd c count = 1 < count → c.firing + count ≤ MAX_FIRINGS_PER_ACTOR + 1
 
 -- every firing of the block is finished
 abbrev pub HasMadeAll : View → Block → Type 0

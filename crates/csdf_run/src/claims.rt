@@ -102,7 +102,7 @@ pub(crate) fn finish(
 /// How many firings may be made in one go, this one first.
 pub(crate) fn most_from(firing: u32) -> u32
     ensures some { 0 < result }
-    ensures fits { 1 < result → firing + result ≤ 16384001 }
+    ensures fits { 1 < result → firing + result ≤ MAX_FIRINGS_PER_ACTOR + 1 }
 {
     if firing < MAX_FIRINGS_PER_ACTOR {
         BLOCK.min(MAX_FIRINGS_PER_ACTOR - firing)

@@ -10,7 +10,7 @@ use crate::hints::Hints;
 use csdf_analysis::Accepted;
 use csdf_floor::{Floor, Outcome, RunFault, settle};
 use csdf_journal::Keeping;
-use csdf_model::Graph;
+use csdf_model::{Graph, MAX_ACTORS};
 use std::alloc::{AllocError, Global};
 use std::marker::Model;
 
@@ -72,7 +72,7 @@ impl<'a> Request<'a> {
     /// How many actors the graph has.
     pub(crate) fn actors(&self) -> u32
         ensures count { result ≡ length self.now.accepted.graph.actors }
-        ensures few { result ≤ 64 }
+        ensures few { result ≤ MAX_ACTORS }
     {
         self.accepted.graph().actors().len() as u32
     }

@@ -18,6 +18,7 @@ use csdf_analysis::Accepted;
 use csdf_claims::{Board, Place};
 use csdf_floor::{Outcome, RunFault};
 use csdf_journal::Keeping;
+use csdf_model::MAX_ACTORS;
 use std::alloc::{AllocError, Global};
 use std::marker::Brand;
 use std::sync::Wait;
@@ -200,7 +201,7 @@ struct Seats {
 
 /// A board and its first place.
 fn first_seat(alloc: Global, actors: u32) -> Result<(Board, Place), AllocError>
-    requires { actors ≤ 64 }
+    requires { actors ≤ MAX_ACTORS }
     ensures actors { IfOk result (λ s. s.0.actors ≡ actors) }
     ensures first { IfOk result (λ s. (s.1.board ≡ s.0.id) × HoldsNothing s.1.view) }
 {
@@ -208,7 +209,7 @@ fn first_seat(alloc: Global, actors: u32) -> Result<(Board, Place), AllocError>
 }
 
 fn make_seats(alloc: Global, actors: u32, others: u32) -> Result<Seats, AllocError>
-    requires { actors ≤ 64 }
+    requires { actors ≤ MAX_ACTORS }
     ensures actors { IfOk result (λ s. s.board.actors ≡ actors) }
     ensures first { IfOk result (λ s. (s.first.board ≡ s.board.id) × HoldsNothing s.first.view) }
     ensures places { IfOk result (λ s. All (λ p. (p.board ≡ s.board.id) × HoldsNothing p.view) s.places.items) }
@@ -243,7 +244,7 @@ fn run_hall<K: Asked + Send + Sync, R: Threads + Wait + Sync, G: Gate>(
     workers: u32,
     gate: &G,
 ) -> Result<Vec<u32>, RunFault>
-    requires { actors ≤ 64 }
+    requires { actors ≤ MAX_ACTORS }
     ensures { IfOk result (λ totals. length totals.items ≡ actors) }
 {
     let Seats {

@@ -5,7 +5,8 @@ ghost use Rattle.csdf_model.specs.Graph.{actor_view};
 ghost use Rattle.csdf_bytes.specs.TokenText.{token_line, token_text};
 ghost use Rattle.csdf_analysis.specs.Room.{HasSomePeriod};
 ghost use Rattle.csdf_core.specs.Layout.{is_source_kernel};
-ghost use Rattle.csdf_run.specs.Texts.{AreTextsOf, IsFeedFault, IsFileFault, IsFileOf, IsReadFault, IsRefusal, MayGoOn, TellOutcome, TellRun, TellSameInAnyRoom, TellSequentialRun};
+ghost use Rattle.csdf_run.specs.Texts.{AreTextsOf, IsFeedFault, IsGraphRefusal, IsReadFault, IsRefusal, MayGoOn, MayGraphGoOn, TellOutcome};
+ghost use Rattle.csdf_run.specs.Texts.{TellGraphRun, TellGraphSameInAnyRoom, TellRun, TellSameInAnyRoom, TellSequentialGraphRun, TellSequentialRun};
 ghost use Rattle.csdf_run.specs.Texts.{feed_in, feeds_from, sink_texts, source_count, texts_in, work_for};
 ghost use Rattle.csdf_floor.specs.declared.outcome.Outcome.{Outcome as OutcomeCode};
 ghost use Rattle.csdf_floor.specs.Report.{names_of, report_text};
@@ -23,7 +24,7 @@ use csdf_bytes::{Slice, TokenFault, read_tokens};
 use csdf_floor::{ChannelReport, Ending, Outcome, RunFault, printed_report};
 use csdf_graph::{GraphFault, read_graph};
 use csdf_journal::Keeping;
-use csdf_model::{Actor, Graph, Kernel};
+use csdf_model::{Actor, Graph, Kernel, MAX_ACTORS};
 use std::alloc::{AllocError, Global};
 use std::sync::Wait;
 use std::thread::Threads;
@@ -75,22 +76,6 @@ pub enum TextsFault {
     Run(RunFault),
 }
 
-/// The graph of a file, accepted with this room.
-fn accepted_of(alloc: Global, bytes: &[u8], room: Room) -> Result<Accepted, TextsFault>
-    requires { HasSomePeriod room }
-    ensures file { IfOk result (IsFileOf room bytes.now) }
-    ensures refused { IfErr result (IsFileFault bytes.now) }
-{
-    let graph = match read_graph(alloc, bytes) {
-        Ok(graph) => graph,
-        Err(fault) => return Err(TextsFault::Graph(fault)),
-    };
-    match accept_in_room(alloc, graph, room) {
-        Ok(accepted) => Ok(accepted),
-        Err(fault) => Err(TextsFault::Accept(fault)),
-    }
-}
-
 fn is_source(actor: &Actor) -> bool
     ensures { result ≡ is_source_kernel (actor_view actor.now).kernel }
 {
@@ -105,7 +90,7 @@ fn is_sink(actor: &Actor) -> bool
 
 /// How many sources there are.
 fn source_count(actors: &[Actor]) -> usize
-    requires { length actors.now ≤ 64 }
+    requires { length actors.now ≤ MAX_ACTORS }
     ensures { result ≡ source_count (map actor_view actors.now) }
 {
     let mut count = 0;
@@ -151,7 +136,7 @@ fn push_feed(feeds: &mut Vec<Vec<i32>>, actor: u32, feed: Vec<i32>) -> Result<()
 
 /// The tokens for each actor, from one text for each source.
 fn feeds_of(alloc: Global, actors: &[Actor], texts: &[Vec<u8>]) -> Result<Vec<Vec<i32>>, TextsFault>
-    requires { length actors.now ≤ 64 }
+    requires { length actors.now ≤ MAX_ACTORS }
     ensures feeds { IfOk result (λ feeds. feeds_from 0 (map actor_view actors.now) (texts_in texts.now) ≡ Ok (feeds_in feeds.items)) }
     ensures refused { IfErr result (IsReadFault (feeds_from 0 (map actor_view actors.now) (texts_in texts.now))) }
 {
@@ -193,13 +178,16 @@ struct Fed {
     feeds: Vec<Vec<i32>>,
 }
 
-/// The graph of a file, accepted with this room, and the tokens in the texts for its sources.
-fn fed_of(alloc: Global, bytes: &[u8], texts: &[Vec<u8>], room: Room) -> Result<Fed, TextsFault>
+/// The graph, accepted with this room, and the tokens in the texts for its sources.
+fn fed_of(alloc: Global, graph: Graph, texts: &[Vec<u8>], room: Room) -> Result<Fed, TextsFault>
     requires { HasSomePeriod room }
-    ensures read { IfOk result (λ fed. AreTextsOf room bytes.now (texts_in texts.now) fed.accepted (feeds_in fed.feeds.items)) }
-    ensures refused { IfErr result (IsRefusal room bytes.now (texts_in texts.now)) }
+    ensures read { IfOk result (λ fed. AreTextsOf room graph (texts_in texts.now) fed.accepted (feeds_in fed.feeds.items)) }
+    ensures refused { IfErr result (IsGraphRefusal room graph (texts_in texts.now)) }
 {
-    let accepted = accepted_of(alloc, bytes, room)?;
+    let accepted = match accept_in_room(alloc, graph, room) {
+        Ok(accepted) => accepted,
+        Err(fault) => return Err(TextsFault::Accept(fault)),
+    };
     let feeds = counted_feeds(alloc, accepted.graph(), texts)?;
     Ok(Fed { accepted, feeds })
 }
@@ -346,6 +334,33 @@ pub fn run_texts_with<R: Threads + Wait + Sync, G: Gate>(
     ensures rooms { IfOk result (TellSameInAnyRoom graph.now (texts_in feeds.now) options.how_long) }
     ensures kept { IfOk result (λ texts. is_some texts.journal ≡ is_kept options.keeping) }
     ensures refused { IfErr result (IsRefusal options.room graph.now (texts_in feeds.now)) }
+{
+    match read_graph(alloc, graph) {
+        Ok(graph) => run_graph_with(rt, alloc, graph, feeds, options, gate),
+        Err(fault) => Err(TextsFault::Graph(fault)),
+    }
+}
+
+/// As [`run_texts_with`], of a graph that was read.
+///
+/// The refusals are those of `run_texts_with` but for those of the graph file, [`TextsFault::Graph`].
+pub fn run_graph_with<R: Threads + Wait + Sync, G: Gate>(
+    rt: &R,
+    alloc: Global,
+    graph: Graph,
+    feeds: &[Vec<u8>],
+    options: RunOptions,
+    gate: &G,
+) -> Result<Texts, TextsFault>
+    requires some_worker { 1 ≤ options.workers }
+    requires few_workers { options.workers ≤ 8 }
+    requires some_room { HasSomePeriod options.room }
+    requires goes_on { MayGraphGoOn options.room graph options.how_long }
+    ensures run { IfOk result (TellGraphRun options.room graph (texts_in feeds.now) options.how_long options.firings) }
+    ensures sequential { IfOk result (TellSequentialGraphRun options.room graph (texts_in feeds.now) options.how_long options.firings) }
+    ensures rooms { IfOk result (TellGraphSameInAnyRoom graph (texts_in feeds.now) options.how_long) }
+    ensures kept { IfOk result (λ texts. is_some texts.journal ≡ is_kept options.keeping) }
+    ensures refused { IfErr result (IsGraphRefusal options.room graph (texts_in feeds.now)) }
 {
     let (workers, firings) = (options.workers, options.firings);
     let fed = fed_of(alloc, graph, feeds, options.room)?;

@@ -1,5 +1,5 @@
 -- Why there is no answer, by what the devices gave.
-use Rattle.std.proofs.Common.{◌≡◌, ◌≢◌, ◌∙◌, ℕ, List, [], ◌∷◌, length, map, codes, Bool, true, false, cond, Option, Some, None, Result, Ok, Err, refl, sym, ap, subst, inl, inr}
+use Rattle.std.proofs.Common.{◌≡◌, ◌≢◌, ◌∙◌, ℕ, List, [], ◌∷◌, length, map, codes, Bool, true, false, cond, Option, Result, Ok, Err, refl, sym, ap, subst, inl, inr}
 use Rattle.std.specs.Prelude.{◌⊎◌, ◌<◌, IfErr, IfSome, IsErrAnd, OnOk}
 use Rattle.std.specs.Global.{Vec}
 use Rattle.std.specs.Io.KnownBytes.{Appends}
@@ -7,14 +7,13 @@ use Rattle.clap.specs.Words.{Text}
 use Rattle.csdf_bytes.specs.declared.intake.InputFault.{InputFault}
 use Rattle.csdf_bytes.specs.declared.intake.InputFault.TheVariants as input
 use Rattle.csdf_answers.specs.Faults.{unread}
-use Rattle.csdf_answers.specs.declared.fault.Stream.{Stream}
 use Rattle.csdf_answers.specs.declared.fault.Stream.TheVariants as stream
 use Rattle.csdf_answers.specs.declared.fault.ToolFault.{ToolFault}
 use Rattle.csdf_answers.specs.declared.fault.ToolFault.TheVariants as fault
 use Rattle.csdf_words.specs.CommandLine.{Asked, Input, Moves, Ask, Explain, Run}
 use Rattle.csdf_tool.specs.Acts.{Act, Asks, Devices, Marks, Read, devices}
 use Rattle.csdf_tool.specs.Carried.{IsCauseOf, LacksAnswer, PutsOut}
-use Rattle.csdf_tool.specs.GraphFiles.{IsGivenBy, IsInputFault, IsMissing, IsNamed, IsNotGiven, graph_misses, graph_reads, is_input, stream_of}
+use Rattle.csdf_tool.specs.GraphFiles.{IsGivenBy, IsInputFault, IsNamed, IsNotGiven, graph_reads, is_input}
 use Rattle.csdf_tool.proofs.DiskLemmas.{only_none}
 
 -- `-` alone names standard input

@@ -2,7 +2,7 @@
 use Rattle.std.proofs.Common.{◌≡◌, ◌≢◌, ℕ, List, [], Bool, true, Option, Some, None, arith, refl, sym, ap, subst, ◌∙◌, inl, inr}
 use Rattle.std.specs.Prelude.{◌⊎◌, Result, Ok, Err, IfErr, OnOk}
 use Rattle.csdf_tool.specs.Carried.{IsCarriedOut}
-use Rattle.clap.specs.Words.{Kinds, HasKind, Text, fault_of, kind_of, takes}
+use Rattle.clap.specs.Words.{Kinds, HasKind, Text, fault_of, kind_of}
 use Rattle.clap.specs.declared.error.Error.{Error}
 use Rattle.clap.specs.declared.error.kind.ErrorKind.{ErrorKind}
 use Rattle.clap.specs.declared.error.kind.ErrorKind.TheVariants.{DisplayHelp, DisplayVersion, OutOfMemory}

@@ -9,8 +9,6 @@ use Rattle.csdf_bytes.specs.declared.token_word.WordFault.TheVariants as word
 use Rattle.csdf_bytes.specs.declared.tokens.TokenFault.{TokenFault}
 use Rattle.csdf_bytes.specs.declared.tokens.TokenFault.TheVariants as token
 use Rattle.csdf_model.specs.Graph.{Actor, Graph}
-use Rattle.csdf_graph.specs.declared.fault.GraphFault.{GraphFault}
-use Rattle.csdf_graph.specs.declared.fault.GraphFault.TheVariants as graph
 use Rattle.csdf_analysis.specs.declared.fault.AcceptFault.{AcceptFault}
 use Rattle.csdf_analysis.specs.declared.fault.AcceptFault.TheVariants as accept
 use Rattle.csdf_analysis.specs.declared.room.Room.{Room}
@@ -19,12 +17,12 @@ use Rattle.csdf_floor.specs.declared.fault.RunFault.{RunFault}
 use Rattle.csdf_floor.specs.declared.fault.RunFault.TheVariants as run
 use Rattle.csdf_run.specs.declared.texts.TextsFault.{TextsFault}
 use Rattle.csdf_run.specs.declared.texts.TextsFault.TheVariants as texts
-use Rattle.csdf_run.specs.Texts.{◌>>=◌, IsRefusal, feed_in, feeds_from}
-use Rattle.csdf_answers.specs.Faults.{accept_fault, fault_of}
+use Rattle.csdf_run.specs.Texts.{◌>>=◌, IsGraphRefusal, feed_in, feeds_from}
+use Rattle.csdf_answers.specs.Faults.{accept_fault}
 use Rattle.csdf_answers.specs.declared.fault.Stream.{Stream}
 use Rattle.csdf_answers.specs.declared.fault.ToolFault.{ToolFault}
 use Rattle.csdf_answers.specs.declared.fault.ToolFault.TheVariants.{Device}
-use Rattle.csdf_tool.specs.Running.{RefusesRun, run_fault, texts_fault, token_fault}
+use Rattle.csdf_tool.specs.Running.{RefusesGraphRun, run_fault, texts_fault}
 
 -- ---- one text
 
@@ -114,18 +112,6 @@ feeds_by_text a (actor ∷ actors) ts =
 
 -- ---- the fault that is told
 
-graph_no_stream : (f : GraphFault) (s : Stream) → fault_of f ≢ Device s
-graph_no_stream graph.NotToml s e = cc
-graph_no_stream (graph.Shape at) s e = cc
-graph_no_stream (graph.Name at) s e = cc
-graph_no_stream (graph.Range at) s e = cc
-graph_no_stream (graph.UnknownActor c) s e = cc
-graph_no_stream (graph.PhaseLength c) s e = cc
-graph_no_stream (graph.ZeroRate c) s e = cc
-graph_no_stream (graph.KernelPorts a) s e = cc
-graph_no_stream graph.NotConnected s e = cc
-graph_no_stream graph.Memory s e = cc
-
 accept_no_stream : (names : List (List ℕ)) (f : AcceptFault) (s : Stream) → accept_fault names f ≢ Device s
 accept_no_stream names (accept.Unbalanced c) s e = cc
 accept_no_stream names (accept.TooLarge c) s e = cc
@@ -141,19 +127,18 @@ run_no_stream run.Worker s e = cc
 read_refuted : (actors : List Actor) (ts : List (List ℕ)) (n : ℕ) → feeds_from 0 actors ts ≡ Err (n, token.Read) → ⊥
 read_refuted actors ts n e = subst FailsByFeed e (feeds_by_text 0 actors ts)
 
-no_stream_by : (room : Room) (g : Graph) (bytes : List ℕ) (ts : List (List ℕ)) (why : TextsFault) → IsRefusal room bytes ts why → (s : Stream)
-    → texts_fault g why ≢ Device s
-no_stream_by room g bytes ts (texts.Graph why) is s = graph_no_stream why s
-no_stream_by room g bytes ts (texts.Accept why) is s = accept_no_stream _ why s
-no_stream_by room g bytes ts texts.FeedCount is s = λ e. cc
-no_stream_by room g bytes ts (texts.Feed n (token.Syntax line)) is s = λ e. cc
-no_stream_by room g bytes ts (texts.Feed n (token.Range line)) is s = λ e. cc
-no_stream_by room g bytes ts (texts.Feed n token.TooMany) is s = λ e. cc
-no_stream_by room g bytes ts (texts.Feed n token.Read) is s = λ e.
+no_stream_by : (room : Room) (g : Graph) (ts : List (List ℕ)) (why : TextsFault) → IsGraphRefusal room g ts why → (s : Stream) → texts_fault g why ≢ Device s
+no_stream_by room g ts (texts.Graph why) is s = absurd is
+no_stream_by room g ts (texts.Accept why) is s = accept_no_stream _ why s
+no_stream_by room g ts texts.FeedCount is s = λ e. cc
+no_stream_by room g ts (texts.Feed n (token.Syntax line)) is s = λ e. cc
+no_stream_by room g ts (texts.Feed n (token.Range line)) is s = λ e. cc
+no_stream_by room g ts (texts.Feed n token.TooMany) is s = λ e. cc
+no_stream_by room g ts (texts.Feed n token.Read) is s = λ e.
     absurd (read_refuted is.0.graph.actors ts n (is.2.1 (λ m. let no : token.Read ≡ token.Memory = m in cc)))
-no_stream_by room g bytes ts (texts.Feed n token.Memory) is s = λ e. cc
-no_stream_by room g bytes ts (texts.Run why) is s = run_no_stream why s
+no_stream_by room g ts (texts.Feed n token.Memory) is s = λ e. cc
+no_stream_by room g ts (texts.Run why) is s = run_no_stream why s
 
 -- the fault of texts that make no run is of no stream
-pub no_stream : (room : Room) (g : Graph) (bytes : List ℕ) (ts : List (List ℕ)) (f : ToolFault) → RefusesRun room g bytes ts f → (s : Stream) → f ≢ Device s
-no_stream room g bytes ts f refuses s = λ e. no_stream_by room g bytes ts refuses.0 refuses.1 s (sym refuses.2 ∙ e)
+pub no_stream : (room : Room) (g : Graph) (ts : List (List ℕ)) (f : ToolFault) → RefusesGraphRun room g ts f → (s : Stream) → f ≢ Device s
+no_stream room g ts f refuses s = λ e. no_stream_by room g ts refuses.0 refuses.1 s (sym refuses.2 ∙ e)

@@ -15,13 +15,15 @@ use Rattle.csdf_analysis.specs.declared.room.Room.{Room}
 use Rattle.csdf_floor.proofs.Works.{few_in_thousand}
 use Rattle.csdf_analysis.specs.declared.length.Length.{Length}
 use Rattle.csdf_analysis.specs.declared.length.Length.TheVariants as lengths
-use Rattle.csdf_run.specs.Texts.{MayGoOn}
+use Rattle.csdf_run.specs.declared.texts.TextsFault.{TextsFault}
+use Rattle.csdf_run.specs.declared.texts.TextsFault.TheVariants as texts
+use Rattle.csdf_run.specs.Texts.{IsGraphRefusal, IsRefusal, MayGraphGoOn}
 use Rattle.csdf_words.specs.CommandLine.{Order}
 use Rattle.csdf_words.specs.HowLong.{MayBeAsked}
 use Rattle.csdf_tool.specs.GraphFiles.{IsNamed}
 use Rattle.csdf_answers.specs.Faults.{fault_of}
 use Rattle.csdf_tool.specs.Acts.{Act, Asks, Marks, OnlyReads, devices}
-use Rattle.csdf_tool.specs.Running.{EndsBeforeFiles, EndsOnFiles, IsCutShort, IsUnput, LacksFeed, RefusesRun, StopsRun, Written}
+use Rattle.csdf_tool.specs.Running.{EndsBeforeFiles, EndsOnFiles, IsCutShort, IsUnput, LacksFeed, RefusesGraphRun, RefusesRun, StopsRun, Written}
 use Rattle.csdf_tool.specs.GraphFiles.{graph_reads}
 use Rattle.csdf_tool.specs.Running.{feed_paths, feed_reads, out_file, put_fault, put_whole, run_reads, sink_files}
 use Rattle.csdf_tool.specs.declared.put_fault.PutFault.{PutFault}
@@ -33,9 +35,9 @@ use Rattle.csdf_tool.proofs.DiskLemmas.{asks_more, only_feeds, only_graph, only_
 -- ---- how long
 
 -- a run of any graph may go on as long as may be asked for
-pub may_go_on : (room : Room) (bytes : List ℕ) (how_long : Length) → MayBeAsked how_long → MayGoOn room bytes how_long
-may_go_on room bytes (lengths.Periods n) may = (may.0, λ a file. few_in_thousand a n file.accepted may.1)
-may_go_on room bytes lengths.UntilDry may = tt
+pub may_go_on : (room : Room) (g : Graph) (how_long : Length) → MayBeAsked how_long → MayGraphGoOn room g how_long
+may_go_on room g (lengths.Periods n) may = (may.0, λ a is. few_in_thousand a n is.accepted may.1)
+may_go_on room g lengths.UntilDry may = tt
 
 -- ---- words
 
@@ -131,6 +133,19 @@ cut_ends files acts f cut = cut_by files cut.many cut.last f cut.cut
 
 -- ---- why a run ends before its files are put
 
+-- why there is no run of a graph, there is none of its file
+refuses_file : (room : Room) (bytes : List ℕ) (g : Graph) (feeds : List (List ℕ)) (why : TextsFault) → IsGraphOf bytes (Ok g) → IsGraphRefusal room g feeds why
+    → IsRefusal room bytes feeds why
+refuses_file room bytes g feeds (texts.Graph why) read is = absurd is
+refuses_file room bytes g feeds (texts.Accept why) read is = record { graph = g; read = read; holds = is }
+refuses_file room bytes g feeds texts.FeedCount read is = record { graph = g; read = read; holds = is }
+refuses_file room bytes g feeds (texts.Feed n why) read is = record { graph = g; read = read; holds = is }
+refuses_file room bytes g feeds (texts.Run why) read is = record { graph = g; read = read; holds = is }
+
+refuses_run : (room : Room) (bytes : List ℕ) (g : Graph) (feeds : List (List ℕ)) (f : ToolFault) → IsGraphOf bytes (Ok g) → RefusesGraphRun room g feeds f
+    → RefusesRun room g bytes feeds f
+refuses_run room bytes g feeds f read refuses = (refuses.0, refuses_file room bytes g feeds refuses.0 read refuses.1, refuses.2)
+
 graph_memory : (why : GraphFault) → (why ≡ graph.Memory) ⊎ (why ≢ graph.Memory)
 graph_memory graph.NotToml = inr (λ e. cc)
 graph_memory (graph.Shape at) = inr (λ e. cc)
@@ -187,7 +202,7 @@ module _ (order : Order) (left : Option (List ℕ)) (failed : Bool) (bytes seen 
     -- the texts make no run
     pub stops_by_texts : (actors : List Actor) → actors ≡ g.actors → (feeds others : List (List ℕ)) → feeds ≡ others
         → Asks b c (feed_reads order.folder actors feeds) → length (feed_paths order.folder actors) ≡ length feeds
-        → (f ≢ fault.Memory → RefusesRun order.room g seen others f) → EndsBeforeFiles order (devices left a c) failed f
+        → (f ≢ fault.Memory → RefusesGraphRun order.room g others f) → EndsBeforeFiles order (devices left a c) failed f
     stops_by_texts actors same_actors feeds others same_feeds more each refuses = record {
       only = only_more a b c (only_graph a b order.graph bytes read) (only_feeds b c order.folder actors feeds more);
       why = by (memory_or_not f);
@@ -207,8 +222,8 @@ module _ (order : Order) (left : Option (List ℕ)) (failed : Bool) (bytes seen 
                   files = run_asks order g bytes seen actors feeds others a b c read more same same_actors same_feeds;
                   each = subst (λ fs. length (feed_paths order.folder g.actors) ≡ length fs) same_feeds
                       (subst (λ xs. length (feed_paths order.folder xs) ≡ length feeds) same_actors each);
-                  refuses = refuses other;
-                  no_stream = no_stream order.room g seen others f (refuses other);
+                  refuses = refuses_run order.room seen g others f is (refuses other);
+                  no_stream = no_stream order.room g others f (refuses other);
                 }),
               ),
             )

@@ -18,7 +18,7 @@ use Rattle.csdf_run.specs.declared.texts.Texts.{Texts}
 use Rattle.csdf_run.specs.declared.texts.TextsFault.{TextsFault}
 use Rattle.csdf_run.specs.declared.texts.TextsFault.TheVariants as texts
 use Rattle.csdf_analysis.specs.declared.room.Room.{Room}
-use Rattle.csdf_run.specs.Texts.{IsRefusal, TellRun, TellSequentialRun, texts_in}
+use Rattle.csdf_run.specs.Texts.{IsGraphRefusal, IsRefusal, TellRun, TellSequentialRun, texts_in}
 use Rattle.csdf_floor.specs.Work.{is_sink_kernel}
 use Rattle.csdf_answers.specs.declared.fault.Stream.{Stream}
 use Rattle.csdf_answers.specs.declared.fault.Stream.TheVariants.{File, Output}
@@ -97,7 +97,11 @@ texts_fault g texts.FeedCount = Mixed
 texts_fault g (texts.Feed a why) = token_fault (name_at (actor_names g.actors) a) why
 texts_fault g (texts.Run why) = run_fault why
 
--- the fault tells why the texts make no run with this room
+-- the fault tells why the texts make no run of the graph with this room
+abbrev pub RefusesGraphRun : Room → Graph → List (List ℕ) → ToolFault → Type 0
+RefusesGraphRun room g feeds fault = (why : TextsFault) × IsGraphRefusal room g feeds why × (fault ≡ texts_fault g why)
+
+-- the same of the graph of a file
 abbrev pub RefusesRun : Room → Graph → List ℕ → List (List ℕ) → ToolFault → Type 0
 RefusesRun room g bytes feeds fault = (why : TextsFault) × IsRefusal room bytes feeds why × (fault ≡ texts_fault g why)
 

@@ -4,14 +4,14 @@ ghost use Rattle.std.specs.Prelude.{◌≡◌, ◌≢◌, ◌⊎◌, ℕ, List, 
 ghost use Rattle.csdf_model.specs.Graph.{actor_view};
 ghost use Rattle.csdf_graph.specs.GraphText.{IsGraphOf};
 ghost use Rattle.csdf_core.specs.Layout.{is_source_kernel};
-ghost use Rattle.csdf_run.specs.Texts.{TellRun, TellSequentialRun, source_count, texts_in};
+ghost use Rattle.csdf_run.specs.Texts.{TellGraphRun, TellSequentialGraphRun, source_count, texts_in};
 ghost use Rattle.csdf_floor.specs.Work.{is_sink_kernel};
 ghost use Rattle.csdf_journal.specs.View.{is_kept};
 ghost use Rattle.csdf_words.specs.CommandLine.{order_view};
 ghost use Rattle.csdf_tool.specs.Acts.{Act, Asks, OnlyReads, devices, marks};
 ghost use Rattle.csdf_tool.specs.GraphFiles.{is_input};
 ghost use Rattle.csdf_tool.specs.Reports.{TellsReport};
-ghost use Rattle.csdf_tool.specs.Running.{EndsBeforeFiles, EndsOnFiles, IsCutShort, IsFeedMissing, IsReadAfter, LacksFeed, RefusesRun, RunsOn, RunsOnFiles};
+ghost use Rattle.csdf_tool.specs.Running.{EndsBeforeFiles, EndsOnFiles, IsCutShort, IsFeedMissing, IsReadAfter, LacksFeed, RefusesGraphRun, RunsOn, RunsOnFiles};
 ghost use Rattle.csdf_tool.specs.Running.{feed_paths, feed_reads, file_view, files_of, journal_files, put_whole, run_fault, run_reads, sink_files, texts_fault, token_fault};
 
 use crate::disk::Disk;
@@ -24,7 +24,7 @@ use csdf_floor::RunFault;
 use csdf_graph::read_graph;
 use csdf_journal::Keeping;
 use csdf_model::{Actor, Graph, Kernel};
-use csdf_run::{RunOptions, Texts, TextsFault, run_texts_with};
+use csdf_run::{RunOptions, Texts, TextsFault, run_graph_with};
 use csdf_words::RunOrder;
 use std::alloc::{AllocError, Global};
 use std::sync::Wait;
@@ -139,18 +139,17 @@ fn keeping_of(journal: Option<&str>) -> Keeping
     }
 }
 
-/// Runs a graph file over the bytes of its sources' token files.
+/// Runs a graph over the bytes of its sources' token files.
 fn texts_of<R: AllocGlobal + Eprint + Threads + Wait + Sync>(
     rt: &R,
     graph: &Graph,
-    bytes: &[u8],
     feeds: &[Vec<u8>],
     order: RunOrder<'_>,
 ) -> Result<Texts, ToolFault>
-    ensures told { IfOk result (TellRun order.entry.room bytes.now (texts_in feeds.now) order.entry.how_long order.entry.firings) }
-    ensures sequential { IfOk result (TellSequentialRun order.entry.room bytes.now (texts_in feeds.now) order.entry.how_long order.entry.firings) }
+    ensures told { IfOk result (TellGraphRun order.entry.room graph.now (texts_in feeds.now) order.entry.how_long order.entry.firings) }
+    ensures sequential { IfOk result (TellSequentialGraphRun order.entry.room graph.now (texts_in feeds.now) order.entry.how_long order.entry.firings) }
     ensures kept { IfOk result (λ texts. is_some texts.journal ≡ is_some order.entry.journal) }
-    ensures refused { IfErr result (λ fault. fault ≢ ToolFault.Memory → RefusesRun order.entry.room graph.now bytes.now (texts_in feeds.now) fault) }
+    ensures refused { IfErr result (λ fault. fault ≢ ToolFault.Memory → RefusesGraphRun order.entry.room graph.now (texts_in feeds.now) fault) }
 {
     let alloc = rt.alloc();
     let options = RunOptions {
@@ -160,8 +159,9 @@ fn texts_of<R: AllocGlobal + Eprint + Threads + Wait + Sync>(
         room: order.room,
         keeping: keeping_of(order.journal),
     };
+    let copy = graph.try_copy(alloc)?;
     let progress = Progress::new(rt, order.progress);
-    let texts = run_texts_with(rt, alloc, bytes, feeds, options, &progress);
+    let texts = run_graph_with(rt, alloc, copy, feeds, options, &progress);
     progress.end();
     match texts {
         Ok(texts) => Ok(texts),
@@ -195,7 +195,7 @@ fn ran_by<R: AllocGlobal + Eprint + Threads + Wait + Sync, D: Disk, I: Intake>(
     let bytes = graph_bytes(alloc, disk, order.graph, reader)?;
     let graph = read_graph(alloc, &bytes)?;
     let feeds = feeds_in(alloc, disk, order.folder, graph.actors())?;
-    let texts = texts_of(rt, &graph, &bytes, &feeds, order)?;
+    let texts = texts_of(rt, &graph, &feeds, order)?;
     Ok(Ran { graph, texts })
 }
 

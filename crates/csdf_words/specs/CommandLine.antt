@@ -9,6 +9,7 @@ use Rattle.clap.specs.ValueTests.{is_unsigned_in}
 use Rattle.clap.specs.declared.builder.action.ArgAction.TheVariants.{SetTrue}
 use Rattle.clap.specs.declared.builder.value_parser.ValueParser.TheVariants.{Unsigned}
 use Rattle.clap.specs.declared.error.kind.ErrorKind.TheVariants.{OutOfMemory}
+use Rattle.csdf_model.specs.declared.limits.TheConstants.{MAX_FIRINGS, MAX_PERIODS, MAX_ROOM}
 use Rattle.csdf_analysis.specs.declared.room.Room.{Room}
 use Rattle.csdf_analysis.specs.declared.room.Room.TheVariants.{Least, Periods, Auto}
 use Rattle.csdf_analysis.specs.declared.length.Length.{Length}
@@ -54,8 +55,8 @@ with_json a = with_rule a (flag (codes "json"))
 
 abbrev pub run_command : App
 run_command =
-    let two = with_rule (with_rule on_files (number_option (codes "workers") 1 8)) (number_option (codes "periods") 1 1000) in
-    let four = with_rule (with_rule two (flag (codes "until-dry"))) (number_option (codes "firings") 0 1048576000) in
+    let two = with_rule (with_rule on_files (number_option (codes "workers") 1 8)) (number_option (codes "periods") 1 MAX_PERIODS) in
+    let four = with_rule (with_rule two (flag (codes "until-dry"))) (number_option (codes "firings") 0 MAX_FIRINGS) in
     let six = with_rule (with_rule four (text_option (codes "out"))) (text_option (codes "journal")) in
     with_json (with_room (with_rule six (flag (codes "progress"))))
 
@@ -164,7 +165,7 @@ word_of place rows = word_or place rows []
 
 -- the room that a text names: `auto`, or a number of periods in its range
 abbrev pub room_in : Text → Option Room
-room_in text = if bytes_eq text (codes "auto") then Some Auto else option_map Periods (number_in 1 65535 text)
+room_in text = if bytes_eq text (codes "auto") then Some Auto else option_map Periods (number_in 1 MAX_ROOM text)
 
 -- the room that is asked for, the least capacities where none was given; nothing where the text names no room
 abbrev pub room_of : List Row → Option Room
@@ -186,7 +187,7 @@ how_long_by false None = Some (lengths.Periods 1)
 how_long_by false (Some n) = Some (lengths.Periods n)
 
 abbrev pub how_long_of : List Row → Option Length
-how_long_of rows = how_long_by (is_given (codes "until-dry") rows) (number_of 1 1000 (codes "periods") rows)
+how_long_of rows = how_long_by (is_given (codes "until-dry") rows) (number_of 1 MAX_PERIODS (codes "periods") rows)
 
 -- the run that the words after `run` ask for, so long and with this room; the sinks' files go to the folder of the sources' where no other is named
 abbrev pub order_of : List Row → Room → Length → Order
@@ -196,7 +197,7 @@ order_of rows room how_long = record {
   sink_folder = word_or (codes "out") rows (word_of (codes "DIR") rows);
   workers = unwrap_or (number_of 1 8 (codes "workers") rows) 1;
   how_long = how_long;
-  firings = number_of 0 1048576000 (codes "firings") rows;
+  firings = number_of 0 MAX_FIRINGS (codes "firings") rows;
   room = room;
   journal = first_of (codes "journal") rows;
   progress = is_given (codes "progress") rows;

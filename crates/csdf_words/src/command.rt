@@ -17,6 +17,7 @@ use clap::error::ErrorKind;
 use clap::{Arg, ArgAction, ArgMatches, Command, Error};
 use csdf_analysis::{Length, Room};
 use csdf_answers::{Form, Question};
+use csdf_model::{MAX_FIRINGS, MAX_PERIODS, MAX_ROOM};
 use std::alloc::{AllocError, Global};
 
 /// What the program is asked to do.
@@ -102,7 +103,7 @@ fn with_option<'a>(
     command: Command<'a>,
     name: &'a str,
     letter: &'a str,
-    range: (u64, u64),
+    range: (u32, u32),
     help: &'a str,
 ) -> Result<Command<'a>, AllocError>
     ensures app { IfOk result (λ r. app_of r ≡ with_rule (app_of command.entry) (number_option name.entry.now range.0 range.1)) }
@@ -111,7 +112,7 @@ fn with_option<'a>(
     let option = Arg::new(alloc, name)
         .long(name)
         .value_name(letter)
-        .value_parser(ValueParser::unsigned(range.0, range.1))
+        .value_parser(ValueParser::unsigned(u64::from(range.0), u64::from(range.1)))
         .help(help);
     with_arg(command, option)
 }
@@ -187,11 +188,11 @@ fn run_command<'a>(alloc: Global) -> Result<Command<'a>, AllocError>
     let workers = "How many workers fire: 1 to 8, 1 where absent";
     let command = with_option(alloc, command, WORKERS, "N", (1, 8), workers)?;
     let periods = "How many periods to run: 1 to 1000, 1 where absent";
-    let command = with_option(alloc, command, PERIODS, "K", (1, 1000), periods)?;
+    let command = with_option(alloc, command, PERIODS, "K", (1, MAX_PERIODS), periods)?;
     let until_dry = "Run until a source has run dry, in place of a number of periods";
     let command = with_flag(alloc, command, UNTIL_DRY, until_dry)?;
     let firings = "The most firings of all actors: 0 to 1048576000, no limit where absent";
-    let command = with_option(alloc, command, FIRINGS, "F", (0, 1_048_576_000), firings)?;
+    let command = with_option(alloc, command, FIRINGS, "F", (0, MAX_FIRINGS), firings)?;
     let out = "The folder that the sinks' files are written to: DIR where absent";
     let command = with_text(alloc, command, OUT, "FOLDER", out)?;
     let journal = "A file for the moves of the run, as the script of a graph file";
@@ -538,7 +539,7 @@ fn room_in(text: &str) -> Option<Room>
     if text == "auto" {
         return Some(Room::Auto);
     }
-    match number_in(text, 1, 65_535) {
+    match number_in(text, 1, MAX_ROOM) {
         Some(periods) => Some(Room::Periods(periods)),
         None => None,
     }
@@ -586,7 +587,7 @@ fn how_long_of(arguments: &ArgMatches<'_>) -> Option<Length>
     ensures value { result ≡ how_long_of (rows_of (found_of arguments.now)) }
     ensures may { IfSome result MayBeAsked }
 {
-    let periods = number_of(arguments, PERIODS, 1, 1000);
+    let periods = number_of(arguments, PERIODS, 1, MAX_PERIODS);
     match (is_given(arguments, UNTIL_DRY), periods) {
         (true, None) => Some(Length::UntilDry),
         (true, Some(_)) => None,
@@ -610,7 +611,7 @@ fn order_of<'a>(arguments: &ArgMatches<'a>, room: Room, how_long: Length) -> Run
         sink_folder: word_or(arguments, OUT, folder),
         workers: number_of(arguments, WORKERS, 1, 8).unwrap_or(1),
         how_long,
-        firings: number_of(arguments, FIRINGS, 0, 1_048_576_000),
+        firings: number_of(arguments, FIRINGS, 0, MAX_FIRINGS),
         room,
         journal: given_of(arguments, JOURNAL),
         progress: is_given(arguments, PROGRESS),

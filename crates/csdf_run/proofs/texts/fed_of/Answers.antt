@@ -1,9 +1,13 @@
-use Rattle.std.proofs.Common.{arith}
-use Rattle.std.proofs.lemmas.Grind.{common_steps}
+use Rattle.std.proofs.Common.{ℕ, ap, sym, ◌∙◌}
+use Rattle.std.proofs.lemmas.List.{length-map}
+use Rattle.std.specs.Global.{Vec}
+use Rattle.csdf_model.specs.Graph.{Graph}
+use Rattle.csdf_run.specs.Texts.{feeds_from, source_count, texts_in}
 use Rattle.csdf_run.proofs.texts.fed_of.Goals as goal
 
-pub returns-in_err-accepted-clause-refused : goal.returns-in_err-accepted-clause-refused
-returns-in_err-accepted-clause-refused c = grind (arith, common_steps)
-
 pub returns-clause-read : goal.returns-clause-read
-returns-clause-read c = grind (arith, common_steps)
+returns-clause-read c = record {
+  in_room = record { roomy = c.in-Ok.ensures.graph; accepted = c.in-Ok.ensures.accepted };
+  each_source = length-map c.args.texts.now (λ (text : Vec ℕ). text.items) ∙ c.in_ok-feeds.ensures.each_source ∙ ap (λ (g : Graph). source_count g.actors) c.graph.ensures.graph;
+  tokens = ap (λ (g : Graph). feeds_from 0 g.actors (texts_in c.args.texts.now)) (sym c.graph.ensures.graph) ∙ c.in_ok-feeds.ensures.feeds;
+}

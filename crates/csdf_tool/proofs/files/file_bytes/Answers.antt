@@ -1,4 +1,4 @@
-use Rattle.std.proofs.Common.{ap, inl, inr, ◌∙◌}
+use Rattle.std.proofs.Common.{ap, inr, ◌∙◌}
 use Rattle.csdf_answers.specs.Faults.{unread}
 use Rattle.csdf_answers.specs.declared.fault.Stream.TheVariants.{File}
 use Rattle.csdf_tool.proofs.files.file_bytes.Goals as goal

@@ -1,4 +1,3 @@
-use Rattle.std.proofs.Common.{refl}
 use Rattle.csdf_tool.proofs.CauseLemmas.{input_fault}
 use Rattle.csdf_tool.proofs.files.input_bytes.Goals as goal
 

@@ -1,7 +1,7 @@
 use Rattle.std.proofs.Common.{List, ℕ, [], ◌∷◌, ◌++◌, codes, map, ap, ◌∙◌}
 use Rattle.std.specs.List.{enumerate_from}
 use Rattle.std.proofs.lemmas.Result.{on_ok_weaker}
-use Rattle.json.specs.Json.{Json, object, no_members}
+use Rattle.json.specs.Json.{object, no_members}
 use Rattle.json.specs.Token.{begin_object, end_object}
 use Rattle.json.specs.Tree.{items_tokens, json_tokens}
 use Rattle.csdf_json.specs.Lines.{list_member, list_tokens, text_member, text_tokens}

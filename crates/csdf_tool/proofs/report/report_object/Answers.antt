@@ -1,6 +1,5 @@
-use Rattle.std.proofs.Common.{List, ◌++◌, map, ap, subst, ◌∙◌}
+use Rattle.std.proofs.Common.{List, ◌++◌, map, ap, ◌∙◌}
 use Rattle.json.specs.Tree.{json_tokens}
-use Rattle.csdf_json.specs.Lines.{IsLineOf}
 use Rattle.csdf_model.specs.Graph.{Channel, channel_view}
 use Rattle.csdf_floor.specs.Report.{names_of}
 use Rattle.csdf_tool.specs.Reports.{report_object}

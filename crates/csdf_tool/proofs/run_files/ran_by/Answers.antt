@@ -1,6 +1,5 @@
-use Rattle.std.proofs.Common.{Ok, ap, map, refl, sym, subst, inl, ◌∙◌}
+use Rattle.std.proofs.Common.{ap, map, refl, sym, subst, inl, ◌∙◌}
 use Rattle.csdf_model.specs.Graph.{actor_view}
-use Rattle.csdf_graph.specs.GraphText.{IsGraphOf}
 use Rattle.csdf_run.specs.Texts.{texts_in}
 use Rattle.csdf_words.specs.CommandLine.{order_view}
 use Rattle.csdf_tool.specs.GraphFiles.{IsNamed}
@@ -43,23 +42,31 @@ pub returns-in_err-texts-clause-stopped : goal.returns-in_err-texts-clause-stopp
 returns-in_err-texts-clause-stopped g c =
     let fault = c.in_err-texts.field-0.0 in
     let left = g.I.Intake.left c.args.reader.now in
-    let read = subst (λ bytes. IsGraphOf bytes (Ok c.in_ok-graph.graph)) (c.deref.ensures.value ∙ sym c.deref-2.ensures.value) c.in_ok-graph.ensures in
     if_err_fault _ fault _ c.from_residual-in_err-texts.ensures.1
-    (stops_by_texts (order_view c.args.order) left _ c.in_ok-bytes.bytes.items c.deref-2.result.now (sym c.deref-2.ensures.value) c.in_ok-bytes.ensures.named fault
-    _ _ _ c.in_ok-bytes.ensures.read c.in_ok-graph.graph read (map actor_view c.actors.result.now) c.actors.ensures.value
-    (texts_in c.in_ok-feeds.feeds.items) (texts_in c.deref-3.result.now) (ap texts_in (sym c.deref-3.ensures.value)) c.in_ok-feeds.ensures.read
+    (stops_by_texts (order_view c.args.order) left _ c.in_ok-bytes.bytes.items c.deref.result.now (sym c.deref.ensures.value) c.in_ok-bytes.ensures.named fault
+    _ _ _ c.in_ok-bytes.ensures.read c.in_ok-graph.graph c.in_ok-graph.ensures (map actor_view c.actors.result.now) c.actors.ensures.value
+    (texts_in c.in_ok-feeds.feeds.items) (texts_in c.deref-2.result.now) (ap texts_in (sym c.deref-2.ensures.value)) c.in_ok-feeds.ensures.read
     c.in_ok-feeds.ensures.each c.in_err-texts.ensures.refused)
 
 pub returns-clause-ran : goal.returns-clause-ran
 returns-clause-ran g c =
-    let read = subst (λ bytes. IsGraphOf bytes (Ok c.in_ok-graph.graph)) (c.deref.ensures.value ∙ sym c.deref-2.ensures.value) c.in_ok-graph.ensures in
+    let seen = c.deref.result.now in
+    let graph = c.in_ok-graph.graph in
+    let read = c.in_ok-graph.ensures in
     let left = g.I.Intake.left c.args.reader.now in
-    let named = subst (λ bytes. IsNamed c.args.order.graph.now left bytes) (sym c.deref-2.ensures.value) c.in_ok-bytes.ensures.named in
-    let told = c.in_ok-texts.ensures.told in (
-      c.deref-2.result.now,
-      texts_in c.deref-3.result.now,
-      record { named = named; run = record { graph = read; told = told; sequential = c.in_ok-texts.ensures.sequential; kept = c.in_ok-texts.ensures.kept ∙ sym (is_some-map c.args.order.journal) } },
-      run_asks (order_view c.args.order) c.in_ok-graph.graph c.in_ok-bytes.bytes.items c.deref-2.result.now (map actor_view c.actors.result.now)
-          (texts_in c.in_ok-feeds.feeds.items) (texts_in c.deref-3.result.now) _ _ _ c.in_ok-bytes.ensures.read c.in_ok-feeds.ensures.read
-          (sym c.deref-2.ensures.value) c.actors.ensures.value (ap texts_in (sym c.deref-3.ensures.value)),
+    let named = subst (λ bytes. IsNamed c.args.order.graph.now left bytes) (sym c.deref.ensures.value) c.in_ok-bytes.ensures.named in (
+      seen,
+      texts_in c.deref-2.result.now,
+      record {
+        named = named;
+        run = record {
+          graph = read;
+          told = record { graph = graph; read = read; holds = c.in_ok-texts.ensures.told };
+          sequential = record { graph = graph; read = read; holds = c.in_ok-texts.ensures.sequential };
+          kept = c.in_ok-texts.ensures.kept ∙ sym (is_some-map c.args.order.journal);
+        };
+      },
+      run_asks (order_view c.args.order) graph c.in_ok-bytes.bytes.items seen (map actor_view c.actors.result.now) (texts_in c.in_ok-feeds.feeds.items)
+          (texts_in c.deref-2.result.now) _ _ _ c.in_ok-bytes.ensures.read c.in_ok-feeds.ensures.read (sym c.deref.ensures.value) c.actors.ensures.value
+          (ap texts_in (sym c.deref-2.ensures.value)),
     )

@@ -1,4 +1,4 @@
-use Rattle.std.proofs.Common.{sym, subst, refl, ◌≡◌, ◌∙◌, inl, inr}
+use Rattle.std.proofs.Common.{subst, refl, ◌≡◌, inl, inr}
 use Rattle.csdf_answers.specs.declared.fault.ToolFault.TheVariants as fault
 use Rattle.csdf_answers.specs.declared.fault.Stream.TheVariants.{Output}
 use Rattle.std.specs.Io.KnownBytes.{Appends}
