@@ -7,7 +7,6 @@ pub mod Kept
 pub mod Ready
 pub mod Next
 pub mod RoomLemmas
-pub mod Rounds
 pub mod ClosedLemmas
 pub mod FitLemmas
 pub mod Follows

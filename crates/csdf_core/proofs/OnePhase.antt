@@ -6,8 +6,8 @@ use Rattle.std.proofs.Math.Nat.{mod-one, suc-mul}
 use Rattle.std.proofs.lemmas.List.Elements.{recursion_from_All}
 use Rattle.std.proofs.lemmas.List.Sums.{sum_by-cons}
 use Rattle.csdf_model.specs.Rates.{rate}
-use Rattle.csdf_core.specs.Blocks.{needs_of, gifts_of, takes_at, gives_at, HoldAll, HaveRoomFor, capacity_at}
-use Rattle.csdf_core.specs.Phases.{IsPhase, IsInPhase, HasPhases}
+use Rattle.csdf_core.specs.Blocks.{gifts_of, takes_at, gives_at, HoldAll, HaveRoomFor, capacity_at}
+use Rattle.csdf_core.specs.Phases.{HasPhases}
 use Rattle.csdf_core.specs.Plan.{Channel, from_at, to_at, produce_at, consume_at}
 use Rattle.csdf_core.specs.Ports.{inputs_at, outputs_at, take_at, give_at, tokens_at}
 use Rattle.csdf_core.specs.Rows.{need, gift}
@@ -63,13 +63,6 @@ module _ (cs : List Channel) (a : ℕ) (has : HasPhases cs a 1) where
   same_gift j k =
       sym (gift_is a j cs) ∙ sum_same (give_at cs j) (give_at cs k) (outputs_at cs a) (same_gives j k) ∙ gift_is a k cs
 
-  pub needs_times : (k n : ℕ) → needs_of cs a k n ≡ n * need a k cs
-  needs_times k zero = omega arith
-  needs_times k (suc n) =
-      let rest : needs_of cs a (suc k) n ≡ n * need a k cs = needs_times (suc k) n ∙ ap (λ x. n * x) (same_need (suc k) k) in
-      let t = suc-mul n (need a k cs) in
-      omega (arith, rest, t)
-
   pub gifts_times : (k n : ℕ) → gifts_of cs a k n ≡ n * gift a k cs
   gifts_times k zero = omega arith
   gifts_times k (suc n) =
@@ -120,15 +113,6 @@ module _ (cs : List Channel) (a : ℕ) (has : HasPhases cs a 1) where
       both ns
       (λ c (e : gives_at cs k n c ≡ n * give_at cs k c) (h : length (tokens_at ts c) + gives_at cs k n c ≤ capacity_at cs c).
       (let r : length (tokens_at ts c) + n * give_at cs k c ≤ capacity_at cs c = omega (arith, e, h) in r)) same all
-
-  pub in_only_phase : (k : ℕ) → IsInPhase cs a k 0
-  in_only_phase k = record {
-    takes = λ c lt e. only (consume_at cs c) (has.takes c lt e);
-    gives = λ c lt e. only (produce_at cs c) (has.gives c lt e);
-  }
-    where
-      only : (rates : List ℕ) → length rates ≡ 1 → IsPhase rates k 0
-      only rates e = record { within = omega (arith, e); is = sym (ap (λ l. k % l) e ∙ mod-one k) }
 
 -- ---- the same of channels, numbers and tokens that are known to be these
 pub held_as : (cs ds : List Channel) (a k j n : ℕ) (ts us : List (List ℤ)) → cs ≡ ds → k ≡ j → ts ≡ us → HasPhases cs a 1

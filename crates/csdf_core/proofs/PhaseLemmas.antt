@@ -3,7 +3,8 @@ use Rattle.std.proofs.Common.{◌≡◌, ℕ, zero, suc, ◌+◌, ◌<◌, ◌�
 use Rattle.std.proofs.Common.{ap, subst, ◌∙◌, sym, refl, arith}
 use Rattle.std.specs.Prelude.{All, sum}
 use Rattle.std.specs.List.{zip, AllByRecursion}
-use Rattle.std.proofs.Math.Nat.{suc-mod, mod-eq_of_lt, mod_self, zero-mod}
+use Rattle.std.proofs.Math.Nat.{suc-mod, mod-eq_of_lt, mod_self, zero-mod, mod-add-mod}
+use Rattle.std.proofs.lemmas.Nat.{mod_below}
 use Rattle.std.proofs.lemmas.Bool.Decides.{eqb_tells}
 use Rattle.std.proofs.lemmas.List.{get_or-set_other, get_or-set_same, length-set}
 use Rattle.std.proofs.lemmas.List.Elements.{All-from_recursion}
@@ -129,6 +130,22 @@ module _ (channels : List Channel) (a k phase n : ℕ) (h : IsInPhase channels a
     takes = λ c lt e. (let l = has.takes c lt e in after_other (consume_at channels c) k phase (h.takes c lt e) (omega arith));
     gives = λ c lt e. (let l = has.gives c lt e in after_other (produce_at channels c) k phase (h.gives c lt e) (omega arith));
   }
+
+-- ---- the phase some firings later
+later : (rates : List ℕ) (k phase n : ℕ) → IsPhase rates k phase → IsPhase rates (k + n) ((phase + n) % length rates)
+later rates k phase n h = record {
+  within = mod_below (phase + n) (length rates) (let w = h.within in omega (arith, w));
+  is = ap (λ p. (p + n) % length rates) h.is ∙ mod-add-mod k (length rates) n;
+}
+
+pub turned_by : (channels : List Channel) (a k phase n phases : ℕ) → IsInPhase channels a k phase → HasPhases channels a phases
+    → IsInPhase channels a (k + n) ((phase + n) % phases)
+turned_by channels a k phase n phases h has = record {
+  takes = λ c lt e. subst (λ l. IsPhase (consume_at channels c) (k + n) ((phase + n) % l)) (has.takes c lt e)
+      (later (consume_at channels c) k phase n (h.takes c lt e));
+  gives = λ c lt e. subst (λ l. IsPhase (produce_at channels c) (k + n) ((phase + n) % l)) (has.gives c lt e)
+      (later (produce_at channels c) k phase n (h.gives c lt e));
+}
 
 -- ---- the phases of all actors, where one has another count
 pub phases_finished : (plan : Plan) (counts phases : List ℕ) (a n x : ℕ) → AreInPhase plan counts phases → a < length plan.sources → a < length counts

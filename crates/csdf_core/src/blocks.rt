@@ -15,7 +15,7 @@ use crate::readiness::first_closed;
 use crate::several::{fire_each, has_no_loop, have_room_each, hold_each};
 use crate::stage::Stage;
 use crate::transfer::{gift_of, need_of, raise_peaks};
-use crate::turn::{Turn, turn_after};
+use crate::turn::{Turn, turn_ahead};
 use csdf_model::{MAX_FIRINGS_PER_ACTOR, MAX_PHASES};
 use csdf_pool::Pool;
 
@@ -27,90 +27,34 @@ pub(crate) struct Ahead {
     pub(crate) given: u64,
 }
 
-/// What n firings of an actor of one phase move, from this one on: each as much as the first.
-#[inline(always)]
-fn alike(layout: &Layout, actor: u32, turn: Turn, n: u32) -> Ahead
+/// How many tokens n firings take in all, from this one on.
+fn taken_in_all(layout: &Layout, actor: u32, turn: Turn, n: u32) -> u64
     requires actor { actor < length layout.now.sources }
-    requires phases { HasPhases layout.now.channels actor 1 }
-    requires in_phase { IsInPhase layout.now.channels actor turn.firing turn.phase }
     requires few { turn.firing + n ≤ MAX_FIRINGS_PER_ACTOR }
-    ensures firing { result.next.firing ≡ turn.firing + n }
-    ensures in_phase { IsInPhase layout.now.channels actor result.next.firing result.next.phase }
-    ensures low { result.next.phase < MAX_PHASES }
-    ensures needed { result.needed ≡ needs_of layout.now.channels actor turn.firing n }
-    ensures given { result.given ≡ gifts_of layout.now.channels actor turn.firing n }
-    ensures small { result.given ≤ 8192 * n }
+    ensures { result ≡ needs_of layout.now.channels actor turn.firing n }
 {
-    let needed = need_of(layout, actor, turn) as u64;
-    let given = gift_of(layout, actor, turn) as u64;
-    Ahead {
-        next: Turn {
-            firing: turn.firing + n,
-            phase: 0,
-        },
-        needed: u64::from(n) * needed,
-        given: u64::from(n) * given,
+    let inputs = layout.inputs(actor);
+    let mut sum = 0;
+    for channel in inputs {
+        sum += layout.taken(*channel, turn.firing, n);
     }
+    sum
 }
 
-/// What n firings move, from this one on, added up one by one.
-fn one_by_one(layout: &Layout, actor: u32, turn: Turn, n: u32) -> Ahead
+/// How many tokens n firings give in all, from this one on.
+fn given_in_all(layout: &Layout, actor: u32, turn: Turn, n: u32) -> u64
     requires actor { actor < length layout.now.sources }
-    requires in_phase { IsInPhase layout.now.channels actor turn.firing turn.phase }
-    requires low { turn.phase < MAX_PHASES }
     requires few { turn.firing + n ≤ MAX_FIRINGS_PER_ACTOR }
-    ensures firing { result.next.firing ≡ turn.firing + n }
-    ensures in_phase { IsInPhase layout.now.channels actor result.next.firing result.next.phase }
-    ensures low { result.next.phase < MAX_PHASES }
-    ensures needed { result.needed ≡ needs_of layout.now.channels actor turn.firing n }
-    ensures given { result.given ≡ gifts_of layout.now.channels actor turn.firing n }
-    ensures small { result.given ≤ 8192 * n }
-    ensures small_need { result.needed ≤ 8192 * n }
+    ensures value { result ≡ gifts_of layout.now.channels actor turn.firing n }
+    ensures small { result ≤ 8192 * n }
 {
-    let mut next = turn;
-    let mut needed = 0;
-    let mut given = 0;
-    for _firing in 0..n {
-        needed += need_of(layout, actor, next) as u64;
-        given += gift_of(layout, actor, next) as u64;
-        next = turn_after(layout, actor, next);
+    layout.gives_few();
+    let outputs = layout.outputs(actor);
+    let mut sum = 0;
+    for channel in outputs {
+        sum += layout.given(*channel, turn.firing, n);
     }
-    Ahead {
-        next,
-        needed,
-        given,
-    }
-}
-
-/// What n firings move, from this one on: each round of the actor's phases as much as the first, and what
-/// is left one by one.
-fn in_rounds(layout: &Layout, actor: u32, turn: Turn, n: u32) -> Ahead
-    requires actor { actor < length layout.now.sources }
-    requires in_phase { IsInPhase layout.now.channels actor turn.firing turn.phase }
-    requires low { turn.phase < MAX_PHASES }
-    requires few { turn.firing + n ≤ MAX_FIRINGS_PER_ACTOR }
-    ensures firing { result.next.firing ≡ turn.firing + n }
-    ensures in_phase { IsInPhase layout.now.channels actor result.next.firing result.next.phase }
-    ensures low { result.next.phase < MAX_PHASES }
-    ensures needed { result.needed ≡ needs_of layout.now.channels actor turn.firing n }
-    ensures given { result.given ≡ gifts_of layout.now.channels actor turn.firing n }
-    ensures small { result.given ≤ 8192 * n }
-{
-    let phases = layout.phases(actor);
-    let rest = one_by_one(layout, actor, turn, n % phases);
-    if n < phases {
-        return rest;
-    }
-    let round = one_by_one(layout, actor, turn, phases);
-    let rounds = u64::from(n / phases);
-    Ahead {
-        next: Turn {
-            firing: turn.firing + n,
-            phase: rest.next.phase,
-        },
-        needed: rounds * round.needed + rest.needed,
-        given: rounds * round.given + rest.given,
-    }
+    sum
 }
 
 /// What n firings move, from this one on.
@@ -127,26 +71,11 @@ pub(crate) fn look_ahead(layout: &Layout, actor: u32, turn: Turn, n: u32) -> Ahe
     ensures given { result.given ≡ gifts_of layout.now.channels actor turn.firing n }
     ensures small { result.given ≤ 8192 * n }
 {
-    if layout.phases(actor) == 1 {
-        return alike(layout, actor, turn, n);
+    Ahead {
+        next: turn_ahead(layout, actor, turn, n),
+        needed: taken_in_all(layout, actor, turn, n),
+        given: given_in_all(layout, actor, turn, n),
     }
-    in_rounds(layout, actor, turn, n)
-}
-
-/// How many tokens n firings give, from this one on.
-#[inline(always)]
-fn given_in_all(layout: &Layout, actor: u32, turn: Turn, n: u32) -> u64
-    requires actor { actor < length layout.now.sources }
-    requires in_phase { IsInPhase layout.now.channels actor turn.firing turn.phase }
-    requires low { turn.phase < MAX_PHASES }
-    requires few { turn.firing + n ≤ MAX_FIRINGS_PER_ACTOR }
-    ensures value { result ≡ gifts_of layout.now.channels actor turn.firing n }
-    ensures small { result ≤ 8192 * n }
-{
-    if layout.phases(actor) == 1 {
-        return u64::from(n) * gift_of(layout, actor, turn) as u64;
-    }
-    in_rounds(layout, actor, turn, n).given
 }
 
 /// A number of firings that an actor can make one after the other, and how many tokens they read
@@ -524,12 +453,12 @@ impl Core {
             return limited;
         }
         let turn = self.turn(actor);
-        let round = look_ahead(&self.layout, actor, turn, phases);
+        let given = given_in_all(&self.layout, actor, turn, phases);
         let rounds = limited / phases;
         let held = held_rounds(&self.layout, &self.pool, actor, turn.firing, phases, rounds);
         let roomy = room_rounds(&self.layout, &self.pool, actor, turn.firing, phases, held);
-        let supplied = self.supplied(actor, round.given, roomy);
-        phases * self.celled(round.given, supplied)
+        let supplied = self.supplied(actor, given, roomy);
+        phases * self.celled(given, supplied)
     }
 
     /// The block of n firings, which the actor can make.

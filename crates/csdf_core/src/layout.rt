@@ -219,7 +219,8 @@ impl Layout {
     pub(crate) fn taken(&self, channel: u32, firing: u32, n: u32) -> u64
         requires channel { channel < length self.now.channels }
         requires few { firing + n ≤ MAX_FIRINGS_PER_ACTOR }
-        ensures { result ≡ takes_at self.now.channels firing n channel }
+        ensures value { result ≡ takes_at self.now.channels firing n channel }
+        ensures small { result ≤ MAX_TOKENS_PER_FIRING * n }
     {
         let channel = self.channel(channel);
         moved(&channel.consume, firing, n)

@@ -31,3 +31,26 @@ pub(crate) fn turn_after(layout: &Layout, actor: u32, turn: Turn) -> Turn
         phase,
     }
 }
+
+/// The actor's firing n firings after this one.
+pub(crate) fn turn_ahead(layout: &Layout, actor: u32, turn: Turn, n: u32) -> Turn
+    requires actor { actor < length layout.now.sources }
+    requires in_phase { IsInPhase layout.now.channels actor turn.firing turn.phase }
+    requires low { turn.phase < MAX_PHASES }
+    requires few { turn.firing + n ≤ MAX_FIRINGS_PER_ACTOR }
+    ensures firing { result.firing ≡ turn.firing + n }
+    ensures in_phase { IsInPhase layout.now.channels actor result.firing result.phase }
+    ensures low { result.phase < MAX_PHASES }
+{
+    let phases = layout.phases(actor);
+    // Most actors have one phase, and then nothing is divided.
+    let phase = if phases == 1 {
+        0
+    } else {
+        (turn.phase + n) % phases
+    };
+    Turn {
+        firing: turn.firing + n,
+        phase,
+    }
+}

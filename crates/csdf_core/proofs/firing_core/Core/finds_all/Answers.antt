@@ -85,9 +85,6 @@ hold_each-requires-clause-actor c = grind (arith, common_steps)
 pub given_in_all-given-requires-clause-actor : goal.given_in_all-given-requires-clause-actor
 given_in_all-given-requires-clause-actor c = grind (arith, common_steps)
 
-pub given_in_all-given-requires-clause-in_phase : goal.given_in_all-given-requires-clause-in_phase
-given_in_all-given-requires-clause-in_phase c = grind (arith, common_steps)
-
 pub have_room_each-requires-clause-same : goal.have_room_each-requires-clause-same
 have_room_each-requires-clause-same c = grind (arith, common_steps)
 
