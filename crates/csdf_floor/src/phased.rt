@@ -158,8 +158,11 @@ impl Book {
             given: 0,
         };
         let held = self.held(actor);
+        if held < 2 * self.core.need(actor) as u64 {
+            return none;
+        }
         let room = self.room(actor);
-        if held < 2 * self.core.need(actor) as u64 || room < 2 * self.core.gives(actor) as u64 {
+        if room < 2 * self.core.gives(actor) as u64 {
             return none;
         }
         let first = self.core.fired(actor);

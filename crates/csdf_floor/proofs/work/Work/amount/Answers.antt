@@ -1,6 +1,6 @@
 use Rattle.std.proofs.Common.{sym, ◌∙◌}
 use Rattle.csdf_floor.specs.Work.{program}
-use Rattle.csdf_floor.proofs.PhaseValues.{gift_alone, need_alone}
+use Rattle.csdf_floor.proofs.PhaseValues.{gift_alone}
 use Rattle.csdf_floor.proofs.work.Work.amount.Goals as goal
 
 pub returns-then-is_source-clause-value : goal.returns-then-is_source-clause-value
