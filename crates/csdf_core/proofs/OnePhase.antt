@@ -6,7 +6,7 @@ use Rattle.std.proofs.Math.Nat.{mod-one, suc-mul}
 use Rattle.std.proofs.lemmas.List.Elements.{recursion_from_All}
 use Rattle.std.proofs.lemmas.List.Sums.{sum_by-cons}
 use Rattle.csdf_model.specs.Rates.{rate}
-use Rattle.csdf_core.specs.Blocks.{gifts_of, takes_at, gives_at, HoldAll, HaveRoomFor, capacity_at}
+use Rattle.csdf_core.specs.Blocks.{needs_of, gifts_of, takes_at, gives_at, HoldAll, HaveRoomFor, capacity_at}
 use Rattle.csdf_core.specs.Phases.{HasPhases}
 use Rattle.csdf_core.specs.Plan.{Channel, from_at, to_at, produce_at, consume_at}
 use Rattle.csdf_core.specs.Ports.{inputs_at, outputs_at, take_at, give_at, tokens_at}
@@ -62,6 +62,13 @@ module _ (cs : List Channel) (a : ℕ) (has : HasPhases cs a 1) where
   pub same_gift : (j k : ℕ) → gift a j cs ≡ gift a k cs
   same_gift j k =
       sym (gift_is a j cs) ∙ sum_same (give_at cs j) (give_at cs k) (outputs_at cs a) (same_gives j k) ∙ gift_is a k cs
+
+  pub needs_times : (k n : ℕ) → needs_of cs a k n ≡ n * need a k cs
+  needs_times k zero = omega arith
+  needs_times k (suc n) =
+      let rest : needs_of cs a (suc k) n ≡ n * need a k cs = needs_times (suc k) n ∙ ap (λ x. n * x) (same_need (suc k) k) in
+      let t = suc-mul n (need a k cs) in
+      omega (arith, rest, t)
 
   pub gifts_times : (k n : ℕ) → gifts_of cs a k n ≡ n * gift a k cs
   gifts_times k zero = omega arith
