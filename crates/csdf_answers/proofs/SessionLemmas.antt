@@ -8,8 +8,8 @@ use Rattle.csdf_model.specs.Graph.{actor_view}
 use Rattle.csdf_graph.specs.ScriptText.{Script}
 use Rattle.csdf_graph.proofs.ReadLemmas.{map_map}
 use Rattle.csdf_analysis.specs.Acceptance.{Accepted, IsAccepted}
-use Rattle.csdf_core.specs.Layout.{plan_for}
-use Rattle.csdf_core.proofs.LayoutLemmas.{length-capacities}
+use Rattle.csdf_core.specs.Planned.{plan_for}
+use Rattle.csdf_core.proofs.PlanLemmas.{length-capacities}
 use Rattle.csdf_answers.specs.declared.fault.ToolFault.{ToolFault}
 use Rattle.csdf_answers.specs.Faults.{◌>>=◌}
 use Rattle.csdf_answers.specs.Session.{supply_of, plan_in}

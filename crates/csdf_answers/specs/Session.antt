@@ -8,7 +8,7 @@ use Rattle.csdf_pool.specs.Pool.{Shared, held_tokens, IsPartition}
 use Rattle.csdf_analysis.specs.declared.fault.AcceptFault.{AcceptFault}
 use Rattle.csdf_analysis.specs.declared.fault.AcceptFault.TheVariants as accept
 use Rattle.csdf_analysis.specs.Acceptance.{Accepted, IsAccepted, IsNotAccepted}
-use Rattle.csdf_core.specs.Layout.{is_source_kernel, plan_for}
+use Rattle.csdf_core.specs.Planned.{is_source_kernel, plan_for}
 use Rattle.csdf_core.specs.Plan.{Plan}
 use Rattle.csdf_core.specs.State.{State, Present, present, opening}
 use Rattle.csdf_core.specs.Step.{reply_to, after}

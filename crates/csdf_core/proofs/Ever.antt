@@ -22,7 +22,7 @@ use Rattle.csdf_core.specs.declared.stage.Stage.TheVariants.{Idle, Begun, Fetche
 use Rattle.csdf_core.specs.Moves.{Move}
 use Rattle.csdf_core.specs.Moves.{Begin, Read, Write, Finish}
 use Rattle.csdf_core.specs.Plan.{Channel, Plan, HasAmpleCells}
-use Rattle.csdf_core.specs.Layout.{with_capacity, is_source_kernel, plan_for}
+use Rattle.csdf_core.specs.Planned.{with_capacity, is_source_kernel, plan_for}
 use Rattle.csdf_core.specs.Rows.{gift}
 use Rattle.csdf_core.specs.State.{Stream, State, present, waiting, opening}
 use Rattle.csdf_core.specs.Step.{Reply, count, stage, is_stage, given, is_source, is_reached, is_stopped, begun_count, refusal, answer, accepted, after}

@@ -4,7 +4,7 @@ use Rattle.std.specs.List.{AllByRecursion}
 use Rattle.csdf_analysis.specs.Acceptance.{Accepted}
 use Rattle.csdf_core.specs.Moves.{Move}
 use Rattle.csdf_core.specs.Plan.{Plan, HasAmpleCells}
-use Rattle.csdf_core.specs.Layout.{plan_for}
+use Rattle.csdf_core.specs.Planned.{plan_for}
 use Rattle.csdf_core.specs.State.{Present, present, opening}
 use Rattle.csdf_core.specs.Step.{Reply, count, stage, refused, replies_of, state_after}
 use Rattle.csdf_core.specs.Streams.{part}

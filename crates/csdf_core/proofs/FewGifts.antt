@@ -5,10 +5,10 @@ use Rattle.std.proofs.lemmas.List.Sums.{sum_by-cons}
 use Rattle.csdf_model.specs.Graph as graph
 use Rattle.csdf_model.specs.Rates.{rate}
 use Rattle.csdf_model.specs.WellFormed.{IsChannel}
-use Rattle.csdf_core.specs.Layout.{with_capacity}
+use Rattle.csdf_core.specs.Planned.{with_capacity}
 use Rattle.csdf_core.specs.Plan.{gives_of}
 use Rattle.csdf_core.specs.Rows.{gift}
-use Rattle.csdf_core.proofs.LayoutLemmas.{rate_small}
+use Rattle.csdf_core.proofs.PlanLemmas.{rate_small}
 
 few_of : (b : Bool) (x : ℕ) → x ≤ 64 → cond b x 0 ≤ 64
 few_of true x le = le

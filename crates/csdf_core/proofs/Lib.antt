@@ -16,7 +16,7 @@ pub mod Closings
 pub mod Peaks
 pub mod Runs
 pub mod PortLemmas
-pub mod LayoutLemmas
+pub mod PlanLemmas
 pub mod CoreLemmas
 pub mod SoundLemmas
 pub mod AmountLemmas

@@ -17,7 +17,7 @@ use Rattle.csdf_analysis.proofs.CountLemmas.{total_mono, fired_same, fired_other
 use Rattle.csdf_analysis.proofs.FitLemmas.{at}
 use Rattle.csdf_analysis.proofs.PeriodLemmas.{IsFed, able_of}
 use Rattle.csdf_core.specs.Plan.{Channel, Plan}
-use Rattle.csdf_core.specs.Layout.{with_capacity}
+use Rattle.csdf_core.specs.Planned.{with_capacity}
 use Rattle.csdf_core.specs.Step.{given}
 use Rattle.csdf_core.proofs.Able.{IsAbleAt, later}
 

@@ -13,7 +13,7 @@ use Rattle.csdf_model.specs.Graph.{numbers_from, phases_of}
 use Rattle.csdf_model.specs.Rates.{rate}
 use Rattle.csdf_model.specs.WellFormed.{IsActor, IsChannel, AreRates}
 use Rattle.csdf_core.specs.Plan.{Channel, Plan, from_at, to_at, produce_at, consume_at}
-use Rattle.csdf_core.specs.Layout.{with_capacity}
+use Rattle.csdf_core.specs.Planned.{with_capacity}
 use Rattle.csdf_core.specs.Phases.{IsPhase, IsInPhase, HasPhases, AreInPhase}
 
 -- ---- the own channels of an actor

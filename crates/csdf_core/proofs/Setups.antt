@@ -12,8 +12,8 @@ use Rattle.csdf_analysis.specs.Period.{HoldInitial}
 use Rattle.csdf_analysis.specs.Acceptance.{Accepted, IsAccepted, cells_of}
 use Rattle.csdf_core.specs.Plan.{Channel}
 use Rattle.csdf_core.specs.Playable.{IsPlayable}
-use Rattle.csdf_core.specs.Layout.{with_capacity, is_source_kernel, plan_for, IsLaidOut}
-use Rattle.csdf_core.proofs.LayoutLemmas.{length-capacities}
+use Rattle.csdf_core.specs.Planned.{with_capacity, is_source_kernel, plan_for, IsPlanned}
+use Rattle.csdf_core.proofs.PlanLemmas.{length-capacities}
 
 -- each channel beside its capacity, which has room for the initial tokens, and the capacities add up to more than these
 module _ (n : ℕ) (actors : List graph.Actor) (e : n ≡ length actors) where
@@ -94,7 +94,7 @@ playable_setup a limits supplies firings h counted few =
 
 pub laid_out : (a : Accepted) (limits supplies : List ℕ) (firings : Option ℕ) → IsAccepted a
     → length limits ≡ length a.graph.actors → length supplies ≡ length a.graph.actors → All (λ n. n ≤ 16384000) limits
-    → IsLaidOut a.graph a.capacities limits supplies firings (cells_of a)
+    → IsPlanned a.graph a.capacities limits supplies firings (cells_of a)
 laid_out a limits supplies firings h limited supplied few = record {
   well_formed = h.well_formed;
   roomy = h.least.completes.each_channel;

@@ -8,7 +8,7 @@ use Rattle.csdf_core.specs.declared.stage.Stage.TheVariants.{Idle}
 use Rattle.csdf_core.specs.Moves.{Move}
 use Rattle.csdf_core.specs.Moves.{Begin, Read, Write, Finish}
 use Rattle.csdf_core.specs.Plan.{Plan, HasAmpleCells}
-use Rattle.csdf_core.specs.Layout.{plan_for}
+use Rattle.csdf_core.specs.Planned.{plan_for}
 use Rattle.csdf_core.specs.Rows.{gift}
 use Rattle.csdf_core.specs.State.{State, Present, present, opening}
 use Rattle.csdf_core.specs.Step.{Reply, count, stage, given, is_source, refused, replies_of, state_after}

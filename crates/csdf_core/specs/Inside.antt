@@ -13,10 +13,10 @@ now_in c = record { counts = c.counts.items; stages = c.stages.items; opens = c.
 
 -- what contracts see
 abbrev pub view_in : Inside → View
-view_in c = record { plan = c.layout; now = now_in c; peaks = c.peaks.items; pool = c.pool }
+view_in c = record { plan = c.plan; now = now_in c; peaks = c.peaks.items; pool = c.pool }
 
 -- what every core keeps
 pub record IsKept (c : Inside) : Type 0 where
-  pub sound : IsSound c.layout (now_in c) c.peaks.items c.sums.items c.started c.reserved c.pool
-  pub amounts : AreAmounts c.layout c.counts.items c.needs.items c.gifts.items
-  pub phases : AreInPhase c.layout c.counts.items c.phases.items
+  pub sound : IsSound c.plan (now_in c) c.peaks.items c.sums.items c.started c.reserved c.pool
+  pub amounts : AreAmounts c.plan c.counts.items c.needs.items c.gifts.items
+  pub phases : AreInPhase c.plan c.counts.items c.phases.items

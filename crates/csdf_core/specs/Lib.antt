@@ -13,7 +13,7 @@ pub mod Headline
 pub mod Ports
 pub mod Transfers
 pub mod Playable
-pub mod Layout
+pub mod Planned
 pub mod Amounts
 pub mod Phases
 pub mod Sound

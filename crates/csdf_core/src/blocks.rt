@@ -10,7 +10,7 @@ ghost use Rattle.csdf_core.specs.Ports.{inputs_at, outputs_at, take_at, give_at,
 use crate::firing_core::Core;
 use crate::first_refusal::is_at;
 use crate::gathering::gather;
-use crate::layout::Layout;
+use crate::plan::Plan;
 use crate::readiness::first_closed;
 use crate::several::{fire_each, has_no_loop, have_room_each, hold_each};
 use crate::stage::Stage;
@@ -28,53 +28,53 @@ pub(crate) struct Ahead {
 }
 
 /// How many tokens n firings take in all, from this one on.
-fn taken_in_all(layout: &Layout, actor: u32, turn: Turn, n: u32) -> u64
-    requires actor { actor < length layout.now.sources }
+fn taken_in_all(plan: &Plan, actor: u32, turn: Turn, n: u32) -> u64
+    requires actor { actor < length plan.now.sources }
     requires few { turn.firing + n ≤ MAX_FIRINGS_PER_ACTOR }
-    ensures { result ≡ needs_of layout.now.channels actor turn.firing n }
+    ensures { result ≡ needs_of plan.now.channels actor turn.firing n }
 {
-    let inputs = layout.inputs(actor);
+    let inputs = plan.inputs(actor);
     let mut sum = 0;
     for channel in inputs {
-        sum += layout.taken(*channel, turn.firing, n);
+        sum += plan.taken(*channel, turn.firing, n);
     }
     sum
 }
 
 /// How many tokens n firings give in all, from this one on.
-fn given_in_all(layout: &Layout, actor: u32, turn: Turn, n: u32) -> u64
-    requires actor { actor < length layout.now.sources }
+fn given_in_all(plan: &Plan, actor: u32, turn: Turn, n: u32) -> u64
+    requires actor { actor < length plan.now.sources }
     requires few { turn.firing + n ≤ MAX_FIRINGS_PER_ACTOR }
-    ensures value { result ≡ gifts_of layout.now.channels actor turn.firing n }
+    ensures value { result ≡ gifts_of plan.now.channels actor turn.firing n }
     ensures small { result ≤ 8192 * n }
 {
-    layout.gives_few();
-    let outputs = layout.outputs(actor);
+    plan.gives_few();
+    let outputs = plan.outputs(actor);
     let mut sum = 0;
     for channel in outputs {
-        sum += layout.given(*channel, turn.firing, n);
+        sum += plan.given(*channel, turn.firing, n);
     }
     sum
 }
 
 /// What n firings move, from this one on.
 #[inline(always)]
-pub(crate) fn look_ahead(layout: &Layout, actor: u32, turn: Turn, n: u32) -> Ahead
-    requires actor { actor < length layout.now.sources }
-    requires in_phase { IsInPhase layout.now.channels actor turn.firing turn.phase }
+pub(crate) fn look_ahead(plan: &Plan, actor: u32, turn: Turn, n: u32) -> Ahead
+    requires actor { actor < length plan.now.sources }
+    requires in_phase { IsInPhase plan.now.channels actor turn.firing turn.phase }
     requires low { turn.phase < MAX_PHASES }
     requires few { turn.firing + n ≤ MAX_FIRINGS_PER_ACTOR }
     ensures firing { result.next.firing ≡ turn.firing + n }
-    ensures in_phase { IsInPhase layout.now.channels actor result.next.firing result.next.phase }
+    ensures in_phase { IsInPhase plan.now.channels actor result.next.firing result.next.phase }
     ensures low { result.next.phase < MAX_PHASES }
-    ensures needed { result.needed ≡ needs_of layout.now.channels actor turn.firing n }
-    ensures given { result.given ≡ gifts_of layout.now.channels actor turn.firing n }
+    ensures needed { result.needed ≡ needs_of plan.now.channels actor turn.firing n }
+    ensures given { result.given ≡ gifts_of plan.now.channels actor turn.firing n }
     ensures small { result.given ≤ 8192 * n }
 {
     Ahead {
-        next: turn_ahead(layout, actor, turn, n),
-        needed: taken_in_all(layout, actor, turn, n),
-        given: given_in_all(layout, actor, turn, n),
+        next: turn_ahead(plan, actor, turn, n),
+        needed: taken_in_all(plan, actor, turn, n),
+        given: given_in_all(plan, actor, turn, n),
     }
 }
 
@@ -111,100 +111,100 @@ pub(crate) fn times(tokens: u64, each: u64, most: u32) -> u32
 }
 
 /// How many firings at most find their tokens, where each takes as many as this one.
-fn held_times(layout: &Layout, pool: &Pool, actor: u32, turn: Turn, most: u32) -> u32
-    requires actor { actor < length layout.now.sources }
-    requires same { length pool.now.chains ≡ length layout.now.channels }
-    requires in_phase { IsInPhase layout.now.channels actor turn.firing turn.phase }
+fn held_times(plan: &Plan, pool: &Pool, actor: u32, turn: Turn, most: u32) -> u32
+    requires actor { actor < length plan.now.sources }
+    requires same { length pool.now.chains ≡ length plan.now.channels }
+    requires in_phase { IsInPhase plan.now.channels actor turn.firing turn.phase }
     ensures most { result ≤ most }
     ensures greatest { (n : ℕ) → n ≤ most
-        → HoldAll (tokens_in pool.now) (λ c. n * take_at layout.now.channels turn.firing c) (inputs_at layout.now.channels actor) → n ≤ result }
+        → HoldAll (tokens_in pool.now) (λ c. n * take_at plan.now.channels turn.firing c) (inputs_at plan.now.channels actor) → n ≤ result }
 {
-    let inputs = layout.inputs(actor);
+    let inputs = plan.inputs(actor);
     let mut n = most;
     for channel in inputs {
-        let each = u64::from(layout.takes(*channel, turn));
+        let each = u64::from(plan.takes(*channel, turn));
         n = times(u64::from(pool.len(*channel)), each, n);
     }
     n
 }
 
 /// How many firings at most find room, where each gives as many tokens as this one.
-fn room_times(layout: &Layout, pool: &Pool, actor: u32, turn: Turn, most: u32) -> u32
-    requires actor { actor < length layout.now.sources }
-    requires same { length pool.now.chains ≡ length layout.now.channels }
-    requires in_phase { IsInPhase layout.now.channels actor turn.firing turn.phase }
+fn room_times(plan: &Plan, pool: &Pool, actor: u32, turn: Turn, most: u32) -> u32
+    requires actor { actor < length plan.now.sources }
+    requires same { length pool.now.chains ≡ length plan.now.channels }
+    requires in_phase { IsInPhase plan.now.channels actor turn.firing turn.phase }
     ensures most { result ≤ most }
     ensures greatest { (n : ℕ) → n ≤ most
-        → HaveRoomFor layout.now.channels (tokens_in pool.now) (λ c. n * give_at layout.now.channels turn.firing c)
-        (outputs_at layout.now.channels actor) → n ≤ result }
+        → HaveRoomFor plan.now.channels (tokens_in pool.now) (λ c. n * give_at plan.now.channels turn.firing c)
+        (outputs_at plan.now.channels actor) → n ≤ result }
 {
-    let outputs = layout.outputs(actor);
+    let outputs = plan.outputs(actor);
     let mut n = most;
     for channel in outputs {
-        let room = layout.capacity(*channel).saturating_sub(pool.len(*channel));
-        let each = u64::from(layout.gives(*channel, turn));
+        let room = plan.capacity(*channel).saturating_sub(pool.len(*channel));
+        let each = u64::from(plan.gives(*channel, turn));
         n = times(u64::from(room), each, n);
     }
     n
 }
 
 /// How many times over the actor's inputs hold what a round of so many firings takes of each.
-fn held_rounds(layout: &Layout, pool: &Pool, actor: u32, firing: u32, round: u32, most: u32) -> u32
-    requires actor { actor < length layout.now.sources }
-    requires same { length pool.now.chains ≡ length layout.now.channels }
+fn held_rounds(plan: &Plan, pool: &Pool, actor: u32, firing: u32, round: u32, most: u32) -> u32
+    requires actor { actor < length plan.now.sources }
+    requires same { length pool.now.chains ≡ length plan.now.channels }
     requires few { firing + round ≤ MAX_FIRINGS_PER_ACTOR }
     ensures most { result ≤ most }
 {
-    let inputs = layout.inputs(actor);
+    let inputs = plan.inputs(actor);
     let mut rounds = most;
     for channel in inputs {
-        let each = layout.taken(*channel, firing, round);
+        let each = plan.taken(*channel, firing, round);
         rounds = times(u64::from(pool.len(*channel)), each, rounds);
     }
     rounds
 }
 
 /// How many times over the actor's outputs have room for what a round of so many firings gives to each.
-fn room_rounds(layout: &Layout, pool: &Pool, actor: u32, firing: u32, round: u32, most: u32) -> u32
-    requires actor { actor < length layout.now.sources }
-    requires same { length pool.now.chains ≡ length layout.now.channels }
+fn room_rounds(plan: &Plan, pool: &Pool, actor: u32, firing: u32, round: u32, most: u32) -> u32
+    requires actor { actor < length plan.now.sources }
+    requires same { length pool.now.chains ≡ length plan.now.channels }
     requires few { firing + round ≤ MAX_FIRINGS_PER_ACTOR }
     ensures most { result ≤ most }
 {
-    let outputs = layout.outputs(actor);
+    let outputs = plan.outputs(actor);
     let mut rounds = most;
     for channel in outputs {
-        let room = layout.capacity(*channel).saturating_sub(pool.len(*channel));
-        let each = layout.given(*channel, firing, round);
+        let room = plan.capacity(*channel).saturating_sub(pool.len(*channel));
+        let each = plan.given(*channel, firing, round);
         rounds = times(u64::from(room), each, rounds);
     }
     rounds
 }
 
 /// Whether the actor has at most one input and at most one output.
-fn is_plain(layout: &Layout, actor: u32) -> bool
-    requires { actor < length layout.now.sources }
-    ensures { IsTrue result ↔ IsPlain layout.now.channels actor }
+fn is_plain(plan: &Plan, actor: u32) -> bool
+    requires { actor < length plan.now.sources }
+    ensures { IsTrue result ↔ IsPlain plan.now.channels actor }
 {
-    if layout.inputs(actor).len() > 1 {
+    if plan.inputs(actor).len() > 1 {
         return false;
     }
-    if layout.outputs(actor).len() > 1 {
+    if plan.outputs(actor).len() > 1 {
         return false;
     }
     true
 }
 
 /// Takes so many tokens out of the actor's input, where it has one.
-fn take_block(layout: &Layout, pool: &mut Pool, actor: u32, n: u64)
-    requires actor { actor < length layout.now.sources }
-    requires same { length pool.old.chains ≡ length layout.now.channels }
-    requires enough { HoldAll (tokens_in pool.old) (λ _. n) (inputs_at layout.now.channels actor) }
-    ensures cells { pool.new ≡ takes_in (inputs_at layout.now.channels actor) n pool.old }
+fn take_block(plan: &Plan, pool: &mut Pool, actor: u32, n: u64)
+    requires actor { actor < length plan.now.sources }
+    requires same { length pool.old.chains ≡ length plan.now.channels }
+    requires enough { HoldAll (tokens_in pool.old) (λ _. n) (inputs_at plan.now.channels actor) }
+    ensures cells { pool.new ≡ takes_in (inputs_at plan.now.channels actor) n pool.old }
     ensures same { length pool.new.chains ≡ length pool.old.chains }
     ensures free { length pool.old.free ≤ length pool.new.free }
 {
-    let inputs = layout.inputs(actor);
+    let inputs = plan.inputs(actor);
     if inputs.is_empty() {
         return;
     }
@@ -214,14 +214,14 @@ fn take_block(layout: &Layout, pool: &mut Pool, actor: u32, n: u64)
 }
 
 /// Copies the oldest tokens of the actor's input, where it has one, as many as the slice is long.
-fn copy_block(layout: &Layout, pool: &Pool, actor: u32, into: &mut [i32])
-    requires actor { actor < length layout.now.sources }
-    requires same { length pool.now.chains ≡ length layout.now.channels }
-    requires enough { HoldAll (tokens_in pool.now) (λ _. length into.old) (inputs_at layout.now.channels actor) }
-    requires none { length (inputs_at layout.now.channels actor) ≡ 0 → length into.old ≡ 0 }
-    ensures { into.new ≡ from_front (inputs_at layout.now.channels actor) (length into.old) (tokens_in pool.now) }
+fn copy_block(plan: &Plan, pool: &Pool, actor: u32, into: &mut [i32])
+    requires actor { actor < length plan.now.sources }
+    requires same { length pool.now.chains ≡ length plan.now.channels }
+    requires enough { HoldAll (tokens_in pool.now) (λ _. length into.old) (inputs_at plan.now.channels actor) }
+    requires none { length (inputs_at plan.now.channels actor) ≡ 0 → length into.old ≡ 0 }
+    ensures { into.new ≡ from_front (inputs_at plan.now.channels actor) (length into.old) (tokens_in pool.now) }
 {
-    let inputs = layout.inputs(actor);
+    let inputs = plan.inputs(actor);
     if inputs.is_empty() {
         return;
     }
@@ -230,32 +230,32 @@ fn copy_block(layout: &Layout, pool: &Pool, actor: u32, into: &mut [i32])
 }
 
 /// Copies what n firings of the actor read, one firing's after another's.
-fn copy_reads(layout: &Layout, pool: &Pool, actor: u32, turn: Turn, n: u32, into: &mut [i32])
-    requires actor { actor < length layout.now.sources }
-    requires same { length pool.now.chains ≡ length layout.now.channels }
-    requires in_phase { IsInPhase layout.now.channels actor turn.firing turn.phase }
+fn copy_reads(plan: &Plan, pool: &Pool, actor: u32, turn: Turn, n: u32, into: &mut [i32])
+    requires actor { actor < length plan.now.sources }
+    requires same { length pool.now.chains ≡ length plan.now.channels }
+    requires in_phase { IsInPhase plan.now.channels actor turn.firing turn.phase }
     requires low { turn.phase < MAX_PHASES }
     requires few { turn.firing + n ≤ MAX_FIRINGS_PER_ACTOR }
-    requires enough { HoldAll (tokens_in pool.now) (takes_at layout.now.channels turn.firing n) (inputs_at layout.now.channels actor) }
-    requires all { length into.old ≡ needs_of layout.now.channels actor turn.firing n }
-    ensures { into.new ≡ reads_over layout.now.channels (inputs_at layout.now.channels actor) turn.firing n (tokens_at (tokens_in pool.now)) }
+    requires enough { HoldAll (tokens_in pool.now) (takes_at plan.now.channels turn.firing n) (inputs_at plan.now.channels actor) }
+    requires all { length into.old ≡ needs_of plan.now.channels actor turn.firing n }
+    ensures { into.new ≡ reads_over plan.now.channels (inputs_at plan.now.channels actor) turn.firing n (tokens_at (tokens_in pool.now)) }
 {
-    if layout.inputs(actor).len() > 1 {
-        gather(layout, pool, actor, turn, n, into);
+    if plan.inputs(actor).len() > 1 {
+        gather(plan, pool, actor, turn, n, into);
         return;
     }
-    copy_block(layout, pool, actor, into);
+    copy_block(plan, pool, actor, into);
 }
 
 /// Puts the tokens into the actor's output, where it has one.
-fn put_block(layout: &Layout, pool: &mut Pool, actor: u32, tokens: &[i32])
-    requires actor { actor < length layout.now.sources }
-    requires same { length pool.old.chains ≡ length layout.now.channels }
+fn put_block(plan: &Plan, pool: &mut Pool, actor: u32, tokens: &[i32])
+    requires actor { actor < length plan.now.sources }
+    requires same { length pool.old.chains ≡ length plan.now.channels }
     requires room { length tokens.now ≤ length pool.old.free }
-    ensures cells { pool.new ≡ puts_in (outputs_at layout.now.channels actor) pool.old tokens.now }
+    ensures cells { pool.new ≡ puts_in (outputs_at plan.now.channels actor) pool.old tokens.now }
     ensures same { length pool.new.chains ≡ length pool.old.chains }
 {
-    let outputs = layout.outputs(actor);
+    let outputs = plan.outputs(actor);
     if outputs.is_empty() {
         return;
     }
@@ -265,32 +265,32 @@ fn put_block(layout: &Layout, pool: &mut Pool, actor: u32, tokens: &[i32])
 /// Moves the tokens of n firings of a plain actor: they go out of its input, so many, and these into
 /// its output, each in one piece.
 fn move_in_one(
-    layout: &Layout,
+    plan: &Plan,
     pool: &mut Pool,
     peaks: &mut [u32],
     actor: u32,
     needed: u64,
     tokens: &[i32],
 )
-    requires actor { actor < length layout.now.sources }
-    requires same { length pool.old.chains ≡ length layout.now.channels }
-    requires peaked { length peaks.old ≡ length layout.now.channels }
-    requires enough { HoldAll (tokens_in pool.old) (λ _. needed) (inputs_at layout.now.channels actor) }
+    requires actor { actor < length plan.now.sources }
+    requires same { length pool.old.chains ≡ length plan.now.channels }
+    requires peaked { length peaks.old ≡ length plan.now.channels }
+    requires enough { HoldAll (tokens_in pool.old) (λ _. needed) (inputs_at plan.now.channels actor) }
     requires room { length tokens.now ≤ length pool.old.free }
-    ensures cells { pool.new ≡ puts_in (outputs_at layout.now.channels actor) (takes_in (inputs_at layout.now.channels actor) needed pool.old) tokens.now }
-    ensures peaks { peaks.new ≡ raise_over (outputs_at layout.now.channels actor) (tokens_in pool.new) peaks.old }
+    ensures cells { pool.new ≡ puts_in (outputs_at plan.now.channels actor) (takes_in (inputs_at plan.now.channels actor) needed pool.old) tokens.now }
+    ensures peaks { peaks.new ≡ raise_over (outputs_at plan.now.channels actor) (tokens_in pool.new) peaks.old }
     ensures same { length pool.new.chains ≡ length pool.old.chains }
     ensures peaked { length peaks.new ≡ length peaks.old }
 {
-    take_block(layout, pool, actor, needed);
-    put_block(layout, pool, actor, tokens);
-    raise_peaks(layout, pool, peaks, actor);
+    take_block(plan, pool, actor, needed);
+    put_block(plan, pool, actor, tokens);
+    raise_peaks(plan, pool, peaks, actor);
 }
 
 /// Moves the tokens of n firings, which take so many in all and give these: of a plain actor in one
 /// piece, of any other firing by firing.
 fn move_tokens(
-    layout: &Layout,
+    plan: &Plan,
     pool: &mut Pool,
     peaks: &mut [u32],
     actor: u32,
@@ -299,30 +299,30 @@ fn move_tokens(
     needed: u64,
     tokens: &[i32],
 )
-    requires actor { actor < length layout.now.sources }
-    requires in_phase { IsInPhase layout.now.channels actor turn.firing turn.phase }
+    requires actor { actor < length plan.now.sources }
+    requires in_phase { IsInPhase plan.now.channels actor turn.firing turn.phase }
     requires low { turn.phase < MAX_PHASES }
     requires few { turn.firing + n ≤ MAX_FIRINGS_PER_ACTOR }
-    requires same { length pool.old.chains ≡ length layout.now.channels }
-    requires peaked { length peaks.old ≡ length layout.now.channels }
-    requires tokens { IsPlain layout.now.channels actor → HoldAll (tokens_in pool.old) (λ _. needed) (inputs_at layout.now.channels actor) }
+    requires same { length pool.old.chains ≡ length plan.now.channels }
+    requires peaked { length peaks.old ≡ length plan.now.channels }
+    requires tokens { IsPlain plan.now.channels actor → HoldAll (tokens_in pool.old) (λ _. needed) (inputs_at plan.now.channels actor) }
     requires room { length tokens.now ≤ length pool.old.free }
-    requires enough { Suffices layout.now actor turn.firing n pool.old tokens.now }
-    requires all { length tokens.now ≡ gifts_of layout.now.channels actor turn.firing n }
+    requires enough { Suffices plan.now actor turn.firing n pool.old tokens.now }
+    requires all { length tokens.now ≡ gifts_of plan.now.channels actor turn.firing n }
     requires partition { IsPartition pool.old }
-    ensures plain_cells { IsPlain layout.now.channels actor
-        → pool.new ≡ puts_in (outputs_at layout.now.channels actor) (takes_in (inputs_at layout.now.channels actor) needed pool.old) tokens.now }
-    ensures plain_peaks { IsPlain layout.now.channels actor → peaks.new ≡ raise_over (outputs_at layout.now.channels actor) (tokens_in pool.new) peaks.old }
-    ensures cells { (IsPlain layout.now.channels actor → ⊥) → pool.new ≡ pool_after layout.now actor turn.firing n pool.old tokens.now }
-    ensures peaks { (IsPlain layout.now.channels actor → ⊥) → peaks.new ≡ peaks_after layout.now actor turn.firing n pool.old tokens.now peaks.old }
+    ensures plain_cells { IsPlain plan.now.channels actor
+        → pool.new ≡ puts_in (outputs_at plan.now.channels actor) (takes_in (inputs_at plan.now.channels actor) needed pool.old) tokens.now }
+    ensures plain_peaks { IsPlain plan.now.channels actor → peaks.new ≡ raise_over (outputs_at plan.now.channels actor) (tokens_in pool.new) peaks.old }
+    ensures cells { (IsPlain plan.now.channels actor → ⊥) → pool.new ≡ pool_after plan.now actor turn.firing n pool.old tokens.now }
+    ensures peaks { (IsPlain plan.now.channels actor → ⊥) → peaks.new ≡ peaks_after plan.now actor turn.firing n pool.old tokens.now peaks.old }
     ensures same { length pool.new.chains ≡ length pool.old.chains }
     ensures peaked { length peaks.new ≡ length peaks.old }
 {
-    if is_plain(layout, actor) {
-        move_in_one(layout, pool, peaks, actor, needed, tokens);
+    if is_plain(plan, actor) {
+        move_in_one(plan, pool, peaks, actor, needed, tokens);
         return;
     }
-    fire_each(layout, pool, peaks, actor, turn, n, tokens);
+    fire_each(plan, pool, peaks, actor, turn, n, tokens);
 }
 
 impl Core {
@@ -340,8 +340,8 @@ impl Core {
         ensures { IsTrue result ↔ (is_source self.now.plan actor ≡ true
             → given self.now.plan actor (count self.now.now actor) + more ≤ slice_index self.now.plan.supplies actor) }
     {
-        if self.layout.is_source(actor)
-            && self.written(actor) + more > u64::from(self.layout.supply(actor))
+        if self.plan.is_source(actor)
+            && self.written(actor) + more > u64::from(self.plan.supply(actor))
         {
             return false;
         }
@@ -352,7 +352,7 @@ impl Core {
     pub(crate) fn may_begin(&self, n: u32) -> bool
         ensures { IsTrue result ↔ IfSome self.now.plan.firings (λ most. begun_count self.now.now + n ≤ most) }
     {
-        match self.layout.firings() {
+        match self.plan.firings() {
             Some(most) => self.started + u64::from(n) <= u64::from(most),
             None => true,
         }
@@ -363,7 +363,7 @@ impl Core {
         requires { given ≤ 8192 * MAX_FIRINGS_PER_ACTOR }
         ensures { IsTrue result ↔ held self.now.now + reserved self.now.plan self.now.now + given ≤ self.now.plan.cells }
     {
-        if self.used() + given > u64::from(self.layout.cells()) {
+        if self.used() + given > u64::from(self.plan.cells()) {
             return false;
         }
         true
@@ -378,7 +378,7 @@ impl Core {
         if actor as usize >= self.counts.len() {
             return false;
         }
-        if !has_no_loop(&self.layout, actor) || !is_at(self.stage(actor), Stage::Idle) {
+        if !has_no_loop(&self.plan, actor) || !is_at(self.stage(actor), Stage::Idle) {
             return false;
         }
         self.finds_all(actor, n)
@@ -392,9 +392,9 @@ impl Core {
         ensures greatest { (n : ℕ) → n ≤ most → count self.now.now actor + n ≤ slice_index self.now.plan.limits actor
             → IfSome self.now.plan.firings (λ all. begun_count self.now.now + n ≤ all) → n ≤ result }
     {
-        let left = self.layout.limit(actor).saturating_sub(self.fired(actor));
+        let left = self.plan.limit(actor).saturating_sub(self.fired(actor));
         let n = most.min(left);
-        match self.layout.firings() {
+        match self.plan.firings() {
             Some(firings) => times(u64::from(firings).saturating_sub(self.started), 1, n),
             None => n,
         }
@@ -407,10 +407,10 @@ impl Core {
         ensures greatest { (n : ℕ) → n ≤ most → (is_source self.now.plan actor ≡ true
             → given self.now.plan actor (count self.now.now actor) + n * gift ≤ slice_index self.now.plan.supplies actor) → n ≤ result }
     {
-        if !self.layout.is_source(actor) {
+        if !self.plan.is_source(actor) {
             return most;
         }
-        let left = u64::from(self.layout.supply(actor)).saturating_sub(self.written(actor));
+        let left = u64::from(self.plan.supply(actor)).saturating_sub(self.written(actor));
         times(left, gift, most)
     }
 
@@ -420,7 +420,7 @@ impl Core {
         ensures greatest { (n : ℕ) → n ≤ most → held self.now.now + reserved self.now.plan self.now.now + n * gift ≤ self.now.plan.cells
             → n ≤ result }
     {
-        let free = u64::from(self.layout.cells()).saturating_sub(self.used());
+        let free = u64::from(self.plan.cells()).saturating_sub(self.used());
         times(free, gift, most)
     }
 
@@ -435,8 +435,8 @@ impl Core {
         let gift = self.gives(actor) as u64;
         let turn = self.turn(actor);
         let limited = self.limited(actor, most);
-        let held = held_times(&self.layout, &self.pool, actor, turn, limited);
-        let roomy = room_times(&self.layout, &self.pool, actor, turn, held);
+        let held = held_times(&self.plan, &self.pool, actor, turn, limited);
+        let roomy = room_times(&self.plan, &self.pool, actor, turn, held);
         let supplied = self.supplied(actor, gift, roomy);
         self.celled(gift, supplied)
     }
@@ -447,16 +447,16 @@ impl Core {
         requires { actor < length self.now.plan.sources }
         ensures { result ≤ most }
     {
-        let phases = self.layout.phases(actor);
+        let phases = self.plan.phases(actor);
         let limited = self.limited(actor, most);
         if limited < phases {
             return limited;
         }
         let turn = self.turn(actor);
-        let given = given_in_all(&self.layout, actor, turn, phases);
+        let given = given_in_all(&self.plan, actor, turn, phases);
         let rounds = limited / phases;
-        let held = held_rounds(&self.layout, &self.pool, actor, turn.firing, phases, rounds);
-        let roomy = room_rounds(&self.layout, &self.pool, actor, turn.firing, phases, held);
+        let held = held_rounds(&self.plan, &self.pool, actor, turn.firing, phases, rounds);
+        let roomy = room_rounds(&self.plan, &self.pool, actor, turn.firing, phases, held);
         let supplied = self.supplied(actor, given, roomy);
         phases * self.celled(given, supplied)
     }
@@ -469,8 +469,8 @@ impl Core {
         ensures given { result.given ≡ gifts_of self.now.plan.channels actor (count self.now.now actor) n }
     {
         let turn = self.turn(actor);
-        let _limit = self.layout.limit(actor);
-        let ahead = look_ahead(&self.layout, actor, turn, n);
+        let _limit = self.plan.limit(actor);
+        let ahead = look_ahead(&self.plan, actor, turn, n);
         Block {
             firings: n,
             needed: ahead.needed,
@@ -486,7 +486,7 @@ impl Core {
             → held self.now.now + reserved self.now.plan self.now.now + gift actor (count self.now.now actor) self.now.plan.channels ≤ self.now.plan.cells
             → CanFire self.now.plan self.now.now actor 1 }
     {
-        let _layout = &self.layout;
+        let _plan = &self.plan;
     }
 
     /// The span after a look at whether n firings can be made.
@@ -520,7 +520,7 @@ impl Core {
         requires can { CanFire self.now.plan self.now.now actor 1 }
         ensures { IsBetween self.now.plan self.now.now actor most result result }
     {
-        let phases = self.layout.phases(actor);
+        let phases = self.plan.phases(actor);
         let guess = self.guess_by_rounds(actor, most);
         let whole = Span { low: 1, high: most };
         let below = self.narrowed(actor, most, whole, guess);
@@ -617,7 +617,7 @@ impl Core {
         ensures gives { (c : ℕ) → c < length self.now.plan.channels → from_at self.now.plan.channels c ≡ actor
             → length (produce_at self.now.plan.channels c) ≡ 1 → IsTrue result }
     {
-        self.layout.phases(actor) == 1
+        self.plan.phases(actor) == 1
     }
 
     /// The tests that move on with n.
@@ -628,19 +628,19 @@ impl Core {
         ensures { IsTrue result ↔ CanFire self.now.plan self.now.now actor n }
     {
         let turn = self.turn(actor);
-        if u64::from(turn.firing) + u64::from(n) > u64::from(self.layout.limit(actor)) {
+        if u64::from(turn.firing) + u64::from(n) > u64::from(self.plan.limit(actor)) {
             return false;
         }
-        if first_closed(&self.layout, &self.opens, actor).is_some() {
+        if first_closed(&self.plan, &self.opens, actor).is_some() {
             return false;
         }
-        if !hold_each(&self.layout, &self.pool, actor, turn, n) {
+        if !hold_each(&self.plan, &self.pool, actor, turn, n) {
             return false;
         }
-        if !have_room_each(&self.layout, &self.pool, actor, turn, n) {
+        if !have_room_each(&self.plan, &self.pool, actor, turn, n) {
             return false;
         }
-        let given = given_in_all(&self.layout, actor, turn, n);
+        let given = given_in_all(&self.plan, actor, turn, n);
         if !self.has_supply(actor, given) {
             return false;
         }
@@ -661,10 +661,10 @@ impl Core {
         ensures all { AreRead self.now.plan self.now.now actor (count self.now.now actor) n into.new }
         ensures each { AreReadEach self.now.plan self.now.now actor (count self.now.now actor) n into.new }
     {
-        self.layout.gives_few();
+        self.plan.gives_few();
         let turn = self.turn(actor);
-        let _limit = self.layout.limit(actor);
-        copy_reads(&self.layout, &self.pool, actor, turn, n, into);
+        let _limit = self.plan.limit(actor);
+        copy_reads(&self.plan, &self.pool, actor, turn, n, into);
     }
 
     /// Makes the actor's next n firings, which write these tokens, one firing's after another's:
@@ -679,13 +679,13 @@ impl Core {
         ensures cells { self.new.pool ≡ pool_after self.old.plan actor (count self.old.now actor) n self.old.pool tokens.now }
     {
         let turn = self.turn(actor);
-        self.layout.gives_few();
-        let ahead = look_ahead(&self.layout, actor, turn, n);
-        let needed = need_of(&self.layout, actor, ahead.next);
-        let given = gift_of(&self.layout, actor, ahead.next);
-        let layout = &self.layout;
+        self.plan.gives_few();
+        let ahead = look_ahead(&self.plan, actor, turn, n);
+        let needed = need_of(&self.plan, actor, ahead.next);
+        let given = gift_of(&self.plan, actor, ahead.next);
+        let plan = &self.plan;
         move_tokens(
-            layout,
+            plan,
             &mut self.pool,
             &mut self.peaks,
             actor,

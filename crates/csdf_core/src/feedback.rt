@@ -21,7 +21,7 @@ use crate::blocks::{look_ahead, times};
 use crate::firing_core::Core;
 use crate::first_refusal::is_at;
 use crate::going::put_lasting;
-use crate::layout::Layout;
+use crate::plan::Plan;
 use crate::readiness::first_closed;
 use crate::several::drop_tokens;
 use crate::stage::Stage;
@@ -49,13 +49,13 @@ pub struct Feedback {
 }
 
 /// The first channel from the actor to itself.
-fn first_loop(layout: &Layout, actor: u32) -> Option<u32>
-    requires { actor < length layout.now.sources }
-    ensures { IfSome result (λ c. (c < length layout.now.channels) × (from_at layout.now.channels c ≡ actor) × (to_at layout.now.channels c ≡ actor)) }
+fn first_loop(plan: &Plan, actor: u32) -> Option<u32>
+    requires { actor < length plan.now.sources }
+    ensures { IfSome result (λ c. (c < length plan.now.channels) × (from_at plan.now.channels c ≡ actor) × (to_at plan.now.channels c ≡ actor)) }
 {
-    let inputs = layout.inputs(actor);
+    let inputs = plan.inputs(actor);
     for channel in inputs {
-        if layout.producer(*channel) == actor {
+        if plan.producer(*channel) == actor {
             return Some(*channel);
         }
     }
@@ -63,13 +63,13 @@ fn first_loop(layout: &Layout, actor: u32) -> Option<u32>
 }
 
 /// Whether no other channel goes from the actor to itself.
-fn is_only_loop(layout: &Layout, actor: u32, own: u32) -> bool
-    requires { actor < length layout.now.sources }
-    ensures { IsTrue result → AllByRecursion (λ c. c ≢ own → from_at layout.now.channels c ≢ actor) (inputs_at layout.now.channels actor) }
+fn is_only_loop(plan: &Plan, actor: u32, own: u32) -> bool
+    requires { actor < length plan.now.sources }
+    ensures { IsTrue result → AllByRecursion (λ c. c ≢ own → from_at plan.now.channels c ≢ actor) (inputs_at plan.now.channels actor) }
 {
-    let inputs = layout.inputs(actor);
+    let inputs = plan.inputs(actor);
     for channel in inputs {
-        if *channel != own && layout.producer(*channel) == actor {
+        if *channel != own && plan.producer(*channel) == actor {
             return false;
         }
     }
@@ -78,12 +78,12 @@ fn is_only_loop(layout: &Layout, actor: u32, own: u32) -> bool
 
 /// The inputs of an actor of which one is this channel: the other one, and whether this one comes first. `None`
 /// where it has more.
-fn order_of(layout: &Layout, actor: u32, own: u32) -> Option<(Option<u32>, bool)>
-    requires { actor < length layout.now.sources }
-    ensures order { IfSome result (λ r. inputs_at layout.now.channels actor ≡ in_order r.1 own (others_of r.0)) }
+fn order_of(plan: &Plan, actor: u32, own: u32) -> Option<(Option<u32>, bool)>
+    requires { actor < length plan.now.sources }
+    ensures order { IfSome result (λ r. inputs_at plan.now.channels actor ≡ in_order r.1 own (others_of r.0)) }
     ensures apart { IfSome result (λ r. IfSome r.0 (λ c. c ≢ own)) }
 {
-    match layout.inputs(actor) {
+    match plan.inputs(actor) {
         [only] if *only == own => Some((None, true)),
         [first, last] if *first == own && *last != own => Some((Some(*last), true)),
         [first, last] if *last == own && *first != own => Some((Some(*first), false)),
@@ -92,74 +92,74 @@ fn order_of(layout: &Layout, actor: u32, own: u32) -> Option<(Option<u32>, bool)
 }
 
 /// How many tokens a firing gives to the outputs that come before this one.
-fn given_before(layout: &Layout, actor: u32, own: u32, turn: Turn) -> u32
-    requires actor { actor < length layout.now.sources }
-    requires in_phase { IsInPhase layout.now.channels actor turn.firing turn.phase }
-    ensures value { result ≡ before_of (give_at layout.now.channels turn.firing) (outputs_at layout.now.channels actor) own }
+fn given_before(plan: &Plan, actor: u32, own: u32, turn: Turn) -> u32
+    requires actor { actor < length plan.now.sources }
+    requires in_phase { IsInPhase plan.now.channels actor turn.firing turn.phase }
+    ensures value { result ≡ before_of (give_at plan.now.channels turn.firing) (outputs_at plan.now.channels actor) own }
 {
-    let outputs = layout.outputs(actor);
+    let outputs = plan.outputs(actor);
     let mut sum = 0;
     for channel in outputs {
         if *channel == own {
             return sum;
         }
-        sum += layout.gives(*channel, turn);
+        sum += plan.gives(*channel, turn);
     }
     sum
 }
 
 /// How many tokens a firing takes of the input, where there is one.
-fn taken_of_other(layout: &Layout, actor: u32, other: Option<u32>, turn: Turn) -> u32
-    requires actor { actor < length layout.now.sources }
-    requires in_phase { IsInPhase layout.now.channels actor turn.firing turn.phase }
-    requires own { IfSome other (λ c. (c < length layout.now.channels) × (to_at layout.now.channels c ≡ actor)) }
-    ensures value { result ≡ sum_by (take_at layout.now.channels turn.firing) (others_of other) }
+fn taken_of_other(plan: &Plan, actor: u32, other: Option<u32>, turn: Turn) -> u32
+    requires actor { actor < length plan.now.sources }
+    requires in_phase { IsInPhase plan.now.channels actor turn.firing turn.phase }
+    requires own { IfSome other (λ c. (c < length plan.now.channels) × (to_at plan.now.channels c ≡ actor)) }
+    ensures value { result ≡ sum_by (take_at plan.now.channels turn.firing) (others_of other) }
 {
     match other {
-        Some(channel) => layout.takes(channel, turn),
+        Some(channel) => plan.takes(channel, turn),
         None => 0,
     }
 }
 
 /// How many tokens n firings have to find in the input: in the channel to the actor itself those of one.
-fn asked_of(layout: &Layout, actor: u32, own: u32, channel: u32, turn: Turn, n: u32) -> u64
-    requires actor { actor < length layout.now.sources }
-    requires channel { channel < length layout.now.channels }
-    requires own { to_at layout.now.channels channel ≡ actor }
-    requires in_phase { IsInPhase layout.now.channels actor turn.firing turn.phase }
+fn asked_of(plan: &Plan, actor: u32, own: u32, channel: u32, turn: Turn, n: u32) -> u64
+    requires actor { actor < length plan.now.sources }
+    requires channel { channel < length plan.now.channels }
+    requires own { to_at plan.now.channels channel ≡ actor }
+    requires in_phase { IsInPhase plan.now.channels actor turn.firing turn.phase }
     requires few { turn.firing + n ≤ MAX_FIRINGS_PER_ACTOR }
-    ensures value { result ≡ asks_at layout.now.channels own turn.firing n channel }
+    ensures value { result ≡ asks_at plan.now.channels own turn.firing n channel }
 {
     if channel == own {
-        return u64::from(layout.takes(channel, turn));
+        return u64::from(plan.takes(channel, turn));
     }
-    layout.taken(channel, turn.firing, n)
+    plan.taken(channel, turn.firing, n)
 }
 
 /// For how many tokens n firings have to find room in the output: in the channel to the actor itself for none.
-fn filled_of(layout: &Layout, own: u32, channel: u32, turn: Turn, n: u32) -> u64
-    requires channel { channel < length layout.now.channels }
+fn filled_of(plan: &Plan, own: u32, channel: u32, turn: Turn, n: u32) -> u64
+    requires channel { channel < length plan.now.channels }
     requires few { turn.firing + n ≤ MAX_FIRINGS_PER_ACTOR }
-    ensures value { result ≡ fills_at layout.now.channels own turn.firing n channel }
+    ensures value { result ≡ fills_at plan.now.channels own turn.firing n channel }
     ensures small { result ≤ MAX_TOKENS_PER_FIRING * n }
 {
     if channel == own {
         return 0;
     }
-    layout.given(channel, turn.firing, n)
+    plan.given(channel, turn.firing, n)
 }
 
 /// Whether each input of the actor holds what its next n firings have to find there.
-fn hold_asked(layout: &Layout, pool: &Pool, actor: u32, own: u32, turn: Turn, n: u32) -> bool
-    requires actor { actor < length layout.now.sources }
-    requires same { length pool.now.chains ≡ length layout.now.channels }
-    requires in_phase { IsInPhase layout.now.channels actor turn.firing turn.phase }
+fn hold_asked(plan: &Plan, pool: &Pool, actor: u32, own: u32, turn: Turn, n: u32) -> bool
+    requires actor { actor < length plan.now.sources }
+    requires same { length pool.now.chains ≡ length plan.now.channels }
+    requires in_phase { IsInPhase plan.now.channels actor turn.firing turn.phase }
     requires few { turn.firing + n ≤ MAX_FIRINGS_PER_ACTOR }
-    ensures { IsTrue result ↔ HoldAll (tokens_in pool.now) (asks_at layout.now.channels own turn.firing n) (inputs_at layout.now.channels actor) }
+    ensures { IsTrue result ↔ HoldAll (tokens_in pool.now) (asks_at plan.now.channels own turn.firing n) (inputs_at plan.now.channels actor) }
 {
-    let inputs = layout.inputs(actor);
+    let inputs = plan.inputs(actor);
     for channel in inputs {
-        let needed = asked_of(layout, actor, own, *channel, turn, n);
+        let needed = asked_of(plan, actor, own, *channel, turn, n);
         if u64::from(pool.len(*channel)) < needed {
             return false;
         }
@@ -168,17 +168,17 @@ fn hold_asked(layout: &Layout, pool: &Pool, actor: u32, own: u32, turn: Turn, n:
 }
 
 /// Whether each output of the actor has the room that its next n firings have to find there.
-fn have_asked(layout: &Layout, pool: &Pool, actor: u32, own: u32, turn: Turn, n: u32) -> bool
-    requires actor { actor < length layout.now.sources }
-    requires same { length pool.now.chains ≡ length layout.now.channels }
+fn have_asked(plan: &Plan, pool: &Pool, actor: u32, own: u32, turn: Turn, n: u32) -> bool
+    requires actor { actor < length plan.now.sources }
+    requires same { length pool.now.chains ≡ length plan.now.channels }
     requires few { turn.firing + n ≤ MAX_FIRINGS_PER_ACTOR }
-    ensures { IsTrue result ↔ HaveRoomFor layout.now.channels (tokens_in pool.now) (fills_at layout.now.channels own turn.firing n)
-        (outputs_at layout.now.channels actor) }
+    ensures { IsTrue result ↔ HaveRoomFor plan.now.channels (tokens_in pool.now) (fills_at plan.now.channels own turn.firing n)
+        (outputs_at plan.now.channels actor) }
 {
-    let outputs = layout.outputs(actor);
+    let outputs = plan.outputs(actor);
     for channel in outputs {
-        let given = filled_of(layout, own, *channel, turn, n);
-        if u64::from(pool.len(*channel)) + given > u64::from(layout.capacity(*channel)) {
+        let given = filled_of(plan, own, *channel, turn, n);
+        if u64::from(pool.len(*channel)) + given > u64::from(plan.capacity(*channel)) {
             return false;
         }
     }
@@ -186,17 +186,17 @@ fn have_asked(layout: &Layout, pool: &Pool, actor: u32, own: u32, turn: Turn, n:
 }
 
 /// How many firings at most find their tokens in the inputs that are not this channel.
-fn held_beside(layout: &Layout, pool: &Pool, actor: u32, own: u32, turn: Turn, most: u32) -> u32
-    requires actor { actor < length layout.now.sources }
-    requires same { length pool.now.chains ≡ length layout.now.channels }
-    requires in_phase { IsInPhase layout.now.channels actor turn.firing turn.phase }
+fn held_beside(plan: &Plan, pool: &Pool, actor: u32, own: u32, turn: Turn, most: u32) -> u32
+    requires actor { actor < length plan.now.sources }
+    requires same { length pool.now.chains ≡ length plan.now.channels }
+    requires in_phase { IsInPhase plan.now.channels actor turn.firing turn.phase }
     ensures { result ≤ most }
 {
-    let inputs = layout.inputs(actor);
+    let inputs = plan.inputs(actor);
     let mut n = most;
     for channel in inputs {
         if *channel != own {
-            let each = u64::from(layout.takes(*channel, turn));
+            let each = u64::from(plan.takes(*channel, turn));
             n = times(u64::from(pool.len(*channel)), each, n);
         }
     }
@@ -204,18 +204,18 @@ fn held_beside(layout: &Layout, pool: &Pool, actor: u32, own: u32, turn: Turn, m
 }
 
 /// How many firings at most find room in the outputs that are not this channel.
-fn room_beside(layout: &Layout, pool: &Pool, actor: u32, own: u32, turn: Turn, most: u32) -> u32
-    requires actor { actor < length layout.now.sources }
-    requires same { length pool.now.chains ≡ length layout.now.channels }
-    requires in_phase { IsInPhase layout.now.channels actor turn.firing turn.phase }
+fn room_beside(plan: &Plan, pool: &Pool, actor: u32, own: u32, turn: Turn, most: u32) -> u32
+    requires actor { actor < length plan.now.sources }
+    requires same { length pool.now.chains ≡ length plan.now.channels }
+    requires in_phase { IsInPhase plan.now.channels actor turn.firing turn.phase }
     ensures { result ≤ most }
 {
-    let outputs = layout.outputs(actor);
+    let outputs = plan.outputs(actor);
     let mut n = most;
     for channel in outputs {
         if *channel != own {
-            let room = layout.capacity(*channel).saturating_sub(pool.len(*channel));
-            let each = u64::from(layout.gives(*channel, turn));
+            let room = plan.capacity(*channel).saturating_sub(pool.len(*channel));
+            let each = u64::from(plan.gives(*channel, turn));
             n = times(u64::from(room), each, n);
         }
     }
@@ -235,14 +235,14 @@ fn copy_other(pool: &Pool, other: Option<u32>, into: &mut [i32])
 }
 
 /// Takes what n firings read of the input, where there is one, out of it and drops it.
-fn drop_other(layout: &Layout, pool: &mut Pool, actor: u32, other: Option<u32>, turn: Turn, n: u32)
-    requires same { length pool.old.chains ≡ length layout.now.channels }
-    requires in_phase { IsInPhase layout.now.channels actor turn.firing turn.phase }
+fn drop_other(plan: &Plan, pool: &mut Pool, actor: u32, other: Option<u32>, turn: Turn, n: u32)
+    requires same { length pool.old.chains ≡ length plan.now.channels }
+    requires in_phase { IsInPhase plan.now.channels actor turn.firing turn.phase }
     requires few { n ≤ 16_384_000 }
-    requires other { IfSome other (λ c. (c < length layout.now.channels) × (to_at layout.now.channels c ≡ actor)) }
-    requires enough { IfSome other (λ c. n * take_at layout.now.channels turn.firing c ≤ length (tokens_at (tokens_in pool.old) c)) }
+    requires other { IfSome other (λ c. (c < length plan.now.channels) × (to_at plan.now.channels c ≡ actor)) }
+    requires enough { IfSome other (λ c. n * take_at plan.now.channels turn.firing c ≤ length (tokens_at (tokens_in pool.old) c)) }
     requires partition { IsPartition pool.old }
-    ensures left { tokens_in pool.new ≡ takes_over (λ c. n * take_at layout.now.channels turn.firing c) (others_of other) (tokens_in pool.old) }
+    ensures left { tokens_in pool.new ≡ takes_over (λ c. n * take_at plan.now.channels turn.firing c) (others_of other) (tokens_in pool.old) }
     ensures free { length pool.old.free ≤ length pool.new.free }
     ensures partition { IsPartition pool.new }
     ensures size { pool.new.size ≡ pool.old.size }
@@ -250,7 +250,7 @@ fn drop_other(layout: &Layout, pool: &mut Pool, actor: u32, other: Option<u32>, 
 {
     match other {
         Some(channel) => {
-            let each = layout.takes(channel, turn);
+            let each = plan.takes(channel, turn);
             drop_tokens(pool, channel, n * each);
         }
         None => {}
@@ -259,7 +259,7 @@ fn drop_other(layout: &Layout, pool: &mut Pool, actor: u32, other: Option<u32>, 
 
 /// Moves the tokens of n firings, of which each takes all that the channel to the actor itself holds.
 fn move_on(
-    layout: &Layout,
+    plan: &Plan,
     pool: &mut Pool,
     actor: u32,
     feedback: Feedback,
@@ -267,21 +267,21 @@ fn move_on(
     n: u32,
     tokens: &[i32],
 )
-    requires actor { actor < length layout.now.sources }
-    requires in_phase { IsInPhase layout.now.channels actor turn.firing turn.phase }
-    requires same { length pool.old.chains ≡ length layout.now.channels }
+    requires actor { actor < length plan.now.sources }
+    requires in_phase { IsInPhase plan.now.channels actor turn.firing turn.phase }
+    requires same { length pool.old.chains ≡ length plan.now.channels }
     requires few { n ≤ 16_384_000 }
-    requires own { feedback.channel < length layout.now.channels }
+    requires own { feedback.channel < length plan.now.channels }
     requires state { feedback.taken ≤ length (tokens_at (tokens_in pool.old) feedback.channel) }
-    requires other { IfSome feedback.other (λ c. (c < length layout.now.channels) × (to_at layout.now.channels c ≡ actor)) }
-    requires enough { IfSome feedback.other (λ c. n * take_at layout.now.channels turn.firing c
+    requires other { IfSome feedback.other (λ c. (c < length plan.now.channels) × (to_at plan.now.channels c ≡ actor)) }
+    requires enough { IfSome feedback.other (λ c. n * take_at plan.now.channels turn.firing c
         ≤ length (tokens_at (slice_set (tokens_in pool.old) feedback.channel (drop feedback.taken (tokens_at (tokens_in pool.old) feedback.channel))) c)) }
-    requires all { length tokens.now ≡ n * gift actor turn.firing layout.now.channels }
-    requires room { 0 < n → sum_by (lasts_at layout.now.channels feedback.channel turn.firing n) (outputs_at layout.now.channels actor)
+    requires all { length tokens.now ≡ n * gift actor turn.firing plan.now.channels }
+    requires room { 0 < n → sum_by (lasts_at plan.now.channels feedback.channel turn.firing n) (outputs_at plan.now.channels actor)
         ≤ length pool.old.free + feedback.taken }
     requires partition { IsPartition pool.old }
     ensures none { n ≡ 0 → pool.new ≡ pool.old }
-    ensures moved { 0 < n → tokens_in pool.new ≡ gone_on layout.now actor feedback turn.firing n (tokens_in pool.old) tokens.now }
+    ensures moved { 0 < n → tokens_in pool.new ≡ gone_on plan.now actor feedback turn.firing n (tokens_in pool.old) tokens.now }
     ensures partition { IsPartition pool.new }
     ensures size { pool.new.size ≡ pool.old.size }
     ensures same { length pool.new.chains ≡ length pool.old.chains }
@@ -291,8 +291,8 @@ fn move_on(
     }
     let own = feedback.channel;
     drop_tokens(pool, own, feedback.taken);
-    drop_other(layout, pool, actor, feedback.other, turn, n);
-    put_lasting(layout, pool, actor, own, turn, n, tokens);
+    drop_other(plan, pool, actor, feedback.other, turn, n);
+    put_lasting(plan, pool, actor, own, turn, n, tokens);
 }
 
 impl Core {
@@ -303,27 +303,27 @@ impl Core {
         requires { actor < length self.now.plan.sources }
         ensures { IfSome result (IsFeedback self.now.plan actor) }
     {
-        let layout = &self.layout;
-        if layout.phases(actor) != 1 || layout.is_source(actor) {
+        let plan = &self.plan;
+        if plan.phases(actor) != 1 || plan.is_source(actor) {
             return None;
         }
-        let channel = first_loop(layout, actor)?;
-        if !is_only_loop(layout, actor, channel) {
+        let channel = first_loop(plan, actor)?;
+        if !is_only_loop(plan, actor, channel) {
             return None;
         }
-        let (other, is_first) = order_of(layout, actor, channel)?;
-        let turn = layout.first_turn();
-        let taken = layout.takes(channel, turn);
-        if layout.gives(channel, turn) != taken {
+        let (other, is_first) = order_of(plan, actor, channel)?;
+        let turn = plan.first_turn();
+        let taken = plan.takes(channel, turn);
+        if plan.gives(channel, turn) != taken {
             return None;
         }
         Some(Feedback {
             channel,
             taken,
             other,
-            each: taken_of_other(layout, actor, other, turn),
+            each: taken_of_other(plan, actor, other, turn),
             is_first,
-            before: given_before(layout, actor, channel, turn),
+            before: given_before(plan, actor, channel, turn),
         })
     }
 
@@ -339,19 +339,19 @@ impl Core {
         if !is_at(self.stage(actor), Stage::Idle) {
             return false;
         }
-        if u64::from(turn.firing) + u64::from(n) > u64::from(self.layout.limit(actor)) {
+        if u64::from(turn.firing) + u64::from(n) > u64::from(self.plan.limit(actor)) {
             return false;
         }
-        if first_closed(&self.layout, &self.opens, actor).is_some() {
+        if first_closed(&self.plan, &self.opens, actor).is_some() {
             return false;
         }
         if self.pool.len(own) != feedback.taken {
             return false;
         }
-        if !hold_asked(&self.layout, &self.pool, actor, own, turn, n) {
+        if !hold_asked(&self.plan, &self.pool, actor, own, turn, n) {
             return false;
         }
-        if !have_asked(&self.layout, &self.pool, actor, own, turn, n) {
+        if !have_asked(&self.plan, &self.pool, actor, own, turn, n) {
             return false;
         }
         if !self.may_begin(n) {
@@ -369,19 +369,19 @@ impl Core {
         requires { actor < length self.now.plan.sources }
         ensures { result ≤ most }
     {
-        let layout = &self.layout;
+        let plan = &self.plan;
         let turn = self.turn(actor);
         let own = feedback.channel;
-        let left = layout.limit(actor).saturating_sub(turn.firing);
+        let left = plan.limit(actor).saturating_sub(turn.firing);
         let mut n = most.min(left);
-        if let Some(firings) = layout.firings() {
+        if let Some(firings) = plan.firings() {
             n = times(u64::from(firings).saturating_sub(self.started), 1, n);
         }
-        n = held_beside(layout, &self.pool, actor, own, turn, n);
-        n = room_beside(layout, &self.pool, actor, own, turn, n);
+        n = held_beside(plan, &self.pool, actor, own, turn, n);
+        n = room_beside(plan, &self.pool, actor, own, turn, n);
         let beside = (self.gives(actor) as u64).saturating_sub(u64::from(feedback.taken));
         times(
-            u64::from(layout.cells()).saturating_sub(self.used()),
+            u64::from(plan.cells()).saturating_sub(self.used()),
             beside,
             n,
         )
@@ -427,7 +427,7 @@ impl Core {
             → AreReadWith self.now.plan self.now.now actor (count self.now.now actor) n v (loop_reads feedback.is_first feedback.each feedback.before
             (gift actor (count self.now.now actor) self.now.plan.channels) n state.new others.new v) }
     {
-        self.layout.gives_few();
+        self.plan.gives_few();
         self.pool.copy_front(feedback.channel, state);
         copy_other(&self.pool, feedback.other, others);
     }
@@ -444,13 +444,13 @@ impl Core {
             (answers_to self.old.plan self.old.now (firings_of self.old.plan.channels actor (count self.old.now actor) n tokens.now)) }
     {
         let turn = self.turn(actor);
-        self.layout.gives_few();
-        let ahead = look_ahead(&self.layout, actor, turn, n);
-        let needed = need_of(&self.layout, actor, ahead.next);
-        let given = gift_of(&self.layout, actor, ahead.next);
-        let layout = &self.layout;
-        move_on(layout, &mut self.pool, actor, feedback, turn, n, tokens);
-        raise_peaks(layout, &self.pool, &mut self.peaks, actor);
+        self.plan.gives_few();
+        let ahead = look_ahead(&self.plan, actor, turn, n);
+        let needed = need_of(&self.plan, actor, ahead.next);
+        let given = gift_of(&self.plan, actor, ahead.next);
+        let plan = &self.plan;
+        move_on(plan, &mut self.pool, actor, feedback, turn, n, tokens);
+        raise_peaks(plan, &self.pool, &mut self.peaks, actor);
         let a = actor as usize;
         self.started += u64::from(n);
         self.sums[a] += ahead.given;

@@ -11,24 +11,24 @@ ghost use Rattle.csdf_core.specs.Shows.{AreSharedOut};
 ghost use Rattle.csdf_core.specs.Transfers.{opening_pool};
 ghost use Rattle.csdf_core.specs.declared.stage.Stage.TheVariants.{Idle};
 
-use crate::layout::Layout;
+use crate::plan::Plan;
 use crate::stage::Stage;
 use crate::transfer::{gift_of, need_of, put_tokens};
 use csdf_pool::Pool;
 use std::alloc::{AllocError, Global};
 
-/// A pool of the layout's cells, where each channel holds its initial tokens.
+/// A pool of the plan's cells, where each channel holds its initial tokens.
 ///
 /// An error says that memory ran out.
-pub(crate) fn filled_pool(alloc: Global, layout: &Layout) -> Result<Pool, AllocError>
-    requires { IsPlayable layout.now }
-    ensures tokens { IfOk result (λ pool. tokens_in pool ≡ map (λ (c : ChannelModel). c.initial) layout.now.channels) }
-    ensures shared_out { IfOk result (AreSharedOut layout.now) }
-    ensures cells { IfOk result (λ pool. pool ≡ opening_pool layout.now) }
+pub(crate) fn filled_pool(alloc: Global, plan: &Plan) -> Result<Pool, AllocError>
+    requires { IsPlayable plan.now }
+    ensures tokens { IfOk result (λ pool. tokens_in pool ≡ map (λ (c : ChannelModel). c.initial) plan.now.channels) }
+    ensures shared_out { IfOk result (AreSharedOut plan.now) }
+    ensures cells { IfOk result (λ pool. pool ≡ opening_pool plan.now) }
 {
-    let mut pool = Pool::new(alloc, layout.cells(), layout.channels() as u32)?;
-    for channel in 0..layout.channels() as u32 {
-        put_tokens(&mut pool, channel, layout.initial(channel));
+    let mut pool = Pool::new(alloc, plan.cells(), plan.channels() as u32)?;
+    for channel in 0..plan.channels() as u32 {
+        put_tokens(&mut pool, channel, plan.initial(channel));
     }
     Ok(pool)
 }
@@ -50,13 +50,13 @@ pub(crate) fn lengths_of(alloc: Global, pool: &Pool, channels: u32) -> Result<Ve
 /// How many tokens the first firing of each actor takes.
 ///
 /// An error says that memory ran out.
-pub(crate) fn first_needs(alloc: Global, layout: &Layout) -> Result<Vec<u32>, AllocError>
-    ensures { IfOk result (λ needs. HasAmounts (λ a. need a 0 layout.now.channels) (length layout.now.sources) needs.items) }
+pub(crate) fn first_needs(alloc: Global, plan: &Plan) -> Result<Vec<u32>, AllocError>
+    ensures { IfOk result (λ needs. HasAmounts (λ a. need a 0 plan.now.channels) (length plan.now.sources) needs.items) }
 {
-    let first = layout.first_turn();
+    let first = plan.first_turn();
     let mut needs = Vec::new(alloc);
-    for actor in 0..layout.actors() as u32 {
-        needs.push(need_of(layout, actor, first) as u32)?;
+    for actor in 0..plan.actors() as u32 {
+        needs.push(need_of(plan, actor, first) as u32)?;
     }
     Ok(needs)
 }
@@ -64,13 +64,13 @@ pub(crate) fn first_needs(alloc: Global, layout: &Layout) -> Result<Vec<u32>, Al
 /// How many tokens the first firing of each actor gives.
 ///
 /// An error says that memory ran out.
-pub(crate) fn first_gifts(alloc: Global, layout: &Layout) -> Result<Vec<u32>, AllocError>
-    ensures { IfOk result (λ gifts. HasAmounts (λ a. gift a 0 layout.now.channels) (length layout.now.sources) gifts.items) }
+pub(crate) fn first_gifts(alloc: Global, plan: &Plan) -> Result<Vec<u32>, AllocError>
+    ensures { IfOk result (λ gifts. HasAmounts (λ a. gift a 0 plan.now.channels) (length plan.now.sources) gifts.items) }
 {
-    let first = layout.first_turn();
+    let first = plan.first_turn();
     let mut gifts = Vec::new(alloc);
-    for actor in 0..layout.actors() as u32 {
-        gifts.push(gift_of(layout, actor, first) as u32)?;
+    for actor in 0..plan.actors() as u32 {
+        gifts.push(gift_of(plan, actor, first) as u32)?;
     }
     Ok(gifts)
 }
@@ -85,18 +85,18 @@ pub(crate) struct Blank {
     pub(crate) sums: Vec<u64>,
 }
 
-/// The lists of the layout's actors and channels.
+/// The lists of the plan's actors and channels.
 ///
 /// An error says that memory ran out.
-pub(crate) fn blank_lists(alloc: Global, layout: &Layout) -> Result<Blank, AllocError>
-    ensures counts { IfOk result (λ blank. blank.counts.items ≡ replicate (length layout.now.sources) 0) }
-    ensures phases { IfOk result (λ blank. AreInPhase layout.now blank.counts.items blank.phases.items) }
-    ensures stages { IfOk result (λ blank. blank.stages.items ≡ replicate (length layout.now.sources) Idle) }
-    ensures opens { IfOk result (λ blank. blank.opens.items ≡ replicate (length layout.now.channels) true) }
-    ensures sums { IfOk result (λ blank. blank.sums.items ≡ replicate (length layout.now.sources) 0) }
+pub(crate) fn blank_lists(alloc: Global, plan: &Plan) -> Result<Blank, AllocError>
+    ensures counts { IfOk result (λ blank. blank.counts.items ≡ replicate (length plan.now.sources) 0) }
+    ensures phases { IfOk result (λ blank. AreInPhase plan.now blank.counts.items blank.phases.items) }
+    ensures stages { IfOk result (λ blank. blank.stages.items ≡ replicate (length plan.now.sources) Idle) }
+    ensures opens { IfOk result (λ blank. blank.opens.items ≡ replicate (length plan.now.channels) true) }
+    ensures sums { IfOk result (λ blank. blank.sums.items ≡ replicate (length plan.now.sources) 0) }
 {
-    let (actors, channels) = (layout.actors(), layout.channels());
-    let first = layout.first_turn();
+    let (actors, channels) = (plan.actors(), plan.channels());
+    let first = plan.first_turn();
     Ok(Blank {
         counts: vec![in alloc; first.firing; actors]?,
         phases: vec![in alloc; first.phase; actors]?,

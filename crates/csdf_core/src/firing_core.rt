@@ -7,7 +7,7 @@ ghost use Rattle.std.specs.Prelude.{◌≡◌, ◌-◌, ◌*◌, ◌<◌, ◌≤
 ghost use Rattle.csdf_pool.specs.Pool.{chain_of, held_cells};
 
 use crate::filling::{blank_lists, filled_pool, first_gifts, first_needs, lengths_of};
-use crate::layout::Layout;
+use crate::plan::Plan;
 use crate::setup::Setup;
 use crate::stage::Stage;
 use crate::turn::Turn;
@@ -21,7 +21,7 @@ use std::marker::Model;
 /// A refused move changes nothing. Tokens that were read are not kept.
 #[derive(Drop)]
 pub struct Core {
-    pub(crate) layout: Layout,
+    pub(crate) plan: Plan,
     pub(crate) counts: Vec<u32>,
     /// The phase of each actor's next firing, and how many tokens that firing takes and gives: kept,
     /// so that no move divides or adds up.
@@ -57,7 +57,7 @@ impl Core {
     ghost use Rattle.csdf_core.specs.Rows.{need, gift};
     ghost use Rattle.csdf_core.specs.Ports.{tokens_at};
     ghost use Rattle.csdf_core.specs.Plan.{Channel as ChannelModel};
-    ghost use Rattle.csdf_core.specs.Layout.{plan_for};
+    ghost use Rattle.csdf_core.specs.Planned.{plan_for};
     ghost use Rattle.csdf_core.specs.Transfers.{opening_pool};
 
     /// A core of the setup in the state in which nothing has fired: the initial tokens are in the
@@ -74,14 +74,14 @@ impl Core {
         ensures peaks { IfOk result (λ core. core.peaks ≡ map length (map (λ (c : ChannelModel). c.initial) core.plan.channels)) }
         ensures cells { IfOk result (λ core. core.pool ≡ opening_pool core.plan) }
     {
-        let layout = Layout::new(alloc, setup)?;
-        let pool = filled_pool(alloc, &layout)?;
-        let peaks = lengths_of(alloc, &pool, layout.channels() as u32)?;
-        let needs = first_needs(alloc, &layout)?;
-        let gifts = first_gifts(alloc, &layout)?;
-        let blank = blank_lists(alloc, &layout)?;
+        let plan = Plan::new(alloc, setup)?;
+        let pool = filled_pool(alloc, &plan)?;
+        let peaks = lengths_of(alloc, &pool, plan.channels() as u32)?;
+        let needs = first_needs(alloc, &plan)?;
+        let gifts = first_gifts(alloc, &plan)?;
+        let blank = blank_lists(alloc, &plan)?;
         Ok(Core {
-            layout,
+            plan,
             counts: blank.counts,
             phases: blank.phases,
             needs,
@@ -101,7 +101,7 @@ impl Core {
         ensures value { result ≡ length self.now.plan.sources }
         ensures few { result ≤ MAX_ACTORS }
     {
-        self.layout.actors() as u32
+        self.plan.actors() as u32
     }
 
     /// How many channels there are.
@@ -109,7 +109,7 @@ impl Core {
         ensures value { result ≡ length self.now.plan.channels }
         ensures few { result ≤ MAX_CHANNELS }
     {
-        self.layout.channels() as u32
+        self.plan.channels() as u32
     }
 
     /// How many firings of the actor are finished.

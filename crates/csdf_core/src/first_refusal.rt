@@ -80,7 +80,7 @@ impl Core {
     {
         let gives = self.gives(actor) as u64;
         let written = self.written(actor);
-        self.layout.is_source(actor) && written + gives > u64::from(self.layout.supply(actor))
+        self.plan.is_source(actor) && written + gives > u64::from(self.plan.supply(actor))
     }
 
     /// Whether the actor has made as many firings as it may.
@@ -88,7 +88,7 @@ impl Core {
         requires { actor < length self.now.plan.sources }
         ensures { result ≡ is_spent self.now.plan self.now.now actor }
     {
-        self.counts[actor as usize] >= self.layout.limit(actor)
+        self.counts[actor as usize] >= self.plan.limit(actor)
     }
 
     /// Whether the actor makes no firing more: it has made as many as it may, or its file has too few
@@ -105,7 +105,7 @@ impl Core {
     fn is_stopped(&self) -> bool
         ensures { result ≡ is_stopped self.now.plan self.now.now }
     {
-        match self.layout.firings() {
+        match self.plan.firings() {
             Some(firings) => self.started >= u64::from(firings),
             None => false,
         }
@@ -117,7 +117,7 @@ impl Core {
         ensures value { result ≡ held self.now.now + reserved self.now.plan self.now.now }
         ensures small { result ≤ MAX_CELLS }
     {
-        let cells = u64::from(self.layout.cells());
+        let cells = u64::from(self.plan.cells());
         let free = u64::from(self.pool.free_len());
         cells - free + self.reserved
     }
@@ -130,7 +130,7 @@ impl Core {
     {
         let need = self.need(actor) as u64;
         let gift = self.gives(actor) as u64;
-        exceeds(u64::from(self.layout.cells()), self.used(), need, gift)
+        exceeds(u64::from(self.plan.cells()), self.used(), need, gift)
     }
 
     /// The first refusal of the actor's next firing.
@@ -155,10 +155,10 @@ impl Core {
             return Some(Refusal::Busy);
         }
         let turn = self.turn(actor);
-        if turn.firing >= self.layout.limit(actor) {
+        if turn.firing >= self.plan.limit(actor) {
             return Some(Refusal::Spent);
         }
-        if let Some(channel) = first_closed(&self.layout, &self.opens, actor) {
+        if let Some(channel) = first_closed(&self.plan, &self.opens, actor) {
             return Some(Refusal::Closed(channel));
         }
         if self.is_dry(actor) {
@@ -175,10 +175,10 @@ impl Core {
         requires in_phase { IsInPhase self.now.plan.channels actor turn.firing turn.phase }
         ensures { result ≡ first_of (space_table self.now.plan self.now.now actor) }
     {
-        if let Some(channel) = first_short(&self.layout, &self.pool, actor, turn) {
+        if let Some(channel) = first_short(&self.plan, &self.pool, actor, turn) {
             return Some(Refusal::Short(channel));
         }
-        if let Some(channel) = first_full(&self.layout, &self.pool, actor, turn) {
+        if let Some(channel) = first_full(&self.plan, &self.pool, actor, turn) {
             return Some(Refusal::Full(channel));
         }
         if self.is_stopped() {
@@ -249,7 +249,7 @@ impl Core {
         if !self.opens[channel as usize] {
             return Some(Refusal::Closed(channel));
         }
-        let producer = self.layout.producer(channel);
+        let producer = self.plan.producer(channel);
         if is_at_work(self.stage(producer)) {
             return Some(Refusal::Busy);
         }

@@ -6,24 +6,24 @@ ghost use Rattle.csdf_core.specs.Phases.{IsInPhase};
 ghost use Rattle.csdf_core.specs.Plan.{to_at};
 ghost use Rattle.csdf_core.specs.Ports.{inputs_at, take_at, tokens_at, tokens_in};
 
-use crate::layout::Layout;
+use crate::plan::Plan;
 use crate::transfer::need_of;
 use crate::turn::{Turn, turn_after};
 use csdf_model::{MAX_CHANNELS, MAX_FIRINGS_PER_ACTOR, MAX_PHASES};
 use csdf_pool::{Pool, Tokens};
 
 /// How many tokens the firing takes of these inputs.
-fn taken_before(layout: &Layout, actor: u32, numbers: &[u32], turn: Turn) -> usize
-    requires actor { actor < length layout.now.sources }
-    requires own { All (λ c. to_at layout.now.channels c ≡ actor) numbers.now }
-    requires within { All (λ c. c < length layout.now.channels) numbers.now }
+fn taken_before(plan: &Plan, actor: u32, numbers: &[u32], turn: Turn) -> usize
+    requires actor { actor < length plan.now.sources }
+    requires own { All (λ c. to_at plan.now.channels c ≡ actor) numbers.now }
+    requires within { All (λ c. c < length plan.now.channels) numbers.now }
     requires few { length numbers.now ≤ MAX_CHANNELS }
-    requires in_phase { IsInPhase layout.now.channels actor turn.firing turn.phase }
-    ensures { result ≡ sum_by (take_at layout.now.channels turn.firing) numbers.now }
+    requires in_phase { IsInPhase plan.now.channels actor turn.firing turn.phase }
+    ensures { result ≡ sum_by (take_at plan.now.channels turn.firing) numbers.now }
 {
     let mut sum = 0;
     for channel in numbers {
-        sum += layout.takes(*channel, turn) as usize;
+        sum += plan.takes(*channel, turn) as usize;
     }
     sum
 }
@@ -74,48 +74,41 @@ struct Slot {
 }
 
 /// Where the firing's reads have the tokens of the input at this place.
-fn slot_of(layout: &Layout, actor: u32, place: usize, turn: Turn) -> Slot
-    requires actor { actor < length layout.now.sources }
-    requires place { place < length (inputs_at layout.now.channels actor) }
-    requires in_phase { IsInPhase layout.now.channels actor turn.firing turn.phase }
-    ensures slot { IsSlot layout.now.channels actor place turn.firing result.need result.from result.taken }
+fn slot_of(plan: &Plan, actor: u32, place: usize, turn: Turn) -> Slot
+    requires actor { actor < length plan.now.sources }
+    requires place { place < length (inputs_at plan.now.channels actor) }
+    requires in_phase { IsInPhase plan.now.channels actor turn.firing turn.phase }
+    ensures slot { IsSlot plan.now.channels actor place turn.firing result.need result.from result.taken }
     ensures small { result.need ≤ 8192 }
 {
-    let inputs = layout.inputs(actor);
+    let inputs = plan.inputs(actor);
     Slot {
-        need: need_of(layout, actor, turn),
-        from: taken_before(layout, actor, &inputs[..place], turn),
-        taken: layout.takes(inputs[place], turn) as usize,
+        need: need_of(plan, actor, turn),
+        from: taken_before(plan, actor, &inputs[..place], turn),
+        taken: plan.takes(inputs[place], turn) as usize,
     }
 }
 
 /// The same for this firing, where the slot is that of another one: with one phase it is the same.
 #[inline(always)]
-fn slot_after(
-    layout: &Layout,
-    actor: u32,
-    place: usize,
-    other: Turn,
-    slot: Slot,
-    turn: Turn,
-) -> Slot
-    requires actor { actor < length layout.now.sources }
-    requires place { place < length (inputs_at layout.now.channels actor) }
-    requires slot { IsSlot layout.now.channels actor place other.firing slot.need slot.from slot.taken }
+fn slot_after(plan: &Plan, actor: u32, place: usize, other: Turn, slot: Slot, turn: Turn) -> Slot
+    requires actor { actor < length plan.now.sources }
+    requires place { place < length (inputs_at plan.now.channels actor) }
+    requires slot { IsSlot plan.now.channels actor place other.firing slot.need slot.from slot.taken }
     requires small { slot.need ≤ 8192 }
-    requires in_phase { IsInPhase layout.now.channels actor turn.firing turn.phase }
-    ensures slot { IsSlot layout.now.channels actor place turn.firing result.need result.from result.taken }
+    requires in_phase { IsInPhase plan.now.channels actor turn.firing turn.phase }
+    ensures slot { IsSlot plan.now.channels actor place turn.firing result.need result.from result.taken }
     ensures small { result.need ≤ 8192 }
 {
-    if layout.phases(actor) == 1 {
+    if plan.phases(actor) == 1 {
         return slot;
     }
-    slot_of(layout, actor, place, turn)
+    slot_of(plan, actor, place, turn)
 }
 
 /// Puts what n firings read of one input, the one at this place, where their reads have it.
 fn lay_input(
-    layout: &Layout,
+    plan: &Plan,
     pool: &Pool,
     actor: u32,
     place: usize,
@@ -123,46 +116,46 @@ fn lay_input(
     n: u32,
     into: &mut [i32],
 )
-    requires actor { actor < length layout.now.sources }
-    requires place { place < length (inputs_at layout.now.channels actor) }
-    requires same { length pool.now.chains ≡ length layout.now.channels }
-    requires in_phase { IsInPhase layout.now.channels actor turn.firing turn.phase }
+    requires actor { actor < length plan.now.sources }
+    requires place { place < length (inputs_at plan.now.channels actor) }
+    requires same { length pool.now.chains ≡ length plan.now.channels }
+    requires in_phase { IsInPhase plan.now.channels actor turn.firing turn.phase }
     requires low { turn.phase < MAX_PHASES }
     requires few { turn.firing + n ≤ MAX_FIRINGS_PER_ACTOR }
-    requires enough { takes_at layout.now.channels turn.firing n (slice_index (inputs_at layout.now.channels actor) place)
-        ≤ length (tokens_at (tokens_in pool.now) (slice_index (inputs_at layout.now.channels actor) place)) }
-    requires all { length into.old ≡ needs_of layout.now.channels actor turn.firing n }
-    ensures { into.new ≡ laid layout.now.channels (inputs_at layout.now.channels actor) (take place (inputs_at layout.now.channels actor))
-        (slice_index (inputs_at layout.now.channels actor) place) turn.firing n
-        (tokens_at (tokens_in pool.now) (slice_index (inputs_at layout.now.channels actor) place)) into.old }
+    requires enough { takes_at plan.now.channels turn.firing n (slice_index (inputs_at plan.now.channels actor) place)
+        ≤ length (tokens_at (tokens_in pool.now) (slice_index (inputs_at plan.now.channels actor) place)) }
+    requires all { length into.old ≡ needs_of plan.now.channels actor turn.firing n }
+    ensures { into.new ≡ laid plan.now.channels (inputs_at plan.now.channels actor) (take place (inputs_at plan.now.channels actor))
+        (slice_index (inputs_at plan.now.channels actor) place) turn.firing n
+        (tokens_at (tokens_in pool.now) (slice_index (inputs_at plan.now.channels actor) place)) into.old }
 {
-    let mut tokens = pool.tokens(layout.inputs(actor)[place]);
+    let mut tokens = pool.tokens(plan.inputs(actor)[place]);
     let mut next = turn;
-    let mut slot = slot_of(layout, actor, place, turn);
+    let mut slot = slot_of(plan, actor, place, turn);
     let mut at = 0;
     for _firing in 0..n {
         let end = at + slot.need;
         put_next(&mut tokens, &mut into[at..end], slot.from, slot.taken);
-        let after = turn_after(layout, actor, next);
-        slot = slot_after(layout, actor, place, next, slot, after);
+        let after = turn_after(plan, actor, next);
+        slot = slot_after(plan, actor, place, next, slot, after);
         next = after;
         at = end;
     }
 }
 
 /// Copies what n firings read, one firing's after another's, the inputs of each in file order.
-pub(crate) fn gather(layout: &Layout, pool: &Pool, actor: u32, turn: Turn, n: u32, into: &mut [i32])
-    requires actor { actor < length layout.now.sources }
-    requires same { length pool.now.chains ≡ length layout.now.channels }
-    requires in_phase { IsInPhase layout.now.channels actor turn.firing turn.phase }
+pub(crate) fn gather(plan: &Plan, pool: &Pool, actor: u32, turn: Turn, n: u32, into: &mut [i32])
+    requires actor { actor < length plan.now.sources }
+    requires same { length pool.now.chains ≡ length plan.now.channels }
+    requires in_phase { IsInPhase plan.now.channels actor turn.firing turn.phase }
     requires low { turn.phase < MAX_PHASES }
     requires few { turn.firing + n ≤ MAX_FIRINGS_PER_ACTOR }
-    requires enough { HoldAll (tokens_in pool.now) (takes_at layout.now.channels turn.firing n) (inputs_at layout.now.channels actor) }
-    requires all { length into.old ≡ needs_of layout.now.channels actor turn.firing n }
-    ensures { into.new ≡ reads_over layout.now.channels (inputs_at layout.now.channels actor) turn.firing n (tokens_at (tokens_in pool.now)) }
+    requires enough { HoldAll (tokens_in pool.now) (takes_at plan.now.channels turn.firing n) (inputs_at plan.now.channels actor) }
+    requires all { length into.old ≡ needs_of plan.now.channels actor turn.firing n }
+    ensures { into.new ≡ reads_over plan.now.channels (inputs_at plan.now.channels actor) turn.firing n (tokens_at (tokens_in pool.now)) }
 {
-    let inputs = layout.inputs(actor);
+    let inputs = plan.inputs(actor);
     for place in 0..inputs.len() {
-        lay_input(layout, pool, actor, place, turn, n, into);
+        lay_input(plan, pool, actor, place, turn, n, into);
     }
 }

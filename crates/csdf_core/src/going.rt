@@ -10,7 +10,7 @@ ghost use Rattle.csdf_core.specs.Phases.{IsInPhase};
 ghost use Rattle.csdf_core.specs.Ports.{outputs_at, give_at, tokens_in, tokens_at};
 ghost use Rattle.csdf_core.specs.Rows.{gift};
 
-use crate::layout::Layout;
+use crate::plan::Plan;
 use crate::transfer::{gift_of, put_tokens};
 use crate::turn::Turn;
 use csdf_pool::Pool;
@@ -57,7 +57,7 @@ fn put_shares(
 /// Puts what stays of n firings into the outputs, in file order, of the tokens that they write, one firing's after
 /// another's.
 pub(crate) fn put_lasting(
-    layout: &Layout,
+    plan: &Plan,
     pool: &mut Pool,
     actor: u32,
     own: u32,
@@ -65,25 +65,25 @@ pub(crate) fn put_lasting(
     n: u32,
     tokens: &[i32],
 )
-    requires actor { actor < length layout.now.sources }
-    requires in_phase { IsInPhase layout.now.channels actor turn.firing turn.phase }
-    requires same { length pool.old.chains ≡ length layout.now.channels }
+    requires actor { actor < length plan.now.sources }
+    requires in_phase { IsInPhase plan.now.channels actor turn.firing turn.phase }
+    requires same { length pool.old.chains ≡ length plan.now.channels }
     requires some { 0 < n }
-    requires all { length tokens.now ≡ n * gift actor turn.firing layout.now.channels }
-    requires room { sum_by (lasts_at layout.now.channels own turn.firing n) (outputs_at layout.now.channels actor) ≤ length pool.old.free }
+    requires all { length tokens.now ≡ n * gift actor turn.firing plan.now.channels }
+    requires room { sum_by (lasts_at plan.now.channels own turn.firing n) (outputs_at plan.now.channels actor) ≤ length pool.old.free }
     requires partition { IsPartition pool.old }
     ensures put { tokens_in pool.new ≡ rows_over
-        (lasting layout.now.channels own turn.firing n (gift actor turn.firing layout.now.channels) tokens.now)
-        (give_at layout.now.channels turn.firing) (outputs_at layout.now.channels actor) 0 (tokens_in pool.old) }
+        (lasting plan.now.channels own turn.firing n (gift actor turn.firing plan.now.channels) tokens.now)
+        (give_at plan.now.channels turn.firing) (outputs_at plan.now.channels actor) 0 (tokens_in pool.old) }
     ensures partition { IsPartition pool.new }
     ensures size { pool.new.size ≡ pool.old.size }
     ensures same { length pool.new.chains ≡ length pool.old.chains }
 {
-    let gift = gift_of(layout, actor, turn);
-    let outputs = layout.outputs(actor);
+    let gift = gift_of(plan, actor, turn);
+    let outputs = plan.outputs(actor);
     let mut before = 0;
     for channel in outputs {
-        let each = layout.gives(*channel, turn) as usize;
+        let each = plan.gives(*channel, turn) as usize;
         let stays = stays_of(*channel, own, n);
         let from = (n - stays) as usize * gift;
         put_shares(pool, *channel, before, each, gift, stays, &tokens[from..]);

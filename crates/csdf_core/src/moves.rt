@@ -77,7 +77,7 @@ impl Core {
         ensures unread { OnErr result (into.new ≡ into.old) }
     {
         // Read for the prover: what a core keeps.
-        let _layout = &self.layout;
+        let _plan = &self.plan;
         if let Some(refusal) = self.read_refusal(actor) {
             return Err(refusal);
         }
@@ -98,8 +98,8 @@ impl Core {
         let turn = self.turn(actor);
         let need = self.need(actor) as u64;
         let gift = self.gives(actor) as u64;
-        let layout = &self.layout;
-        take_inputs(layout, &mut self.pool, actor, turn, into);
+        let plan = &self.plan;
+        take_inputs(plan, &mut self.pool, actor, turn, into);
         self.reserved = self.reserved - gift.saturating_sub(need) + gift;
         self.stages[actor as usize] = Stage::Fetched;
     }
@@ -112,7 +112,7 @@ impl Core {
         ensures unchanged { OnErr result (self.new ≡ self.old) }
         ensures cells { OnOk result (self.new.pool ≡ after_write self.old.plan actor (count self.old.now actor) self.old.pool tokens.now) }
     {
-        let _layout = &self.layout;
+        let _plan = &self.plan;
         if let Some(refusal) = self.write_refusal(actor, tokens) {
             return Err(refusal);
         }
@@ -129,9 +129,9 @@ impl Core {
     {
         let turn = self.turn(actor);
         prove!(tokens.len() <= self.pool.free_len() as usize);
-        let layout = &self.layout;
-        put_outputs(layout, &mut self.pool, actor, turn, tokens);
-        raise_peaks(layout, &self.pool, &mut self.peaks, actor);
+        let plan = &self.plan;
+        put_outputs(plan, &mut self.pool, actor, turn, tokens);
+        raise_peaks(plan, &self.pool, &mut self.peaks, actor);
         self.reserved -= tokens.len() as u64;
         self.stages[actor as usize] = Stage::Written;
     }
@@ -143,7 +143,7 @@ impl Core {
         ensures unchanged { OnErr result (self.new ≡ self.old) }
         ensures cells { self.new.pool ≡ self.old.pool }
     {
-        let _layout = &self.layout;
+        let _plan = &self.plan;
         if let Some(refusal) = self.finish_refusal(actor) {
             return Err(refusal);
         }
@@ -159,9 +159,9 @@ impl Core {
     {
         let turn = self.turn(actor);
         let written = self.gives(actor) as u64;
-        let next = turn_after(&self.layout, actor, turn);
-        let need = need_of(&self.layout, actor, next);
-        let gift = gift_of(&self.layout, actor, next);
+        let next = turn_after(&self.plan, actor, turn);
+        let need = need_of(&self.plan, actor, next);
+        let gift = gift_of(&self.plan, actor, next);
         let a = actor as usize;
         self.sums[a] += written;
         self.counts[a] = next.firing;
@@ -179,7 +179,7 @@ impl Core {
         ensures unchanged { OnErr result (self.new ≡ self.old) }
         ensures cells { self.new.pool ≡ self.old.pool }
     {
-        let _layout = &self.layout;
+        let _plan = &self.plan;
         if let Some(refusal) = self.close_refusal(channel) {
             return Err(refusal);
         }

@@ -3,7 +3,7 @@
 ghost use Rattle.std.specs.Prelude.{◌≡◌, ◌<◌, ◌≤◌, ℕ, [], All, map, length, slice_index, IfOk, OnErr};
 ghost use Rattle.csdf_core.specs.Shows.{Shows, Follows, IsRun, Plays, PlayedSome, replies_in, as_reply};
 ghost use Rattle.csdf_core.specs.Moves.{Read, move_of};
-ghost use Rattle.csdf_core.specs.Layout.{plan_for};
+ghost use Rattle.csdf_core.specs.Planned.{plan_for};
 ghost use Rattle.csdf_core.specs.State.{opening};
 ghost use Rattle.csdf_core.specs.Step.{replies_of, state_after};
 ghost use Rattle.csdf_core.specs.Streams.{peak_of};

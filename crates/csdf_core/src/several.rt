@@ -11,20 +11,20 @@ ghost use Rattle.csdf_core.specs.Rows.{gift};
 ghost use Rattle.csdf_core.specs.Transfers.{after_read, after_write};
 ghost use Rattle.std.specs.Prelude.{slice_set};
 
-use crate::layout::Layout;
+use crate::plan::Plan;
 use crate::transfer::{gift_of, put_outputs, raise_peaks};
 use crate::turn::{Turn, turn_after};
 use csdf_model::{MAX_FIRINGS_PER_ACTOR, MAX_PHASES};
 use csdf_pool::Pool;
 
 /// Whether no channel goes from the actor to itself.
-pub(crate) fn has_no_loop(layout: &Layout, actor: u32) -> bool
-    requires { actor < length layout.now.sources }
-    ensures { IsTrue result ↔ HasNoLoop layout.now.channels actor }
+pub(crate) fn has_no_loop(plan: &Plan, actor: u32) -> bool
+    requires { actor < length plan.now.sources }
+    ensures { IsTrue result ↔ HasNoLoop plan.now.channels actor }
 {
-    let inputs = layout.inputs(actor);
+    let inputs = plan.inputs(actor);
     for channel in inputs {
-        if layout.producer(*channel) == actor {
+        if plan.producer(*channel) == actor {
             return false;
         }
     }
@@ -32,15 +32,15 @@ pub(crate) fn has_no_loop(layout: &Layout, actor: u32) -> bool
 }
 
 /// Whether each input of the actor holds what its next n firings take of it.
-pub(crate) fn hold_each(layout: &Layout, pool: &Pool, actor: u32, turn: Turn, n: u32) -> bool
-    requires actor { actor < length layout.now.sources }
-    requires same { length pool.now.chains ≡ length layout.now.channels }
+pub(crate) fn hold_each(plan: &Plan, pool: &Pool, actor: u32, turn: Turn, n: u32) -> bool
+    requires actor { actor < length plan.now.sources }
+    requires same { length pool.now.chains ≡ length plan.now.channels }
     requires few { turn.firing + n ≤ MAX_FIRINGS_PER_ACTOR }
-    ensures { IsTrue result ↔ HoldAll (tokens_in pool.now) (takes_at layout.now.channels turn.firing n) (inputs_at layout.now.channels actor) }
+    ensures { IsTrue result ↔ HoldAll (tokens_in pool.now) (takes_at plan.now.channels turn.firing n) (inputs_at plan.now.channels actor) }
 {
-    let inputs = layout.inputs(actor);
+    let inputs = plan.inputs(actor);
     for channel in inputs {
-        let needed = layout.taken(*channel, turn.firing, n);
+        let needed = plan.taken(*channel, turn.firing, n);
         if u64::from(pool.len(*channel)) < needed {
             return false;
         }
@@ -49,17 +49,17 @@ pub(crate) fn hold_each(layout: &Layout, pool: &Pool, actor: u32, turn: Turn, n:
 }
 
 /// Whether each output of the actor has room for what its next n firings give to it.
-pub(crate) fn have_room_each(layout: &Layout, pool: &Pool, actor: u32, turn: Turn, n: u32) -> bool
-    requires actor { actor < length layout.now.sources }
-    requires same { length pool.now.chains ≡ length layout.now.channels }
+pub(crate) fn have_room_each(plan: &Plan, pool: &Pool, actor: u32, turn: Turn, n: u32) -> bool
+    requires actor { actor < length plan.now.sources }
+    requires same { length pool.now.chains ≡ length plan.now.channels }
     requires few { turn.firing + n ≤ MAX_FIRINGS_PER_ACTOR }
-    ensures { IsTrue result ↔ HaveRoomFor layout.now.channels (tokens_in pool.now) (gives_at layout.now.channels turn.firing n)
-        (outputs_at layout.now.channels actor) }
+    ensures { IsTrue result ↔ HaveRoomFor plan.now.channels (tokens_in pool.now) (gives_at plan.now.channels turn.firing n)
+        (outputs_at plan.now.channels actor) }
 {
-    let outputs = layout.outputs(actor);
+    let outputs = plan.outputs(actor);
     for channel in outputs {
-        let given = layout.given(*channel, turn.firing, n);
-        if u64::from(pool.len(*channel)) + given > u64::from(layout.capacity(*channel)) {
+        let given = plan.given(*channel, turn.firing, n);
+        if u64::from(pool.len(*channel)) + given > u64::from(plan.capacity(*channel)) {
             return false;
         }
     }
@@ -81,54 +81,54 @@ pub(crate) fn drop_tokens(pool: &mut Pool, channel: u32, n: u32)
 }
 
 /// Takes the tokens of the firing out, the inputs in file order, and drops them.
-fn drop_inputs(layout: &Layout, pool: &mut Pool, actor: u32, turn: Turn)
-    requires actor { actor < length layout.now.sources }
-    requires in_phase { IsInPhase layout.now.channels actor turn.firing turn.phase }
-    requires same { length pool.old.chains ≡ length layout.now.channels }
-    requires enough { EnoughOver (take_at layout.now.channels turn.firing) (inputs_at layout.now.channels actor) (tokens_in pool.old) }
+fn drop_inputs(plan: &Plan, pool: &mut Pool, actor: u32, turn: Turn)
+    requires actor { actor < length plan.now.sources }
+    requires in_phase { IsInPhase plan.now.channels actor turn.firing turn.phase }
+    requires same { length pool.old.chains ≡ length plan.now.channels }
+    requires enough { EnoughOver (take_at plan.now.channels turn.firing) (inputs_at plan.now.channels actor) (tokens_in pool.old) }
     requires partition { IsPartition pool.old }
-    ensures cells { pool.new ≡ after_read layout.now actor turn.firing pool.old }
+    ensures cells { pool.new ≡ after_read plan.now actor turn.firing pool.old }
     ensures partition { IsPartition pool.new }
     ensures same { length pool.new.chains ≡ length pool.old.chains }
 {
-    let inputs = layout.inputs(actor);
+    let inputs = plan.inputs(actor);
     for channel in inputs {
-        let n = layout.takes(*channel, turn);
+        let n = plan.takes(*channel, turn);
         drop_tokens(pool, *channel, n);
     }
 }
 
 /// Moves the tokens of one firing: out of its inputs, and these into its outputs.
 fn fire_once(
-    layout: &Layout,
+    plan: &Plan,
     pool: &mut Pool,
     peaks: &mut [u32],
     actor: u32,
     turn: Turn,
     tokens: &[i32],
 )
-    requires actor { actor < length layout.now.sources }
-    requires in_phase { IsInPhase layout.now.channels actor turn.firing turn.phase }
-    requires same { length pool.old.chains ≡ length layout.now.channels }
-    requires peaked { length peaks.old ≡ length layout.now.channels }
-    requires enough { EnoughOver (take_at layout.now.channels turn.firing) (inputs_at layout.now.channels actor) (tokens_in pool.old) }
-    requires room { gift actor turn.firing layout.now.channels ≤ length (after_read layout.now actor turn.firing pool.old).free }
-    requires all { length tokens.now ≡ gift actor turn.firing layout.now.channels }
+    requires actor { actor < length plan.now.sources }
+    requires in_phase { IsInPhase plan.now.channels actor turn.firing turn.phase }
+    requires same { length pool.old.chains ≡ length plan.now.channels }
+    requires peaked { length peaks.old ≡ length plan.now.channels }
+    requires enough { EnoughOver (take_at plan.now.channels turn.firing) (inputs_at plan.now.channels actor) (tokens_in pool.old) }
+    requires room { gift actor turn.firing plan.now.channels ≤ length (after_read plan.now actor turn.firing pool.old).free }
+    requires all { length tokens.now ≡ gift actor turn.firing plan.now.channels }
     requires partition { IsPartition pool.old }
-    ensures cells { pool.new ≡ after_write layout.now actor turn.firing (after_read layout.now actor turn.firing pool.old) tokens.now }
-    ensures peaks { peaks.new ≡ raise_over (outputs_at layout.now.channels actor) (tokens_in pool.new) peaks.old }
+    ensures cells { pool.new ≡ after_write plan.now actor turn.firing (after_read plan.now actor turn.firing pool.old) tokens.now }
+    ensures peaks { peaks.new ≡ raise_over (outputs_at plan.now.channels actor) (tokens_in pool.new) peaks.old }
     ensures partition { IsPartition pool.new }
     ensures same { length pool.new.chains ≡ length pool.old.chains }
     ensures peaked { length peaks.new ≡ length peaks.old }
 {
-    drop_inputs(layout, pool, actor, turn);
-    put_outputs(layout, pool, actor, turn, tokens);
-    raise_peaks(layout, pool, peaks, actor);
+    drop_inputs(plan, pool, actor, turn);
+    put_outputs(plan, pool, actor, turn, tokens);
+    raise_peaks(plan, pool, peaks, actor);
 }
 
 /// Moves the tokens of n firings, one firing's after another's.
 pub(crate) fn fire_each(
-    layout: &Layout,
+    plan: &Plan,
     pool: &mut Pool,
     peaks: &mut [u32],
     actor: u32,
@@ -136,26 +136,26 @@ pub(crate) fn fire_each(
     n: u32,
     tokens: &[i32],
 )
-    requires actor { actor < length layout.now.sources }
-    requires in_phase { IsInPhase layout.now.channels actor turn.firing turn.phase }
+    requires actor { actor < length plan.now.sources }
+    requires in_phase { IsInPhase plan.now.channels actor turn.firing turn.phase }
     requires low { turn.phase < MAX_PHASES }
     requires few { turn.firing + n ≤ MAX_FIRINGS_PER_ACTOR }
-    requires same { length pool.old.chains ≡ length layout.now.channels }
-    requires peaked { length peaks.old ≡ length layout.now.channels }
-    requires enough { Suffices layout.now actor turn.firing n pool.old tokens.now }
-    requires all { length tokens.now ≡ gifts_of layout.now.channels actor turn.firing n }
+    requires same { length pool.old.chains ≡ length plan.now.channels }
+    requires peaked { length peaks.old ≡ length plan.now.channels }
+    requires enough { Suffices plan.now actor turn.firing n pool.old tokens.now }
+    requires all { length tokens.now ≡ gifts_of plan.now.channels actor turn.firing n }
     requires partition { IsPartition pool.old }
-    ensures cells { pool.new ≡ pool_after layout.now actor turn.firing n pool.old tokens.now }
-    ensures peaks { peaks.new ≡ peaks_after layout.now actor turn.firing n pool.old tokens.now peaks.old }
+    ensures cells { pool.new ≡ pool_after plan.now actor turn.firing n pool.old tokens.now }
+    ensures peaks { peaks.new ≡ peaks_after plan.now actor turn.firing n pool.old tokens.now peaks.old }
     ensures same { length pool.new.chains ≡ length pool.old.chains }
     ensures peaked { length peaks.new ≡ length peaks.old }
 {
     let mut next = turn;
     let mut at = 0;
     for _firing in 0..n {
-        let end = at + gift_of(layout, actor, next);
-        fire_once(layout, pool, peaks, actor, next, &tokens[at..end]);
-        next = turn_after(layout, actor, next);
+        let end = at + gift_of(plan, actor, next);
+        fire_once(plan, pool, peaks, actor, next, &tokens[at..end]);
+        next = turn_after(plan, actor, next);
         at = end;
     }
 }

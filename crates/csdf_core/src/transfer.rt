@@ -8,36 +8,36 @@ ghost use Rattle.csdf_core.specs.Rows.{need, gift};
 ghost use Rattle.csdf_core.specs.Ports.{inputs_at, outputs_at, take_at, give_at, tokens_in, tokens_at};
 ghost use Rattle.csdf_core.specs.Ports.{takes_over, taken_over, EnoughOver, puts_over, raise_over};
 
-use crate::layout::Layout;
+use crate::plan::Plan;
 use crate::turn::Turn;
 use csdf_pool::Pool;
 
 /// How many tokens the actor's firing takes.
-pub(crate) fn need_of(layout: &Layout, actor: u32, turn: Turn) -> usize
-    requires actor { actor < length layout.now.sources }
-    requires in_phase { IsInPhase layout.now.channels actor turn.firing turn.phase }
-    ensures value { result ≡ need actor turn.firing layout.now.channels }
+pub(crate) fn need_of(plan: &Plan, actor: u32, turn: Turn) -> usize
+    requires actor { actor < length plan.now.sources }
+    requires in_phase { IsInPhase plan.now.channels actor turn.firing turn.phase }
+    ensures value { result ≡ need actor turn.firing plan.now.channels }
     ensures small { result ≤ 8192 }
 {
-    let inputs = layout.inputs(actor);
+    let inputs = plan.inputs(actor);
     let mut sum = 0;
     for channel in inputs {
-        sum += layout.takes(*channel, turn) as usize;
+        sum += plan.takes(*channel, turn) as usize;
     }
     sum
 }
 
 /// How many tokens the actor's firing gives.
-pub(crate) fn gift_of(layout: &Layout, actor: u32, turn: Turn) -> usize
-    requires actor { actor < length layout.now.sources }
-    requires in_phase { IsInPhase layout.now.channels actor turn.firing turn.phase }
-    ensures value { result ≡ gift actor turn.firing layout.now.channels }
+pub(crate) fn gift_of(plan: &Plan, actor: u32, turn: Turn) -> usize
+    requires actor { actor < length plan.now.sources }
+    requires in_phase { IsInPhase plan.now.channels actor turn.firing turn.phase }
+    ensures value { result ≡ gift actor turn.firing plan.now.channels }
     ensures small { result ≤ 8192 }
 {
-    let outputs = layout.outputs(actor);
+    let outputs = plan.outputs(actor);
     let mut sum = 0;
     for channel in outputs {
-        sum += layout.gives(*channel, turn) as usize;
+        sum += plan.gives(*channel, turn) as usize;
     }
     sum
 }
@@ -72,31 +72,31 @@ pub(crate) fn put_tokens(pool: &mut Pool, channel: u32, tokens: &[i32])
 
 /// Takes the tokens of the firing out, the inputs in file order, into the front of the slice.
 pub(crate) fn take_inputs(
-    layout: &Layout,
+    plan: &Plan,
     pool: &mut Pool,
     actor: u32,
     turn: Turn,
     into: &mut [i32],
 ) -> usize
-    requires actor { actor < length layout.now.sources }
-    requires in_phase { IsInPhase layout.now.channels actor turn.firing turn.phase }
-    requires same { length pool.old.chains ≡ length layout.now.channels }
-    requires enough { EnoughOver (take_at layout.now.channels turn.firing) (inputs_at layout.now.channels actor) (tokens_in pool.old) }
-    requires room { need actor turn.firing layout.now.channels ≤ length into.old }
+    requires actor { actor < length plan.now.sources }
+    requires in_phase { IsInPhase plan.now.channels actor turn.firing turn.phase }
+    requires same { length pool.old.chains ≡ length plan.now.channels }
+    requires enough { EnoughOver (take_at plan.now.channels turn.firing) (inputs_at plan.now.channels actor) (tokens_in pool.old) }
+    requires room { need actor turn.firing plan.now.channels ≤ length into.old }
     requires partition { IsPartition pool.old }
-    ensures count { result ≡ need actor turn.firing layout.now.channels }
+    ensures count { result ≡ need actor turn.firing plan.now.channels }
     ensures answer { into.new
-        ≡ taken_over (take_at layout.now.channels turn.firing) (inputs_at layout.now.channels actor) (tokens_in pool.old) ++ drop result into.old }
-    ensures left { tokens_in pool.new ≡ takes_over (take_at layout.now.channels turn.firing) (inputs_at layout.now.channels actor) (tokens_in pool.old) }
-    ensures cells { pool.new ≡ after_read layout.now actor turn.firing pool.old }
+        ≡ taken_over (take_at plan.now.channels turn.firing) (inputs_at plan.now.channels actor) (tokens_in pool.old) ++ drop result into.old }
+    ensures left { tokens_in pool.new ≡ takes_over (take_at plan.now.channels turn.firing) (inputs_at plan.now.channels actor) (tokens_in pool.old) }
+    ensures cells { pool.new ≡ after_read plan.now actor turn.firing pool.old }
     ensures partition { IsPartition pool.new }
     ensures size { pool.new.size ≡ pool.old.size }
     ensures same { length pool.new.chains ≡ length pool.old.chains }
 {
-    let inputs = layout.inputs(actor);
+    let inputs = plan.inputs(actor);
     let mut at = 0;
     for channel in inputs {
-        let n = layout.takes(*channel, turn) as usize;
+        let n = plan.takes(*channel, turn) as usize;
         take_tokens(pool, *channel, &mut into[at..at + n]);
         at += n;
     }
@@ -104,36 +104,36 @@ pub(crate) fn take_inputs(
 }
 
 /// Puts the tokens of the firing in, the outputs in file order.
-pub(crate) fn put_outputs(layout: &Layout, pool: &mut Pool, actor: u32, turn: Turn, tokens: &[i32])
-    requires actor { actor < length layout.now.sources }
-    requires in_phase { IsInPhase layout.now.channels actor turn.firing turn.phase }
-    requires same { length pool.old.chains ≡ length layout.now.channels }
-    requires all { gift actor turn.firing layout.now.channels ≡ length tokens.now }
+pub(crate) fn put_outputs(plan: &Plan, pool: &mut Pool, actor: u32, turn: Turn, tokens: &[i32])
+    requires actor { actor < length plan.now.sources }
+    requires in_phase { IsInPhase plan.now.channels actor turn.firing turn.phase }
+    requires same { length pool.old.chains ≡ length plan.now.channels }
+    requires all { gift actor turn.firing plan.now.channels ≡ length tokens.now }
     requires room { length tokens.now ≤ length pool.old.free }
     requires partition { IsPartition pool.old }
-    ensures put { tokens_in pool.new ≡ puts_over (give_at layout.now.channels turn.firing) (outputs_at layout.now.channels actor) (tokens_in pool.old) tokens.now }
-    ensures cells { pool.new ≡ after_write layout.now actor turn.firing pool.old tokens.now }
+    ensures put { tokens_in pool.new ≡ puts_over (give_at plan.now.channels turn.firing) (outputs_at plan.now.channels actor) (tokens_in pool.old) tokens.now }
+    ensures cells { pool.new ≡ after_write plan.now actor turn.firing pool.old tokens.now }
     ensures partition { IsPartition pool.new }
     ensures size { pool.new.size ≡ pool.old.size }
     ensures same { length pool.new.chains ≡ length pool.old.chains }
 {
-    let outputs = layout.outputs(actor);
+    let outputs = plan.outputs(actor);
     let mut at = 0;
     for channel in outputs {
-        let n = layout.gives(*channel, turn) as usize;
+        let n = plan.gives(*channel, turn) as usize;
         put_tokens(pool, *channel, &tokens[at..at + n]);
         at += n;
     }
 }
 
 /// Raises the peaks of the actor's outputs to their lengths.
-pub(crate) fn raise_peaks(layout: &Layout, pool: &Pool, peaks: &mut [u32], actor: u32)
-    requires actor { actor < length layout.now.sources }
-    requires same { length pool.now.chains ≡ length layout.now.channels }
-    requires peaked { length peaks.old ≡ length layout.now.channels }
-    ensures { peaks.new ≡ raise_over (outputs_at layout.now.channels actor) (tokens_in pool.now) peaks.old }
+pub(crate) fn raise_peaks(plan: &Plan, pool: &Pool, peaks: &mut [u32], actor: u32)
+    requires actor { actor < length plan.now.sources }
+    requires same { length pool.now.chains ≡ length plan.now.channels }
+    requires peaked { length peaks.old ≡ length plan.now.channels }
+    ensures { peaks.new ≡ raise_over (outputs_at plan.now.channels actor) (tokens_in pool.now) peaks.old }
 {
-    let outputs = layout.outputs(actor);
+    let outputs = plan.outputs(actor);
     for channel in outputs {
         let c = *channel as usize;
         peaks[c] = peaks[c].max(pool.len(*channel));

@@ -3,7 +3,7 @@
 ghost use Rattle.std.specs.Prelude.{◌≡◌, ◌+◌, ◌<◌, ◌≤◌, length};
 ghost use Rattle.csdf_core.specs.Phases.{IsInPhase};
 
-use crate::layout::Layout;
+use crate::plan::Plan;
 use csdf_model::{MAX_FIRINGS_PER_ACTOR, MAX_PHASES};
 
 /// A firing of an actor, by its number, and the phase that it is in.
@@ -14,16 +14,16 @@ pub(crate) struct Turn {
 }
 
 /// The actor's firing after this one: after the last phase comes the first.
-pub(crate) fn turn_after(layout: &Layout, actor: u32, turn: Turn) -> Turn
-    requires actor { actor < length layout.now.sources }
-    requires in_phase { IsInPhase layout.now.channels actor turn.firing turn.phase }
+pub(crate) fn turn_after(plan: &Plan, actor: u32, turn: Turn) -> Turn
+    requires actor { actor < length plan.now.sources }
+    requires in_phase { IsInPhase plan.now.channels actor turn.firing turn.phase }
     requires low { turn.phase < MAX_PHASES }
     requires few { turn.firing ≤ MAX_FIRINGS_PER_ACTOR }
     ensures firing { result.firing ≡ turn.firing + 1 }
-    ensures in_phase { IsInPhase layout.now.channels actor (turn.firing + 1) result.phase }
+    ensures in_phase { IsInPhase plan.now.channels actor (turn.firing + 1) result.phase }
     ensures low { result.phase < MAX_PHASES }
 {
-    let phases = layout.phases(actor);
+    let phases = plan.phases(actor);
     let next = turn.phase + 1;
     let phase = if next >= phases { 0 } else { next };
     Turn {
@@ -33,16 +33,16 @@ pub(crate) fn turn_after(layout: &Layout, actor: u32, turn: Turn) -> Turn
 }
 
 /// The actor's firing n firings after this one.
-pub(crate) fn turn_ahead(layout: &Layout, actor: u32, turn: Turn, n: u32) -> Turn
-    requires actor { actor < length layout.now.sources }
-    requires in_phase { IsInPhase layout.now.channels actor turn.firing turn.phase }
+pub(crate) fn turn_ahead(plan: &Plan, actor: u32, turn: Turn, n: u32) -> Turn
+    requires actor { actor < length plan.now.sources }
+    requires in_phase { IsInPhase plan.now.channels actor turn.firing turn.phase }
     requires low { turn.phase < MAX_PHASES }
     requires few { turn.firing + n ≤ MAX_FIRINGS_PER_ACTOR }
     ensures firing { result.firing ≡ turn.firing + n }
-    ensures in_phase { IsInPhase layout.now.channels actor result.firing result.phase }
+    ensures in_phase { IsInPhase plan.now.channels actor result.firing result.phase }
     ensures low { result.phase < MAX_PHASES }
 {
-    let phases = layout.phases(actor);
+    let phases = plan.phases(actor);
     // Most actors have one phase, and then nothing is divided.
     let phase = if phases == 1 {
         0

@@ -9,7 +9,7 @@ use Rattle.csdf_analysis.specs.Acceptance.{Accepted, IsAccepted}
 use Rattle.csdf_core.specs.Moves.{Move}
 use Rattle.csdf_core.specs.Moves.{Begin, Read, Write, Finish}
 use Rattle.csdf_core.specs.Plan.{Plan, HasAmpleCells}
-use Rattle.csdf_core.specs.Layout.{is_source_kernel}
+use Rattle.csdf_core.specs.Planned.{is_source_kernel}
 use Rattle.csdf_core.specs.State.{State, Present, present, opening}
 use Rattle.csdf_core.specs.Step.{IsQuiet, is_stopped, is_reached, begun_count, count, refusal, answer, accepted, state_after}
 use Rattle.csdf_core.proofs.FitLemmas.{IsReached, reached_accepted, reached_all}

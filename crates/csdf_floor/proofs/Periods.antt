@@ -11,7 +11,7 @@ use Rattle.csdf_analysis.specs.Period.{CanFire, IsSchedule, counts_after, fired 
 use Rattle.csdf_analysis.proofs.CountLemmas.{fired_length, fired_same, fired_other, none_at}
 use Rattle.csdf_analysis.proofs.PeriodLemmas.{IsFed, able_of, fed_first, fed_fired, after_more}
 use Rattle.csdf_core.specs.Plan.{Plan}
-use Rattle.csdf_core.specs.Layout.{is_source_kernel}
+use Rattle.csdf_core.specs.Planned.{is_source_kernel}
 use Rattle.csdf_core.specs.State.{State, present, opening}
 use Rattle.csdf_core.specs.Step.{count, given, is_source}
 use Rattle.csdf_floor.specs.Journal.{Program, program_for}

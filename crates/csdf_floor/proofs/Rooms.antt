@@ -33,7 +33,7 @@ use Rattle.csdf_model.specs.Graph as graph
 use Rattle.csdf_analysis.specs.Acceptance.{Accepted, IsAccepted}
 use Rattle.csdf_analysis.specs.Laws.{IsWithinAll}
 use Rattle.csdf_analysis.specs.Repetition.{AreFirings, Balances, IsBalanced, IsLeastRepetition, IsRepetition}
-use Rattle.csdf_core.specs.Layout.{is_source_kernel, with_capacity}
+use Rattle.csdf_core.specs.Planned.{is_source_kernel, with_capacity}
 use Rattle.csdf_floor.proofs.Works.{playable_program}
 use Rattle.csdf_floor.proofs.Bounds.{Within, within_end, faithful_end, idle_all}
 use Rattle.csdf_floor.proofs.Agreement.{IsAgreed, at_channel, both_agreed, faithful_alike, inputs_alike, given_alike, of_alike}

@@ -15,13 +15,13 @@ use Rattle.csdf_analysis.specs.Acceptance.{Accepted, IsAccepted}
 use Rattle.csdf_analysis.specs.Repetition.{IsRepetition}
 use Rattle.csdf_analysis.proofs.BoundLemmas.{firing_fits, phases_within}
 use Rattle.csdf_kernel.specs.Value.{HasFilterInRange}
-use Rattle.csdf_core.specs.Layout.{is_source_kernel}
+use Rattle.csdf_core.specs.Planned.{is_source_kernel}
 use Rattle.csdf_core.specs.Plan.{Channel, gives_of, to_at}
 use Rattle.csdf_core.specs.Ports.{give_at, outputs_at}
 use Rattle.csdf_core.specs.Step.{producer}
 use Rattle.csdf_core.specs.Playable.{IsPlayable}
 use Rattle.csdf_core.proofs.Setups.{playable_setup}
-use Rattle.csdf_core.proofs.LayoutLemmas.{seen_at}
+use Rattle.csdf_core.proofs.PlanLemmas.{seen_at}
 use Rattle.csdf_floor.specs.Journal.{program_for}
 use Rattle.std.proofs.lemmas.Bool.Decides.{eqb_tells, leb_tells}
 use Rattle.csdf_floor.specs.Work.{AreFeeds, FewInThousand, HasFewFirings, IsFeed, feed_of, Work, IsWork, program, feeds_in}

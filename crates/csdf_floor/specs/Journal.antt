@@ -10,7 +10,7 @@ use Rattle.csdf_core.specs.declared.stage.Stage.TheVariants.{Idle}
 use Rattle.csdf_core.specs.Moves.{Move}
 use Rattle.csdf_core.specs.Moves.{Begin, Read, Write, Finish, Close}
 use Rattle.csdf_core.specs.Plan.{Channel, Plan, gives_of}
-use Rattle.csdf_core.specs.Layout.{plan_for}
+use Rattle.csdf_core.specs.Planned.{plan_for}
 use Rattle.csdf_core.specs.State.{State, present, opening}
 use Rattle.csdf_core.specs.Step.{Reply, count, stage, given, is_source, is_over, producer, refusal, answer, after, replies_of, state_after}
 

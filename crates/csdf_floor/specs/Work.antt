@@ -6,7 +6,7 @@ use Rattle.csdf_model.specs.declared.parts.Kernel.{Kernel}
 use Rattle.csdf_model.specs.declared.parts.Kernel.TheVariants as kernel
 use Rattle.csdf_model.specs.Graph.{Graph, Actor}
 use Rattle.csdf_analysis.specs.Acceptance.{Accepted, IsAccepted}
-use Rattle.csdf_core.specs.Layout.{is_source_kernel}
+use Rattle.csdf_core.specs.Planned.{is_source_kernel}
 use Rattle.csdf_floor.specs.Journal.{Program, program_for}
 
 -- so many periods of an accepted graph over the contents of its sources' files, and a limit on all firings where there is one

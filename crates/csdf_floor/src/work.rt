@@ -5,7 +5,7 @@ ghost use Rattle.csdf_model.specs.declared.parts.Kernel.TheVariants.{Sink};
 ghost use Rattle.csdf_model.specs.Graph.{channel_view};
 ghost use Rattle.csdf_model.specs.Rates.{total};
 ghost use Rattle.csdf_core.specs.Headline.{capacity_of};
-ghost use Rattle.csdf_core.specs.Layout.{is_source_kernel, plan_for, with_capacity};
+ghost use Rattle.csdf_core.specs.Planned.{is_source_kernel, plan_for, with_capacity};
 ghost use Rattle.csdf_core.specs.Plan.{consume_at, produce_at, to_at};
 ghost use Rattle.csdf_core.specs.Ports.{give_at, inputs_at, outputs_at, take_at};
 ghost use Rattle.csdf_core.specs.Rows.{gift, need};

@@ -11,7 +11,7 @@ use Rattle.csdf_bytes.specs.declared.tokens.TokenFault.{TokenFault}
 use Rattle.csdf_bytes.specs.declared.tokens.TokenFault.TheVariants.{TooMany}
 use Rattle.csdf_model.specs.Graph.{Actor, Graph, numbers_from}
 use Rattle.csdf_bytes.specs.TokenText.{collected, entry_of, no_more_than, token_text, tokens_in, tokens_up_to, words_from}
-use Rattle.csdf_core.specs.Layout.{is_source_kernel}
+use Rattle.csdf_core.specs.Planned.{is_source_kernel}
 use Rattle.csdf_core.specs.Streams.{IsPrefix}
 use Rattle.csdf_floor.specs.declared.ending.Ending.{Ending}
 use Rattle.csdf_floor.specs.declared.ending.Ending.TheVariants.{Complete, Stopped, Starved, Dry}

@@ -11,7 +11,7 @@ use Rattle.csdf_bytes.specs.TokenText.{token_text, tokens_in}
 use Rattle.csdf_analysis.specs.Acceptance.{Accepted, IsAccepted, IsNotAccepted}
 use Rattle.csdf_analysis.specs.declared.room.Room.{Room}
 use Rattle.csdf_analysis.specs.Room.{IsWithRoom}
-use Rattle.csdf_core.specs.Layout.{is_source_kernel}
+use Rattle.csdf_core.specs.Planned.{is_source_kernel}
 use Rattle.csdf_core.specs.Streams.{IsPrefix}
 use Rattle.csdf_floor.specs.declared.ending.Ending.{Ending}
 use Rattle.csdf_floor.specs.declared.ending.Ending.TheVariants.{Complete, Stopped, Starved, Dry}

@@ -4,7 +4,7 @@ ghost use Rattle.std.specs.Prelude.{◌≡◌, ◌++◌, ◌∷◌, ◌≤◌, [
 ghost use Rattle.csdf_model.specs.Graph.{actor_view};
 ghost use Rattle.csdf_bytes.specs.TokenText.{token_line, token_text};
 ghost use Rattle.csdf_analysis.specs.Room.{HasSomePeriod};
-ghost use Rattle.csdf_core.specs.Layout.{is_source_kernel};
+ghost use Rattle.csdf_core.specs.Planned.{is_source_kernel};
 ghost use Rattle.csdf_run.specs.Texts.{AreTextsOf, IsFeedFault, IsGraphRefusal, IsReadFault, IsRefusal, MayGoOn, MayGraphGoOn, TellOutcome};
 ghost use Rattle.csdf_run.specs.Texts.{TellGraphRun, TellGraphSameInAnyRoom, TellRun, TellSameInAnyRoom, TellSequentialGraphRun, TellSequentialRun};
 ghost use Rattle.csdf_run.specs.Texts.{feed_in, feeds_from, sink_texts, source_count, texts_in, work_for};

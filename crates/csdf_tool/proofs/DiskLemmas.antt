@@ -7,7 +7,7 @@ use Rattle.std.specs.Path.{path_join}
 use Rattle.std.proofs.lemmas.List.{append-nil, length_push, map-append, take_more}
 use Rattle.std.proofs.lemmas.List.Elements.{filter-append}
 use Rattle.csdf_model.specs.Graph.{Actor, Graph}
-use Rattle.csdf_core.specs.Layout.{is_source_kernel}
+use Rattle.csdf_core.specs.Planned.{is_source_kernel}
 use Rattle.csdf_bytes.specs.declared.intake.InputFault.{InputFault}
 use Rattle.csdf_tool.specs.Acts.{Act, Asks, IsRead, OnlyReads, Read}
 use Rattle.csdf_tool.specs.GraphFiles.{graph_reads, is_input}

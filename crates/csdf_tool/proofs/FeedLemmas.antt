@@ -12,7 +12,7 @@ use Rattle.csdf_model.specs.Graph.{Actor, Graph}
 use Rattle.csdf_analysis.specs.declared.fault.AcceptFault.{AcceptFault}
 use Rattle.csdf_analysis.specs.declared.fault.AcceptFault.TheVariants as accept
 use Rattle.csdf_analysis.specs.declared.room.Room.{Room}
-use Rattle.csdf_core.specs.Layout.{is_source_kernel}
+use Rattle.csdf_core.specs.Planned.{is_source_kernel}
 use Rattle.csdf_floor.specs.declared.fault.RunFault.{RunFault}
 use Rattle.csdf_floor.specs.declared.fault.RunFault.TheVariants as run
 use Rattle.csdf_run.specs.declared.texts.TextsFault.{TextsFault}

@@ -6,7 +6,7 @@ use Rattle.clap.specs.Words.{Text}
 use Rattle.csdf_model.specs.Graph.{Actor, Graph}
 use Rattle.csdf_graph.specs.GraphText.{IsGraphOf}
 use Rattle.csdf_graph.specs.declared.fault.GraphFault.{GraphFault}
-use Rattle.csdf_core.specs.Layout.{is_source_kernel}
+use Rattle.csdf_core.specs.Planned.{is_source_kernel}
 use Rattle.csdf_answers.specs.Explained.{IsExplained}
 use Rattle.csdf_answers.specs.TokenNotes.{token_note}
 use Rattle.csdf_answers.specs.declared.token_note.TokenFile.{TokenFile}

@@ -11,7 +11,7 @@ use Rattle.csdf_bytes.specs.declared.tokens.TokenFault.{TokenFault}
 use Rattle.csdf_bytes.specs.declared.tokens.TokenFault.TheVariants as token
 use Rattle.csdf_model.specs.Graph.{Actor, Graph}
 use Rattle.csdf_graph.specs.GraphText.{IsGraphOf}
-use Rattle.csdf_core.specs.Layout.{is_source_kernel}
+use Rattle.csdf_core.specs.Planned.{is_source_kernel}
 use Rattle.csdf_floor.specs.declared.fault.RunFault.{RunFault}
 use Rattle.csdf_floor.specs.declared.fault.RunFault.TheVariants as run
 use Rattle.csdf_run.specs.declared.texts.Texts.{Texts}

@@ -3,7 +3,7 @@
 ghost use Rattle.std.specs.Prelude.{◌≡◌, ◌≢◌, ◌⊎◌, ℕ, List, [], true, Err, is_some, length, map, option_map, option_to_list, slice_index_or, IfErr, IfOk, OnErr, OnOk};
 ghost use Rattle.csdf_model.specs.Graph.{actor_view};
 ghost use Rattle.csdf_graph.specs.GraphText.{IsGraphOf};
-ghost use Rattle.csdf_core.specs.Layout.{is_source_kernel};
+ghost use Rattle.csdf_core.specs.Planned.{is_source_kernel};
 ghost use Rattle.csdf_run.specs.Texts.{TellGraphRun, TellSequentialGraphRun, source_count, texts_in};
 ghost use Rattle.csdf_floor.specs.Work.{is_sink_kernel};
 ghost use Rattle.csdf_journal.specs.View.{is_kept};

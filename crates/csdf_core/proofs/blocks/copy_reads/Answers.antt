@@ -7,7 +7,7 @@ use Rattle.csdf_core.proofs.blocks.copy_reads.Goals as goal
 
 pub copy_block-requires-clause-enough : goal.copy_block-requires-clause-enough
 copy_block-requires-clause-enough c =
-    let cs = c.args.layout.now.channels in
+    let cs = c.args.plan.now.channels in
     let a : ℕ = c.args.actor in
     let k : ℕ = c.args.turn.firing in
     let n : ℕ = c.args.n in
@@ -16,11 +16,11 @@ copy_block-requires-clause-enough c =
     (hold_same (tokens_in c.args.pool.now) (takes_at cs k n) (λ _. needs_of cs a k n) (inputs_at cs a) (one_needs cs a k n one) c.requires.enough)
 
 pub copy_block-requires-clause-none : goal.copy_block-requires-clause-none
-copy_block-requires-clause-none c = λ none. c.requires.all ∙ needs_none c.args.layout.now.channels c.args.actor c.args.turn.firing c.args.n none
+copy_block-requires-clause-none c = λ none. c.requires.all ∙ needs_none c.args.plan.now.channels c.args.actor c.args.turn.firing c.args.n none
 
 pub returns : goal.returns
 returns c =
-    let cs = c.args.layout.now.channels in
+    let cs = c.args.plan.now.channels in
     let a : ℕ = c.args.actor in
     let k : ℕ = c.args.turn.firing in
     let n : ℕ = c.args.n in

@@ -5,7 +5,7 @@ use Rattle.csdf_core.proofs.blocks.given_in_all.Given as goal
 
 abbrev pub invariant-loop-channel : goal.invariant-loop-channel
 invariant-loop-channel l = record {
-  told : l.sum + sum_by (gives_at l.layout.channels l.turn.firing l.n) (drop l.channel-index l.outputs)
-      ≡ sum_by (gives_at l.layout.channels l.turn.firing l.n) l.outputs;
+  told : l.sum + sum_by (gives_at l.plan.channels l.turn.firing l.n) (drop l.channel-index l.outputs)
+      ≡ sum_by (gives_at l.plan.channels l.turn.firing l.n) l.outputs;
   small : l.sum ≤ 1048576000 * l.channel-index;
 }

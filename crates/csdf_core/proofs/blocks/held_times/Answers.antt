@@ -16,7 +16,7 @@ loop-channel-preserved c = (
 
 pub returns-clause-greatest : goal.returns-clause-greatest
 returns-clause-greatest c =
-    let held = λ (n d : ℕ). n * take_at c.args.layout.now.channels c.args.turn.firing d ≤ length (tokens_at (tokens_in c.args.pool.now) d) in
+    let held = λ (n d : ℕ). n * take_at c.args.plan.now.channels c.args.turn.firing d ≤ length (tokens_at (tokens_in c.args.pool.now) d) in
     λ n le all.
     let here : AllByRecursion (held n) c.inputs-inputs.result.now =
     subst (AllByRecursion (held n)) (sym c.inputs-inputs.ensures.value) all in

@@ -7,5 +7,5 @@ abbrev pub invariant-loop-channel : goal.invariant-loop-channel
 invariant-loop-channel l = (l.n ≤ l.most)
     × ((m : ℕ) → m ≤ l.most
     → ((j : ℕ) → j < l.channel-index
-    → m * take_at l.layout.channels l.turn.firing (get_or l.inputs j 0) ≤ length (tokens_at (tokens_in l.pool) (get_or l.inputs j 0)))
+    → m * take_at l.plan.channels l.turn.firing (get_or l.inputs j 0) ≤ length (tokens_at (tokens_in l.pool) (get_or l.inputs j 0)))
     → m ≤ l.n)

@@ -17,7 +17,7 @@ loop-channel-preserved c = (
 
 pub returns-clause-greatest : goal.returns-clause-greatest
 returns-clause-greatest c =
-    let held = λ (n d : ℕ). length (tokens_at (tokens_in c.args.pool.now) d) + n * give_at c.args.layout.now.channels c.args.turn.firing d ≤ capacity_at c.args.layout.now.channels d in
+    let held = λ (n d : ℕ). length (tokens_at (tokens_in c.args.pool.now) d) + n * give_at c.args.plan.now.channels c.args.turn.firing d ≤ capacity_at c.args.plan.now.channels d in
     λ n le all.
     let here : AllByRecursion (held n) c.outputs-outputs.result.now =
     subst (AllByRecursion (held n)) (sym c.outputs-outputs.ensures.value) all in

@@ -8,6 +8,6 @@ abbrev pub invariant-loop-channel : goal.invariant-loop-channel
 invariant-loop-channel l = (l.n ≤ l.most)
     × ((m : ℕ) → m ≤ l.most
     → ((j : ℕ) → j < l.channel-index
-    → length (tokens_at (tokens_in l.pool) (get_or l.outputs j 0)) + m * give_at l.layout.channels l.turn.firing (get_or l.outputs j 0)
-    ≤ capacity_at l.layout.channels (get_or l.outputs j 0))
+    → length (tokens_at (tokens_in l.pool) (get_or l.outputs j 0)) + m * give_at l.plan.channels l.turn.firing (get_or l.outputs j 0)
+    ≤ capacity_at l.plan.channels (get_or l.outputs j 0))
     → m ≤ l.n)

@@ -8,10 +8,10 @@ use Rattle.csdf_core.proofs.blocks.taken_in_all.Goals as goal
 
 pub returns : goal.returns
 returns c =
-    sum_done (takes_at c.args.layout.now.channels c.args.turn.firing c.args.n) c.inputs-inputs.result.now c.loop-channel.channel-index c.loop-channel.sum
+    sum_done (takes_at c.args.plan.now.channels c.args.turn.firing c.args.n) c.inputs-inputs.result.now c.loop-channel.channel-index c.loop-channel.sum
     c.loop-channel-test.false c.loop-channel.invariant.told
-    ∙ ap (sum_by (takes_at c.args.layout.now.channels c.args.turn.firing c.args.n)) c.inputs-inputs.ensures.value
-    ∙ needs_sum c.args.layout.now.channels c.args.actor c.args.turn.firing c.args.n
+    ∙ ap (sum_by (takes_at c.args.plan.now.channels c.args.turn.firing c.args.n)) c.inputs-inputs.ensures.value
+    ∙ needs_sum c.args.plan.now.channels c.args.actor c.args.turn.firing c.args.n
 
 pub loop-channel-preserved : goal.loop-channel-preserved
 loop-channel-preserved c = grind (arith, common_steps)

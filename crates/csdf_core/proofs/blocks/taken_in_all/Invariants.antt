@@ -5,7 +5,7 @@ use Rattle.csdf_core.proofs.blocks.taken_in_all.Given as goal
 
 abbrev pub invariant-loop-channel : goal.invariant-loop-channel
 invariant-loop-channel l = record {
-  told : l.sum + sum_by (takes_at l.layout.channels l.turn.firing l.n) (drop l.channel-index l.inputs)
-      ≡ sum_by (takes_at l.layout.channels l.turn.firing l.n) l.inputs;
+  told : l.sum + sum_by (takes_at l.plan.channels l.turn.firing l.n) (drop l.channel-index l.inputs)
+      ≡ sum_by (takes_at l.plan.channels l.turn.firing l.n) l.inputs;
   small : l.sum ≤ 1048576000 * l.channel-index;
 }

@@ -6,4 +6,4 @@ use Rattle.csdf_core.proofs.feedback.hold_asked.Given as goal
 -- the inputs so far hold their amounts
 abbrev pub invariant-loop-channel : goal.invariant-loop-channel
 invariant-loop-channel l = (j : ℕ) → j < l.channel-index
-    → asks_at l.layout.channels l.own l.turn.firing l.n (get_or l.inputs j 0) ≤ length (tokens_at (tokens_in l.pool) (get_or l.inputs j 0))
+    → asks_at l.plan.channels l.own l.turn.firing l.n (get_or l.inputs j 0) ≤ length (tokens_at (tokens_in l.pool) (get_or l.inputs j 0))

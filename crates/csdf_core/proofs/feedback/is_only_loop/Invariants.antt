@@ -4,4 +4,4 @@ use Rattle.csdf_core.proofs.feedback.is_only_loop.Given as goal
 
 -- the inputs so far that are not this one come from others
 abbrev pub invariant-loop-channel : goal.invariant-loop-channel
-invariant-loop-channel l = (j : ℕ) → j < l.channel-index → get_or l.inputs j 0 ≢ l.own → from_at l.layout.channels (get_or l.inputs j 0) ≢ l.actor
+invariant-loop-channel l = (j : ℕ) → j < l.channel-index → get_or l.inputs j 0 ≢ l.own → from_at l.plan.channels (get_or l.inputs j 0) ≢ l.actor

@@ -13,7 +13,7 @@ use Rattle.csdf_core.proofs.filling.filled_pool.Goals as goal
 
 pub loop-channel-init : goal.loop-channel-init
 loop-channel-init c =
-    let cs : List Channel = c.args.layout.now.channels in
+    let cs : List Channel = c.args.plan.now.channels in
     let count : c.channels.result ≡ length cs = c.channels.ensures.count in
     let chains = c.in_ok-pool.ensures.chains in
     let xs : List (List ℤ) = map (λ (d : Channel). d.initial) cs in
@@ -30,7 +30,7 @@ loop-channel-init c =
 
 pub loop-channel-preserved : goal.loop-channel-preserved
 loop-channel-preserved c =
-    let cs : List Channel = c.args.layout.now.channels in
+    let cs : List Channel = c.args.plan.now.channels in
     let xs : List (List ℤ) = map (λ (d : Channel). d.initial) cs in
     let i : ℕ = c.loop-channel.channel in
     let lt : i < length xs = (let t = c.loop-channel-test.true in let n = length-map cs (λ (d : Channel). d.initial) in
@@ -39,7 +39,7 @@ loop-channel-preserved c =
     let put = c.put_tokens.ensures in
     record {
       front = filled_more xs (tokens_in c.loop-channel.pool) (tokens_in c.put_tokens.new.pool) i c.initial.result.now lt old.front c.initial.ensures put.put;
-      rest = free_more xs i (length c.loop-channel.pool.free) (length c.put_tokens.new.pool.free) c.args.layout.now.cells c.initial.result.now lt
+      rest = free_more xs i (length c.loop-channel.pool.free) (length c.put_tokens.new.pool.free) c.args.plan.now.cells c.initial.result.now lt
           c.initial.ensures old.rest put.free;
       same = put.same ∙ old.same;
       shared_out = record { size = put.size ∙ old.shared_out.size; partition = put.partition };
@@ -48,7 +48,7 @@ loop-channel-preserved c =
 
 pub returns-clause-cells : goal.returns-clause-cells
 returns-clause-cells c =
-    let cs : List Channel = c.args.layout.now.channels in
+    let cs : List Channel = c.args.plan.now.channels in
     let xs : List (List ℤ) = map (λ (d : Channel). d.initial) cs in
     let count = c.channels-channel-end.ensures.count in
     let past : length xs ≤ c.loop-channel.channel = (let f = c.loop-channel-test.false in let n = length-map cs (λ (d : Channel). d.initial) in omega arith) in

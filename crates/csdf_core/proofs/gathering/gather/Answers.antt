@@ -9,14 +9,14 @@ use Rattle.csdf_core.proofs.gathering.gather.Goals as goal
 pub loop-place-init : goal.loop-place-init
 loop-place-init c = record {
   all = c.requires.all;
-  laid = none_laid c.args.layout.now.channels (inputs_at c.args.layout.now.channels c.args.actor) c.args.turn.firing c.args.n
+  laid = none_laid c.args.plan.now.channels (inputs_at c.args.plan.now.channels c.args.actor) c.args.turn.firing c.args.n
       (tokens_at (tokens_in c.args.pool.now)) c.args.into.now
-      (c.requires.all ∙ needed_is c.args.layout.now.channels c.args.actor c.args.turn.firing c.args.n);
+      (c.requires.all ∙ needed_is c.args.plan.now.channels c.args.actor c.args.turn.firing c.args.n);
 }
 
 pub loop-place-preserved : goal.loop-place-preserved
 loop-place-preserved c =
-    let cs = c.args.layout.now.channels in
+    let cs = c.args.plan.now.channels in
     let ins : List ℕ = inputs_at cs c.args.actor in
     let j : ℕ = c.loop-place.place in
     let k : ℕ = c.args.turn.firing in
@@ -34,7 +34,7 @@ loop-place-preserved c =
 
 pub returns : goal.returns
 returns c =
-    let cs = c.args.layout.now.channels in
+    let cs = c.args.plan.now.channels in
     let ins : List ℕ = inputs_at cs c.args.actor in
     all_laid cs ins c.args.turn.firing c.args.n (tokens_at (tokens_in c.args.pool.now)) c.loop-place.into
     (subst (λ (done : List ℕ). IsLaid cs ins done c.args.turn.firing c.args.n (tokens_at (tokens_in c.args.pool.now)) c.loop-place.into)

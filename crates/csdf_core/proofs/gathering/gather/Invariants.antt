@@ -7,7 +7,7 @@ use Rattle.csdf_core.proofs.gathering.gather.Given as goal
 -- the inputs so far are laid
 abbrev pub invariant-loop-place : goal.invariant-loop-place
 invariant-loop-place l = record {
-  all : length l.into ≡ needs_of l.layout.channels l.actor l.turn.firing l.n;
-  laid : IsLaid l.layout.channels (inputs_at l.layout.channels l.actor) (take l.place (inputs_at l.layout.channels l.actor)) l.turn.firing l.n
+  all : length l.into ≡ needs_of l.plan.channels l.actor l.turn.firing l.n;
+  laid : IsLaid l.plan.channels (inputs_at l.plan.channels l.actor) (take l.place (inputs_at l.plan.channels l.actor)) l.turn.firing l.n
       (tokens_at (tokens_in l.pool)) l.into;
 }

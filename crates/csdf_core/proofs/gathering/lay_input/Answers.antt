@@ -12,7 +12,7 @@ use Rattle.csdf_core.proofs.gathering.lay_input.Goals as goal
 
 pub loop-firing-preserved : goal.loop-firing-preserved
 loop-firing-preserved c =
-    let cs = c.args.layout.now.channels in
+    let cs = c.args.plan.now.channels in
     let ins : List ℕ = inputs_at cs c.args.actor in
     let j : ℕ = c.args.place in
     let k : ℕ = c.loop-firing.next.firing in
@@ -34,7 +34,7 @@ loop-firing-preserved c =
     c.loop-firing.invariant.slot.from_is c.loop-firing.invariant.slot.taken_is in
     record {
       firing = omega (arith, c.turn_after-after.ensures.firing, c.loop-firing.invariant.firing);
-      in_phase = subst (λ (x : ℕ). IsInPhase c.args.layout.now.channels c.args.actor x c.turn_after-after.result.phase) (sym c.turn_after-after.ensures.firing)
+      in_phase = subst (λ (x : ℕ). IsInPhase c.args.plan.now.channels c.args.actor x c.turn_after-after.result.phase) (sym c.turn_after-after.ensures.firing)
           c.turn_after-after.ensures.in_phase;
       low = c.turn_after-after.ensures.low;
       slot = c.slot_after-slot.ensures.slot;

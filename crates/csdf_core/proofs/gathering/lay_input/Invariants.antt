@@ -8,15 +8,15 @@ use Rattle.csdf_core.proofs.gathering.lay_input.Given as goal
 abbrev pub invariant-loop-firing : goal.invariant-loop-firing
 invariant-loop-firing l = record {
   firing : l.next.firing ≡ l.fn.turn.firing + l._firing;
-  in_phase : IsInPhase l.layout.channels l.actor l.next.firing l.next.phase;
+  in_phase : IsInPhase l.plan.channels l.actor l.next.firing l.next.phase;
   low : l.next.phase < 16;
-  slot : IsSlot l.layout.channels l.actor l.place l.next.firing l.slot.need l.slot.from l.slot.taken;
+  slot : IsSlot l.plan.channels l.actor l.place l.next.firing l.slot.need l.slot.from l.slot.taken;
   small : l.slot.need ≤ 8192;
   few : l.at ≤ 8192 * l._firing;
-  enough : takes_at l.layout.channels l.next.firing (l.n - l._firing) (get_or (inputs_at l.layout.channels l.actor) l.place 0) ≤ length l.tokens;
-  all : l.at + needs_of l.layout.channels l.actor l.next.firing (l.n - l._firing) ≡ length l.into;
-  laid : take l.at l.into ++ laid l.layout.channels (inputs_at l.layout.channels l.actor) (take l.place (inputs_at l.layout.channels l.actor))
-      (get_or (inputs_at l.layout.channels l.actor) l.place 0) l.next.firing (l.n - l._firing) l.tokens (drop l.at l.into) ≡ laid l.layout.channels
-      (inputs_at l.layout.channels l.actor) (take l.place (inputs_at l.layout.channels l.actor)) (get_or (inputs_at l.layout.channels l.actor) l.place 0)
-      l.fn.turn.firing l.n (tokens_at (tokens_in l.pool) (get_or (inputs_at l.layout.channels l.actor) l.place 0)) l.fn.into;
+  enough : takes_at l.plan.channels l.next.firing (l.n - l._firing) (get_or (inputs_at l.plan.channels l.actor) l.place 0) ≤ length l.tokens;
+  all : l.at + needs_of l.plan.channels l.actor l.next.firing (l.n - l._firing) ≡ length l.into;
+  laid : take l.at l.into ++ laid l.plan.channels (inputs_at l.plan.channels l.actor) (take l.place (inputs_at l.plan.channels l.actor))
+      (get_or (inputs_at l.plan.channels l.actor) l.place 0) l.next.firing (l.n - l._firing) l.tokens (drop l.at l.into) ≡ laid l.plan.channels
+      (inputs_at l.plan.channels l.actor) (take l.place (inputs_at l.plan.channels l.actor)) (get_or (inputs_at l.plan.channels l.actor) l.place 0)
+      l.fn.turn.firing l.n (tokens_at (tokens_in l.pool) (get_or (inputs_at l.plan.channels l.actor) l.place 0)) l.fn.into;
 }

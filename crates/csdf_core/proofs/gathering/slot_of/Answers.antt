@@ -8,7 +8,7 @@ use Rattle.csdf_core.proofs.gathering.slot_of.Goals as goal
 
 pub returns-clause-slot : goal.returns-clause-slot
 returns-clause-slot c =
-    let cs = c.args.layout.now.channels in
+    let cs = c.args.plan.now.channels in
     let k : ℕ = c.args.turn.firing in
     let ins : List ℕ = inputs_at cs c.args.actor in
     let before = c.taken_before.ensures ∙ ap (λ (ns : List ℕ). sum_by (take_at cs k) (take c.args.place ns)) c.inputs-inputs.ensures.value in

@@ -6,7 +6,7 @@ use Rattle.csdf_core.proofs.gathering.taken_before.Goals as goal
 
 pub returns : goal.returns
 returns c =
-    sum_done (take_at c.args.layout.now.channels c.args.turn.firing) c.args.numbers.now c.loop-channel.channel-index c.loop-channel.sum
+    sum_done (take_at c.args.plan.now.channels c.args.turn.firing) c.args.numbers.now c.loop-channel.channel-index c.loop-channel.sum
     c.loop-channel-test.false c.loop-channel.invariant.told
 
 pub loop-channel-preserved : goal.loop-channel-preserved

@@ -5,6 +5,6 @@ use Rattle.csdf_core.proofs.gathering.taken_before.Given as goal
 
 abbrev pub invariant-loop-channel : goal.invariant-loop-channel
 invariant-loop-channel l = record {
-  told : l.sum + sum_by (take_at l.layout.channels l.turn.firing) (drop l.channel-index l.numbers) ≡ sum_by (take_at l.layout.channels l.turn.firing) l.numbers;
+  told : l.sum + sum_by (take_at l.plan.channels l.turn.firing) (drop l.channel-index l.numbers) ≡ sum_by (take_at l.plan.channels l.turn.firing) l.numbers;
   small : l.sum ≤ 64 * l.channel-index;
 }

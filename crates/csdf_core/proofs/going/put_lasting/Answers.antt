@@ -9,15 +9,15 @@ use Rattle.csdf_core.proofs.going.put_lasting.Goals as goal
 pub loop-channel-init : goal.loop-channel-init
 loop-channel-init c =
     let outputs = c.outputs-outputs.ensures.value in
-    let all : sum_by (give_at c.args.layout.now.channels c.args.turn.firing) c.outputs-outputs.result.now ≡ c.gift_of-gift.result =
-    ap (sum_by (give_at c.args.layout.now.channels c.args.turn.firing)) outputs
-    ∙ gift_is c.args.actor c.args.turn.firing c.args.layout.now.channels ∙ sym c.gift_of-gift.ensures.value in
+    let all : sum_by (give_at c.args.plan.now.channels c.args.turn.firing) c.outputs-outputs.result.now ≡ c.gift_of-gift.result =
+    ap (sum_by (give_at c.args.plan.now.channels c.args.turn.firing)) outputs
+    ∙ gift_is c.args.actor c.args.turn.firing c.args.plan.now.channels ∙ sym c.gift_of-gift.ensures.value in
     record {
       same = c.requires.same;
       size = refl;
       all = omega (arith, all);
       room =
-          let lasts = ap (sum_by (lasts_at c.args.layout.now.channels c.args.own c.args.turn.firing c.args.n)) outputs in
+          let lasts = ap (sum_by (lasts_at c.args.plan.now.channels c.args.own c.args.turn.firing c.args.n)) outputs in
           omega (arith, lasts, c.requires.room);
       put = refl;
       partition = c.requires.partition;

@@ -9,19 +9,19 @@ use Rattle.csdf_core.proofs.readiness.first_full.Goals as goal
 
 pub returns-then-is_full : goal.returns-then-is_full
 returns-then-is_full c =
-    let len : length (tokens_in c.args.pool.now) ≡ length c.args.layout.now.channels = length-map c.args.pool.now.chains held_tokens ∙ c.requires.same in
-    find_here (full_at c.args.layout.now.channels c.args.actor c.args.turn.firing (tokens_in c.args.pool.now)) c.outputs-outputs.result.now
+    let len : length (tokens_in c.args.pool.now) ≡ length c.args.plan.now.channels = length-map c.args.pool.now.chains held_tokens ∙ c.requires.same in
+    find_here (full_at c.args.plan.now.channels c.args.actor c.args.turn.firing (tokens_in c.args.pool.now)) c.outputs-outputs.result.now
     c.loop-channel.channel-index 0 _ c.loop-channel-test.true (sym c.is_full.ensures ∙ c.if-is_full.true) c.loop-channel.invariant
-    ∙ ap (find (full_at c.args.layout.now.channels c.args.actor c.args.turn.firing (tokens_in c.args.pool.now))) c.outputs-outputs.ensures.value
-    ∙ first_full c.args.actor c.args.turn.firing c.args.layout.now.channels (tokens_in c.args.pool.now) len
+    ∙ ap (find (full_at c.args.plan.now.channels c.args.actor c.args.turn.firing (tokens_in c.args.pool.now))) c.outputs-outputs.ensures.value
+    ∙ first_full c.args.actor c.args.turn.firing c.args.plan.now.channels (tokens_in c.args.pool.now) len
 
 pub returns : goal.returns
 returns c =
-    let len : length (tokens_in c.args.pool.now) ≡ length c.args.layout.now.channels = length-map c.args.pool.now.chains held_tokens ∙ c.requires.same in
-    find_none (full_at c.args.layout.now.channels c.args.actor c.args.turn.firing (tokens_in c.args.pool.now)) c.outputs-outputs.result.now
+    let len : length (tokens_in c.args.pool.now) ≡ length c.args.plan.now.channels = length-map c.args.pool.now.chains held_tokens ∙ c.requires.same in
+    find_none (full_at c.args.plan.now.channels c.args.actor c.args.turn.firing (tokens_in c.args.pool.now)) c.outputs-outputs.result.now
     c.loop-channel.channel-index _ c.loop-channel-test.false c.loop-channel.invariant
-    ∙ ap (find (full_at c.args.layout.now.channels c.args.actor c.args.turn.firing (tokens_in c.args.pool.now))) c.outputs-outputs.ensures.value
-    ∙ first_full c.args.actor c.args.turn.firing c.args.layout.now.channels (tokens_in c.args.pool.now) len
+    ∙ ap (find (full_at c.args.plan.now.channels c.args.actor c.args.turn.firing (tokens_in c.args.pool.now))) c.outputs-outputs.ensures.value
+    ∙ first_full c.args.actor c.args.turn.firing c.args.plan.now.channels (tokens_in c.args.pool.now) len
 
 pub loop-channel-preserved : goal.loop-channel-preserved
 loop-channel-preserved c = grind (arith, common_steps)

@@ -8,15 +8,15 @@ use Rattle.csdf_core.proofs.several.fire_each.Given as goal
 abbrev pub invariant-loop-firing : goal.invariant-loop-firing
 invariant-loop-firing l = record {
   firing : l.next.firing ≡ l.fn.turn.firing + l._firing;
-  in_phase : IsInPhase l.layout.channels l.actor l.next.firing l.next.phase;
+  in_phase : IsInPhase l.plan.channels l.actor l.next.firing l.next.phase;
   low : l.next.phase < 16;
-  same : length l.pool.chains ≡ length l.layout.channels;
-  peaked : length l.peaks ≡ length l.layout.channels;
-  all : l.at + gifts_of l.layout.channels l.actor l.next.firing (l.n - l._firing) ≡ length l.tokens;
-  enough : Suffices l.layout l.actor l.next.firing (l.n - l._firing) l.pool (drop l.at l.tokens);
-  cells : pool_after l.layout l.actor l.next.firing (l.n - l._firing) l.pool (drop l.at l.tokens) ≡ pool_after l.layout l.actor l.fn.turn.firing l.n l.fn.pool
+  same : length l.pool.chains ≡ length l.plan.channels;
+  peaked : length l.peaks ≡ length l.plan.channels;
+  all : l.at + gifts_of l.plan.channels l.actor l.next.firing (l.n - l._firing) ≡ length l.tokens;
+  enough : Suffices l.plan l.actor l.next.firing (l.n - l._firing) l.pool (drop l.at l.tokens);
+  cells : pool_after l.plan l.actor l.next.firing (l.n - l._firing) l.pool (drop l.at l.tokens) ≡ pool_after l.plan l.actor l.fn.turn.firing l.n l.fn.pool
       l.tokens;
-  peaks : peaks_after l.layout l.actor l.next.firing (l.n - l._firing) l.pool (drop l.at l.tokens) l.peaks ≡ peaks_after l.layout l.actor l.fn.turn.firing l.n
+  peaks : peaks_after l.plan l.actor l.next.firing (l.n - l._firing) l.pool (drop l.at l.tokens) l.peaks ≡ peaks_after l.plan l.actor l.fn.turn.firing l.n
       l.fn.pool l.tokens l.fn.peaks;
   partition : IsPartition l.pool;
 }

@@ -4,4 +4,4 @@ use Rattle.csdf_core.proofs.several.has_no_loop.Given as goal
 
 -- the inputs so far come from others
 abbrev pub invariant-loop-channel : goal.invariant-loop-channel
-invariant-loop-channel l = (j : ℕ) → j < l.channel-index → from_at l.layout.channels (get_or l.inputs j 0) ≢ l.actor
+invariant-loop-channel l = (j : ℕ) → j < l.channel-index → from_at l.plan.channels (get_or l.inputs j 0) ≢ l.actor

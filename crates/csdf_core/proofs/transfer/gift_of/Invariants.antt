@@ -5,6 +5,6 @@ use Rattle.csdf_core.proofs.transfer.gift_of.Given as goal
 
 abbrev pub invariant-loop-channel : goal.invariant-loop-channel
 invariant-loop-channel l = record {
-  told : l.sum + sum_by (give_at l.layout.channels l.turn.firing) (drop l.channel-index l.outputs) ≡ sum_by (give_at l.layout.channels l.turn.firing) l.outputs;
+  told : l.sum + sum_by (give_at l.plan.channels l.turn.firing) (drop l.channel-index l.outputs) ≡ sum_by (give_at l.plan.channels l.turn.firing) l.outputs;
   small : l.sum ≤ 64 * l.channel-index;
 }

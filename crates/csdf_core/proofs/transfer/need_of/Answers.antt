@@ -7,10 +7,10 @@ use Rattle.csdf_core.proofs.transfer.need_of.Goals as goal
 
 pub returns-clause-value : goal.returns-clause-value
 returns-clause-value c =
-    sum_done (take_at c.args.layout.now.channels c.args.turn.firing) c.inputs-inputs.result.now c.loop-channel.channel-index c.loop-channel.sum
+    sum_done (take_at c.args.plan.now.channels c.args.turn.firing) c.inputs-inputs.result.now c.loop-channel.channel-index c.loop-channel.sum
     c.loop-channel-test.false c.loop-channel.invariant.told
-    ∙ ap (sum_by (take_at c.args.layout.now.channels c.args.turn.firing)) c.inputs-inputs.ensures.value
-    ∙ need_is c.args.actor c.args.turn.firing c.args.layout.now.channels
+    ∙ ap (sum_by (take_at c.args.plan.now.channels c.args.turn.firing)) c.inputs-inputs.ensures.value
+    ∙ need_is c.args.actor c.args.turn.firing c.args.plan.now.channels
 
 pub loop-channel-preserved : goal.loop-channel-preserved
 loop-channel-preserved c = grind (arith, common_steps)

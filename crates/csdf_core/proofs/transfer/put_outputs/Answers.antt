@@ -7,9 +7,9 @@ use Rattle.csdf_core.proofs.transfer.put_outputs.Goals as goal
 
 pub loop-channel-init : goal.loop-channel-init
 loop-channel-init c =
-    let all : sum_by (give_at c.args.layout.now.channels c.args.turn.firing) c.outputs-outputs.result.now ≡ length c.args.tokens.now =
-    ap (sum_by (give_at c.args.layout.now.channels c.args.turn.firing)) c.outputs-outputs.ensures.value
-    ∙ gift_is c.args.actor c.args.turn.firing c.args.layout.now.channels ∙ c.requires.all in
+    let all : sum_by (give_at c.args.plan.now.channels c.args.turn.firing) c.outputs-outputs.result.now ≡ length c.args.tokens.now =
+    ap (sum_by (give_at c.args.plan.now.channels c.args.turn.firing)) c.outputs-outputs.ensures.value
+    ∙ gift_is c.args.actor c.args.turn.firing c.args.plan.now.channels ∙ c.requires.all in
     record {
       same = c.requires.same;
       all = omega (arith, all);

@@ -9,12 +9,12 @@ use Rattle.csdf_core.proofs.transfer.take_inputs.Goals as goal
 
 pub loop-channel-init : goal.loop-channel-init
 loop-channel-init c =
-    let all : sum_by (take_at c.args.layout.now.channels c.args.turn.firing) c.inputs-inputs.result.now ≡ _ =
-    ap (sum_by (take_at c.args.layout.now.channels c.args.turn.firing)) c.inputs-inputs.ensures.value
-    ∙ need_is c.args.actor c.args.turn.firing c.args.layout.now.channels in
+    let all : sum_by (take_at c.args.plan.now.channels c.args.turn.firing) c.inputs-inputs.result.now ≡ _ =
+    ap (sum_by (take_at c.args.plan.now.channels c.args.turn.firing)) c.inputs-inputs.ensures.value
+    ∙ need_is c.args.actor c.args.turn.firing c.args.plan.now.channels in
     record {
       same = c.requires.same;
-      enough = subst (λ ns. EnoughOver (take_at c.args.layout.now.channels c.args.turn.firing) ns (tokens_in c.args.pool.now))
+      enough = subst (λ ns. EnoughOver (take_at c.args.plan.now.channels c.args.turn.firing) ns (tokens_in c.args.pool.now))
           (sym c.inputs-inputs.ensures.value)
           c.requires.enough;
       count = omega arith;
@@ -47,10 +47,10 @@ loop-channel-preserved c =
 
 pub returns-clause-count : goal.returns-clause-count
 returns-clause-count c =
-    sum_done (take_at c.args.layout.now.channels c.args.turn.firing) c.inputs-inputs.result.now c.loop-channel.channel-index c.loop-channel.at
+    sum_done (take_at c.args.plan.now.channels c.args.turn.firing) c.inputs-inputs.result.now c.loop-channel.channel-index c.loop-channel.at
     c.loop-channel-test.false c.loop-channel.invariant.count
-    ∙ ap (sum_by (take_at c.args.layout.now.channels c.args.turn.firing)) c.inputs-inputs.ensures.value
-    ∙ need_is c.args.actor c.args.turn.firing c.args.layout.now.channels
+    ∙ ap (sum_by (take_at c.args.plan.now.channels c.args.turn.firing)) c.inputs-inputs.ensures.value
+    ∙ need_is c.args.actor c.args.turn.firing c.args.plan.now.channels
 
 pub take_tokens-requires-clause-enough : goal.take_tokens-requires-clause-enough
 take_tokens-requires-clause-enough c = grind (arith, common_steps)

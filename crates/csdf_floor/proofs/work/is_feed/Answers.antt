@@ -3,7 +3,7 @@ use Rattle.std.proofs.Common.{◌≡◌, false, length, ap, sym, ◌∙◌, rule
 use Rattle.std.proofs.lemmas.List.{length-map}
 use Rattle.csdf_model.specs.declared.parts.Actor.{Actor as ActorCode}
 use Rattle.csdf_model.specs.Graph.{Actor, actor_view}
-use Rattle.csdf_core.specs.Layout.{is_source_kernel}
+use Rattle.csdf_core.specs.Planned.{is_source_kernel}
 use Rattle.csdf_floor.specs.Work.{is_source_of}
 use Rattle.csdf_floor.proofs.Works.{actor_at}
 use Rattle.csdf_floor.proofs.work.is_feed.Goals as goal

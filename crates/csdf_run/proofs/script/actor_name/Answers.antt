@@ -1,7 +1,7 @@
 use Rattle.std.proofs.lemmas.Grind.{common_steps}
 use Rattle.std.proofs.Common.{refl, map, [], ◌∙◌, arith}
 use Rattle.csdf_model.specs.Graph.{Actor, actor_view}
-use Rattle.csdf_core.proofs.LayoutLemmas.{seen_at}
+use Rattle.csdf_core.proofs.PlanLemmas.{seen_at}
 use Rattle.csdf_run.proofs.script.actor_name.Goals as goal
 
 pub returns-in-Some : goal.returns-in-Some

@@ -17,7 +17,7 @@ overflow_add-self c = omega (arith, few_started _ _ _ _ _ _ _ c.self.invariant.s
 pub invariant_of-self : goal.invariant_of-self
 invariant_of-self c =
     let p : Present = now_in c.self.inside in
-    let plan : Plan = c.self.inside.layout in
+    let plan : Plan = c.self.inside.plan in
     let a : ℕ = c.args.actor in
     let none : refusal plan p (Begin a) ≡ None = rw (← c.self.view_is) at c.requires in
     let more : c.saturating_sub.result ≡ gift a (get_or c.self.inside.counts.items a 0) plan.channels - need a (get_or c.self.inside.counts.items a 0)
@@ -34,7 +34,7 @@ invariant_of-self c =
 pub returns-clause-step : goal.returns-clause-step
 returns-clause-step c =
     let p : Present = now_in c.self.inside in
-    let plan : Plan = c.self.inside.layout in
+    let plan : Plan = c.self.inside.plan in
     let a : ℕ = c.args.actor in
     let none : refusal plan p (Begin a) ≡ None = rw (← c.self.view_is) at c.requires in
     rw (← c.self.view_is) (follows_accepted _ _ (Begin a) _ refl none refl refl c.self.invariant.sound.fit refl c.self.invariant.sound.cells

@@ -24,7 +24,7 @@ none_of (Some x) e = absurd (cc)
 -- what is known of the state
 module _ (c : After-len) where
   abbrev plan : Plan
-  plan = c.self.inside.layout
+  plan = c.self.inside.plan
 
   abbrev p : Present
   p = now_in c.self.inside
@@ -55,7 +55,7 @@ returns-then-len-feedback c =
 pub returns : goal.returns
 returns c =
     let at : After-len = (goal.at.returns c).After-len in
-    let plan : Plan = c.self.inside.layout in
+    let plan : Plan = c.self.inside.plan in
     let p : Present = now_in c.self.inside in
     let a : ℕ = c.args.actor in
     let n : ℕ = c.args.n in

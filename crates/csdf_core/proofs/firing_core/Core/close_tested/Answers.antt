@@ -11,11 +11,11 @@ use Rattle.csdf_core.proofs.firing_core.Core.close_tested.Goals as goal
 pub invariant_of-self : goal.invariant_of-self
 invariant_of-self c =
     let p : Present = now_in c.self.inside in
-    let none : refusal c.self.inside.layout p (Close c.args.channel) ≡ None = rw (← c.self.view_is) at c.requires in
+    let none : refusal c.self.inside.plan p (Close c.args.channel) ≡ None = rw (← c.self.view_is) at c.requires in
     record {
       amounts = c.self.invariant.amounts;
       phases = c.self.invariant.phases;
-      sound = sound_closed c.self.inside.layout p c.self.inside.peaks.items c.self.inside.sums.items
+      sound = sound_closed c.self.inside.plan p c.self.inside.peaks.items c.self.inside.sums.items
           c.self.inside.started c.self.inside.reserved c.self.inside.pool
           c.args.channel c.self.invariant.sound none;
     }
@@ -23,6 +23,6 @@ invariant_of-self c =
 pub returns-clause-step : goal.returns-clause-step
 returns-clause-step c =
     let p : Present = now_in c.self.inside in
-    let none : refusal c.self.inside.layout p (Close c.args.channel) ≡ None = rw (← c.self.view_is) at c.requires in
+    let none : refusal c.self.inside.plan p (Close c.args.channel) ≡ None = rw (← c.self.view_is) at c.requires in
     rw (← c.self.view_is) (follows_accepted _ _ (Close c.args.channel) _ refl none refl refl c.self.invariant.sound.fit refl c.self.invariant.sound.cells
     (sym (peaks_stay _ _ _ _ _ _ _ c.self.invariant.sound)))

@@ -18,7 +18,7 @@ none_of (Some x) e = absurd (cc)
 pub returns : goal.returns
 returns c =
     let p : Present = now_in c.self.inside in
-    let plan : Plan = c.self.inside.layout in
+    let plan : Plan = c.self.inside.plan in
     let a : ℕ = c.args.actor in
     let n : ℕ = c.args.n in
     let k : ℕ = count p a in
@@ -50,7 +50,7 @@ returns c =
 pub returns-then-not-has_supply : goal.returns-then-not-has_supply
 returns-then-not-has_supply c =
     let p : Present = now_in c.self.inside in
-    let plan : Plan = c.self.inside.layout in
+    let plan : Plan = c.self.inside.plan in
     let a : ℕ = c.args.actor in
     let n : ℕ = c.args.n in
     let k : ℕ = count p a in

@@ -24,7 +24,7 @@ use Rattle.csdf_core.proofs.firing_core.Core.finish_tested.Goals as goal
 pub invariant_of-self : goal.invariant_of-self
 invariant_of-self c =
     let p : Present = now_in c.self.inside in
-    let plan : Plan = c.self.inside.layout in
+    let plan : Plan = c.self.inside.plan in
     let a : ℕ = c.args.actor in
     let none : refusal plan p (Finish a) ≡ None = rw (← c.self.view_is) at c.requires in
     let one : suc (count p a) ≡ c.turn_after-next.result.firing =
@@ -62,7 +62,7 @@ invariant_of-self c =
 pub returns-clause-step : goal.returns-clause-step
 returns-clause-step c =
     let p : Present = now_in c.self.inside in
-    let plan : Plan = c.self.inside.layout in
+    let plan : Plan = c.self.inside.plan in
     let a : ℕ = c.args.actor in
     let none : refusal plan p (Finish a) ≡ None = rw (← c.self.view_is) at c.requires in
     let one : suc (count p a) ≡ c.turn_after-next.result.firing =

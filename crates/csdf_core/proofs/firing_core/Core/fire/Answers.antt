@@ -20,16 +20,16 @@ use Rattle.csdf_core.proofs.firing_core.Core.fire.Goals.{After-index_mut}
 
 pub move_tokens-requires-clause-room : goal.move_tokens-requires-clause-room
 move_tokens-requires-clause-room c =
-    let finds : FindsAll c.self.inside.layout (now_in c.self.inside) c.args.actor (count (now_in c.self.inside) c.args.actor) c.args.n =
+    let finds : FindsAll c.self.inside.plan (now_in c.self.inside) c.args.actor (count (now_in c.self.inside) c.args.actor) c.args.n =
     rw (← c.self.view_is) at c.requires.can in
     let all : length c.args.tokens.now ≡
-    gifts_of c.self.inside.layout.channels c.args.actor (count (now_in c.self.inside) c.args.actor) c.args.n = rw (← c.self.view_is) at c.requires.all in
-    let r = room_for c.self.inside.layout c.args.actor (machine c.self.inside) c.args.n (record { sound = c.self.invariant.sound; chains = refl }) finds in
+    gifts_of c.self.inside.plan.channels c.args.actor (count (now_in c.self.inside) c.args.actor) c.args.n = rw (← c.self.view_is) at c.requires.all in
+    let r = room_for c.self.inside.plan c.args.actor (machine c.self.inside) c.args.n (record { sound = c.self.invariant.sound; chains = refl }) finds in
     omega (arith, r, all)
 
 pub move_tokens-requires-clause-tokens : goal.move_tokens-requires-clause-tokens
 move_tokens-requires-clause-tokens c =
-    let plan : Plan = c.self.inside.layout in
+    let plan : Plan = c.self.inside.plan in
     let a : ℕ = c.args.actor in
     let k : ℕ = count (now_in c.self.inside) a in
     let finds : FindsAll plan (now_in c.self.inside) a k c.args.n = rw (← c.self.view_is) at c.requires.can in
@@ -42,7 +42,7 @@ move_tokens-requires-clause-tokens c =
 
 pub move_tokens-requires-clause-enough : goal.move_tokens-requires-clause-enough
 move_tokens-requires-clause-enough c =
-    let plan : Plan = c.self.inside.layout in
+    let plan : Plan = c.self.inside.plan in
     let a : ℕ = c.args.actor in
     let k : ℕ = count (now_in c.self.inside) a in
     let finds : FindsAll plan (now_in c.self.inside) a k c.args.n = rw (← c.self.view_is) at c.requires.can in
@@ -57,7 +57,7 @@ overflow_add-self c = omega (arith, few_started _ _ _ _ _ _ _ c.self.invariant.s
 
 pub overflow_add-index_mut : goal.overflow_add-index_mut
 overflow_add-index_mut c =
-    let there : c.args.actor < length c.self.inside.layout.sources = rw (← c.self.view_is) at c.requires.can.there in
+    let there : c.args.actor < length c.self.inside.plan.sources = rw (← c.self.view_is) at c.requires.can.there in
     let tallied = c.self.invariant.sound.tallied in
     let old : c.index_mut.result.now ≡ get_or c.self.inside.sums.items c.args.actor 0 = c.index_mut.ensures.value
     ∙ get_or_default c.self.inside.sums.items c.args.actor c.index_mut.result.now 0 (omega (arith, there, tallied)) in
@@ -69,7 +69,7 @@ overflow_add-index_mut c =
 -- where all has come to
 module _ (c : After-index_mut) where
   abbrev plan : Plan
-  plan = c.self.inside.layout
+  plan = c.self.inside.plan
 
   abbrev p : Present
   p = now_in c.self.inside
@@ -154,7 +154,7 @@ module _ (c : After-index_mut) where
       let old : c.index_mut.result.now ≡ get_or c.self.inside.sums.items c.args.actor 0 = c.index_mut.ensures.value
       ∙ get_or_default c.self.inside.sums.items c.args.actor c.index_mut.result.now 0 summed in
       let sum : c.index_mut.result.now + c.look_ahead-ahead.result.given ≡
-      get_or c.self.inside.sums.items c.args.actor 0 + gifts_of c.self.inside.layout.channels c.args.actor k c.args.n =
+      get_or c.self.inside.sums.items c.args.actor 0 + gifts_of c.self.inside.plan.channels c.args.actor k c.args.n =
       (let g = given in omega (arith, old, g)) in
       landed plan a k n c.args.tokens.now m made.0 made.1 there.now.counts there.sums there.peaks there.started there.pool
       (ap (set c.self.inside.counts.items c.args.actor) next)
@@ -166,7 +166,7 @@ module _ (c : After-index_mut) where
 pub invariant_of-self : goal.invariant_of-self
 invariant_of-self c =
     let at : After-index_mut = (goal.at.invariant_of-self c).After-index_mut in
-    let plan : Plan = c.self.inside.layout in
+    let plan : Plan = c.self.inside.plan in
     let within : c.args.actor < length plan.sources = (finds at).there in
     let counted : c.args.actor < length c.self.inside.counts.items = (let e = c.self.invariant.sound.fit.counted in omega (arith, e, within)) in
     record {

@@ -29,7 +29,7 @@ use Rattle.csdf_core.proofs.firing_core.Core.go_on.Goals.{After-look_ahead-ahead
 -- what is known at the beginning
 module _ (c : After-look_ahead-ahead) where
   abbrev pub early_plan : Plan
-  early_plan = c.self.inside.layout
+  early_plan = c.self.inside.plan
 
   abbrev pub early_a : ℕ
   early_a = c.args.actor
@@ -125,7 +125,7 @@ overflow_add-index_mut c =
 -- where all has come to
 module _ (c : After-index_mut) where
   abbrev pub plan : Plan
-  plan = c.self.inside.layout
+  plan = c.self.inside.plan
 
   abbrev pub p : Present
   p = now_in c.self.inside
@@ -221,13 +221,13 @@ module _ (c : After-index_mut) where
 pub invariant_of-self : goal.invariant_of-self
 invariant_of-self c =
     let here : After-index_mut = (goal.at.invariant_of-self c).After-index_mut in
-    let layout : Plan = c.self.inside.layout in
-    let within : c.args.actor < length layout.sources = (finds here).there in
+    let plan : Plan = c.self.inside.plan in
+    let within : c.args.actor < length plan.sources = (finds here).there in
     let counted : c.args.actor < length c.self.inside.counts.items = (let e = c.self.invariant.sound.fit.counted in omega (arith, e, within)) in
     record {
-      phases = phases_finished layout c.self.inside.counts.items c.self.inside.phases.items c.args.actor c.look_ahead-ahead.result.next.firing
+      phases = phases_finished plan c.self.inside.counts.items c.self.inside.phases.items c.args.actor c.look_ahead-ahead.result.next.firing
           c.look_ahead-ahead.result.next.phase c.self.invariant.phases within counted c.look_ahead-ahead.ensures.in_phase c.look_ahead-ahead.ensures.low;
-      amounts = amounts_finished layout c.self.inside.counts.items c.self.inside.needs.items c.self.inside.gifts.items c.args.actor
+      amounts = amounts_finished plan c.self.inside.counts.items c.self.inside.needs.items c.self.inside.gifts.items c.args.actor
           c.look_ahead-ahead.result.next.firing c.need_of-needed.result c.gift_of-given.result c.self.invariant.amounts within counted
           c.need_of-needed.ensures.value c.gift_of-given.ensures.value c.need_of-needed.ensures.small c.gift_of-given.ensures.small;
       sound = (good_now here).sound;

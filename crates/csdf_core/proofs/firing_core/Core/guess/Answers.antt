@@ -13,16 +13,16 @@ returns-clause-greatest c = λ has n le can.
     let p = c.args.self.now.now in
     let a = c.args.actor in
     let k = count p a in
-    let cs : plan.channels ≡ c.self.inside.layout.channels = grind (arith, common_steps) in
+    let cs : plan.channels ≡ c.self.inside.plan.channels = grind (arith, common_steps) in
     let ks : k ≡ c.turn-turn.result.firing = grind (arith, common_steps) in
     let ts : p.tokens ≡ tokens_in c.self.inside.pool = grind (arith, common_steps) in
     let gs : gifts_of plan.channels a k n ≡ n * c.gives-gift.result =
     gifts_times plan.channels a has k n ∙ ap (λ x. n * x) (sym c.gives-gift.ensures.sum) in
     let limited = c.limited-limited.ensures.greatest n le can.limit can.firings in
     let held = c.held_times-held.ensures.greatest n limited
-    (held_as plan.channels c.self.inside.layout.channels a k c.turn-turn.result.firing n p.tokens (tokens_in c.self.inside.pool) cs ks ts has can.tokens) in
+    (held_as plan.channels c.self.inside.plan.channels a k c.turn-turn.result.firing n p.tokens (tokens_in c.self.inside.pool) cs ks ts has can.tokens) in
     let roomy = c.room_times-roomy.ensures.greatest n held
-    (room_as plan.channels c.self.inside.layout.channels a k c.turn-turn.result.firing n p.tokens (tokens_in c.self.inside.pool) cs ks ts has can.room) in
+    (room_as plan.channels c.self.inside.plan.channels a k c.turn-turn.result.firing n p.tokens (tokens_in c.self.inside.pool) cs ks ts has can.room) in
     let supplied = c.supplied-supplied.ensures.greatest n roomy
     (λ is. let s = can.supply is in let m = given_more plan a k n in omega (arith, s, m, gs)) in
     c.celled.ensures.greatest n supplied (let e = can.cells in omega (arith, e, gs))

@@ -15,7 +15,7 @@ use Rattle.csdf_core.proofs.firing_core.Core.peek.Goals.{After-copy_reads}
 pub copy_reads-requires-clause-enough : goal.copy_reads-requires-clause-enough
 copy_reads-requires-clause-enough c =
     let p : Present = now_in c.self.inside in
-    let plan : Plan = c.self.inside.layout in
+    let plan : Plan = c.self.inside.plan in
     let finds : FindsAll plan p c.args.actor (count p c.args.actor) c.args.n = rw (← c.self.view_is) at c.requires.can in
     let firing : c.turn-turn.result.firing ≡ count p c.args.actor = rw (← c.self.view_is) at c.turn-turn.ensures.firing in
     subst (λ (x : ℕ). HoldAll (tokens_in c.self.inside.pool) (takes_at plan.channels x c.args.n) (inputs_at plan.channels c.args.actor)) (sym firing) finds.tokens
@@ -23,7 +23,7 @@ copy_reads-requires-clause-enough c =
 pub copy_reads-requires-clause-all : goal.copy_reads-requires-clause-all
 copy_reads-requires-clause-all c =
     let p : Present = now_in c.self.inside in
-    let plan : Plan = c.self.inside.layout in
+    let plan : Plan = c.self.inside.plan in
     let all : length c.args.into.now ≡ needs_of plan.channels c.args.actor (count p c.args.actor) c.args.n = rw (← c.self.view_is) at c.requires.all in
     let firing : c.turn-turn.result.firing ≡ count p c.args.actor = rw (← c.self.view_is) at c.turn-turn.ensures.firing in
     all ∙ ap (λ (x : ℕ). needs_of plan.channels c.args.actor x c.args.n) (sym firing)
@@ -31,7 +31,7 @@ copy_reads-requires-clause-all c =
 -- what is known at the end
 module _ (c : After-copy_reads) where
   abbrev plan : Plan
-  plan = c.self.inside.layout
+  plan = c.self.inside.plan
 
   abbrev p : Present
   p = now_in c.self.inside

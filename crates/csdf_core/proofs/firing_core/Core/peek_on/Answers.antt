@@ -19,7 +19,7 @@ use Rattle.csdf_core.proofs.firing_core.Core.peek_on.Goals.{After-gives_few}
 -- what is known at the beginning
 module _ (c : After-gives_few) where
   abbrev plan : Plan
-  plan = c.self.inside.layout
+  plan = c.self.inside.plan
 
   abbrev p : Present
   p = now_in c.self.inside

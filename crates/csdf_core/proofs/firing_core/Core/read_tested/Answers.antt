@@ -22,7 +22,7 @@ use Rattle.csdf_core.proofs.firing_core.Core.read_tested.Goals.{After-saturating
 pub take_inputs-requires-clause-enough : goal.take_inputs-requires-clause-enough
 take_inputs-requires-clause-enough c =
     let p : Present = now_in c.self.inside in
-    let plan : Plan = c.self.inside.layout in
+    let plan : Plan = c.self.inside.plan in
     let a : ℕ = c.args.actor in
     let none : refusal plan p (Read a) ≡ None = rw (← c.self.view_is) at c.requires.accepted in
     let k : c.turn-turn.result.firing ≡ count p a = rw (← c.self.view_is) at c.turn-turn.ensures.firing in
@@ -34,7 +34,7 @@ module _ (c : After-saturating_sub) where
   p = now_in c.self.inside
 
   abbrev plan : Plan
-  plan = c.self.inside.layout
+  plan = c.self.inside.plan
 
   abbrev a : ℕ
   a = c.args.actor
@@ -81,7 +81,7 @@ invariant_of-self c =
     record {
       amounts = c.self.invariant.amounts;
       phases = c.self.invariant.phases;
-      sound = subst (λ ts. IsSound c.self.inside.layout (record
+      sound = subst (λ ts. IsSound c.self.inside.plan (record
           { counts = c.self.inside.counts.items; stages = set c.self.inside.stages.items c.args.actor Fetched; opens = c.self.inside.opens.items; tokens = ts })
           c.self.inside.peaks.items c.self.inside.sums.items c.self.inside.started (c.self.inside.reserved - c.saturating_sub.result + c.gives-gift.result)
           c.take_inputs.new.pool) (sym (gone at)) (sound at);
@@ -95,20 +95,20 @@ returns-clause-step c =
       stages = set c.self.inside.stages.items c.args.actor Fetched;
       opens = c.self.inside.opens.items;
       tokens = tokens_in c.take_inputs.new.pool;
-    } ≡ fetched c.self.inside.layout (now_in c.self.inside) c.args.actor = ap
+    } ≡ fetched c.self.inside.plan (now_in c.self.inside) c.args.actor = ap
     (λ ts. record {
       counts = c.self.inside.counts.items;
       stages = set c.self.inside.stages.items c.args.actor Fetched;
       opens = c.self.inside.opens.items;
       tokens = ts;
     }) (gone at) in
-    let needed : c.take_inputs.result ≡ need c.args.actor (count (now_in c.self.inside) c.args.actor) c.self.inside.layout.channels =
-    c.take_inputs.ensures.count ∙ ap (λ n. need c.args.actor n c.self.inside.layout.channels) (firing at) in
-    let whole : length c.args.into.now ≡ need c.args.actor (count (now_in c.self.inside) c.args.actor) c.self.inside.layout.channels =
+    let needed : c.take_inputs.result ≡ need c.args.actor (count (now_in c.self.inside) c.args.actor) c.self.inside.plan.channels =
+    c.take_inputs.ensures.count ∙ ap (λ n. need c.args.actor n c.self.inside.plan.channels) (firing at) in
+    let whole : length c.args.into.now ≡ need c.args.actor (count (now_in c.self.inside) c.args.actor) c.self.inside.plan.channels =
     rw (← c.self.view_is) at c.requires.whole in
     let all : length c.take_inputs.new.into ≤ c.take_inputs.result = omega (arith, c.take_inputs.auto.into, whole, needed) in
     let answered = sym (take_all c.take_inputs.result c.take_inputs.new.into all)
-    ∙ answered_here c.self.inside.layout (now_in c.self.inside) c.args.actor c.turn-turn.result.firing c.take_inputs.result
+    ∙ answered_here c.self.inside.plan (now_in c.self.inside) c.args.actor c.turn-turn.result.firing c.take_inputs.result
     c.take_inputs.new.into c.args.into.now c.self.invariant.sound.fit (none at) (firing at) c.take_inputs.ensures.count c.take_inputs.ensures.answer in
     let peaks : c.self.inside.peaks.items ≡ raised c.self.inside.peaks.items (tokens_in c.take_inputs.new.pool) =
     sym (ap (raised c.self.inside.peaks.items) (gone at) ∙ peaks_stay _ _ _ _ _ _ _ (sound at)) in

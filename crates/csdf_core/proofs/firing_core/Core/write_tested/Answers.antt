@@ -24,7 +24,7 @@ use Rattle.csdf_core.proofs.firing_core.Core.write_tested.Goals.{After-raise_pea
 pub put_outputs-requires-clause-all : goal.put_outputs-requires-clause-all
 put_outputs-requires-clause-all c =
     let p : Present = now_in c.self.inside in
-    let plan : Plan = c.self.inside.layout in
+    let plan : Plan = c.self.inside.plan in
     let a : ℕ = c.args.actor in
     let none : first_of (write_table plan p a c.args.tokens.now) ≡ None = rw (← c.self.view_is) at c.requires in
     let k : c.turn-turn.result.firing ≡ count p a = rw (← c.self.view_is) at c.turn-turn.ensures.firing in
@@ -33,7 +33,7 @@ put_outputs-requires-clause-all c =
 pub prove-unreachable-requires : goal.prove-unreachable-requires
 prove-unreachable-requires c =
     let p : Present = now_in c.self.inside in
-    let plan : Plan = c.self.inside.layout in
+    let plan : Plan = c.self.inside.plan in
     let a : ℕ = c.args.actor in
     let none : first_of (write_table plan p a c.args.tokens.now) ≡ None = rw (← c.self.view_is) at c.requires in
     let free : c.free_len.result + held p ≡ plan.cells =
@@ -48,7 +48,7 @@ put_outputs-requires-clause-room c = omega (arith, c.if-prove.false, c.free_len.
 pub overflow_sub-self : goal.overflow_sub-self
 overflow_sub-self c =
     let p : Present = now_in c.self.inside in
-    let plan : Plan = c.self.inside.layout in
+    let plan : Plan = c.self.inside.plan in
     let a : ℕ = c.args.actor in
     let none : first_of (write_table plan p a c.args.tokens.now) ≡ None = rw (← c.self.view_is) at c.requires in
     kept_to_write plan p a c.self.inside.reserved c.args.tokens.now c.self.invariant.sound.fit none c.self.invariant.sound.keeps
@@ -59,7 +59,7 @@ module _ (c : After-raise_peaks) where
   p = now_in c.self.inside
 
   abbrev plan : Plan
-  plan = c.self.inside.layout
+  plan = c.self.inside.plan
 
   abbrev a : ℕ
   a = c.args.actor
@@ -105,14 +105,14 @@ invariant_of-self c =
     record {
       amounts = c.self.invariant.amounts;
       phases = c.self.invariant.phases;
-      sound = subst (λ qs. IsSound c.self.inside.layout (record {
+      sound = subst (λ qs. IsSound c.self.inside.plan (record {
         counts = c.self.inside.counts.items;
         stages = set c.self.inside.stages.items c.args.actor Written;
         opens = c.self.inside.opens.items;
         tokens = tokens_in c.put_outputs.new.pool;
       }) qs c.self.inside.sums.items c.self.inside.started (c.self.inside.reserved - length c.args.tokens.now)
           c.put_outputs.new.pool) (sym (items at))
-          (subst (λ ts. IsSound c.self.inside.layout (record
+          (subst (λ ts. IsSound c.self.inside.plan (record
           { counts = c.self.inside.counts.items; stages = set c.self.inside.stages.items c.args.actor Written; opens = c.self.inside.opens.items; tokens = ts })
           c.raise_peaks.new.peaks c.self.inside.sums.items c.self.inside.started (c.self.inside.reserved - length c.args.tokens.now) c.put_outputs.new.pool)
           (sym (put at)) (sound at));
@@ -126,7 +126,7 @@ returns-clause-step c =
       stages = set c.self.inside.stages.items c.args.actor Written;
       opens = c.self.inside.opens.items;
       tokens = tokens_in c.put_outputs.new.pool;
-    } ≡ written c.self.inside.layout (now_in c.self.inside) c.args.actor c.args.tokens.now = ap
+    } ≡ written c.self.inside.plan (now_in c.self.inside) c.args.actor c.args.tokens.now = ap
     (λ ts. record {
       counts = c.self.inside.counts.items;
       stages = set c.self.inside.stages.items c.args.actor Written;

@@ -1,5 +1,5 @@
 use Rattle.std.proofs.Common.{ℕ, List, length, get_or, ap, sym, ◌∙◌, arith}
-use Rattle.csdf_core.proofs.LayoutLemmas.{capacities-map, length-capacities}
+use Rattle.csdf_core.proofs.PlanLemmas.{capacities-map, length-capacities}
 use Rattle.csdf_floor.proofs.work.Work.capacity.Goals as goal
 
 pub bounds-capacities-channel : goal.bounds-capacities-channel

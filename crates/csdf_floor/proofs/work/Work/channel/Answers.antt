@@ -1,7 +1,7 @@
 use Rattle.std.proofs.Common.{◌≡◌, ◌<◌, length, map, ap, ◌∙◌}
 use Rattle.csdf_model.specs.Graph.{Graph, channel_view}
 use Rattle.csdf_model.specs.WellFormed.{IsChannel}
-use Rattle.csdf_core.proofs.LayoutLemmas.{in_graph, channel_seen, known_at}
+use Rattle.csdf_core.proofs.PlanLemmas.{in_graph, channel_seen, known_at}
 use Rattle.csdf_floor.proofs.work.Work.channel.Goals as goal
 use Rattle.csdf_floor.proofs.work.Work.channel.Goals.{After-channels, After-index-channels-channel}
 

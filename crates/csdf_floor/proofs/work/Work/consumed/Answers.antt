@@ -1,7 +1,7 @@
 use Rattle.std.proofs.Common.{List, ℕ, [], ap, ◌∙◌, arith}
 use Rattle.csdf_model.specs.Rates.{total}
 use Rattle.csdf_analysis.proofs.BoundLemmas.{total_within}
-use Rattle.csdf_core.proofs.LayoutLemmas.{part_at}
+use Rattle.csdf_core.proofs.PlanLemmas.{part_at}
 use Rattle.csdf_floor.specs.Work.{program}
 use Rattle.csdf_floor.proofs.work.Work.consumed.Goals as goal
 

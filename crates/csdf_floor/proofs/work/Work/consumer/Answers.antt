@@ -1,4 +1,4 @@
-use Rattle.csdf_core.proofs.LayoutLemmas.{part_at}
+use Rattle.csdf_core.proofs.PlanLemmas.{part_at}
 use Rattle.csdf_floor.specs.Work.{program}
 use Rattle.csdf_floor.proofs.work.Work.consumer.Goals as goal
 

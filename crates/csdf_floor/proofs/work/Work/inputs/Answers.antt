@@ -1,7 +1,7 @@
 use Rattle.std.proofs.Common.{◌<◌, ◌==◌, ap, length, subst, sym, refl, ◌∙◌}
 use Rattle.std.specs.Prelude.{All}
 use Rattle.csdf_model.specs.Graph.{Graph, inputs_of}
-use Rattle.csdf_core.proofs.LayoutLemmas.{length-capacities, numbers-capacities}
+use Rattle.csdf_core.proofs.PlanLemmas.{length-capacities, numbers-capacities}
 use Rattle.csdf_floor.proofs.work.Work.inputs.Goals as goal
 
 pub returns-clause-value : goal.returns-clause-value

@@ -1,5 +1,5 @@
 use Rattle.std.proofs.Common.{ap, ◌∙◌}
-use Rattle.csdf_core.specs.Layout.{is_source_kernel}
+use Rattle.csdf_core.specs.Planned.{is_source_kernel}
 use Rattle.csdf_floor.proofs.Works.{source_at}
 use Rattle.csdf_floor.proofs.work.Work.is_source.Goals as goal
 

@@ -1,6 +1,6 @@
 use Rattle.std.proofs.Common.{◌≤◌, subst, sym, ◌∙◌}
 use Rattle.csdf_model.specs.Rates.{rate}
-use Rattle.csdf_core.proofs.LayoutLemmas.{part_at, rate_small}
+use Rattle.csdf_core.proofs.PlanLemmas.{part_at, rate_small}
 use Rattle.csdf_floor.specs.Work.{program}
 use Rattle.csdf_floor.proofs.work.Work.production.Goals as goal
 

@@ -1,0 +1,316 @@
+//! What a core plays: a graph with its capacities and limits.
+//!
+//! The readers that are marked so are inlined: each firing calls several of them for each of its
+//! channels, and a call costs more than the loads that it makes.
+
+ghost use Rattle.std.specs.Prelude.{ℕ, ◌≡◌, ◌+◌, ◌*◌, ◌<◌, ◌≤◌, length, map, slice_get, slice_index, slice_index_or, false, All, IfOk, Some};
+ghost use Rattle.csdf_core.specs.Plan.{Channel as ChannelModel, consume_at, from_at, produce_at, to_at};
+ghost use Rattle.csdf_core.specs.Planned.{is_source_kernel, plan_for, with_capacity};
+ghost use Rattle.csdf_model.specs.Graph.{channel_view};
+ghost use Rattle.csdf_model.specs.Rates.{total};
+ghost use Rattle.csdf_core.specs.Blocks.{takes_at, gives_at};
+ghost use Rattle.csdf_core.specs.Playable.{IsPlayable};
+ghost use Rattle.csdf_core.specs.Rows.{gift};
+ghost use Rattle.csdf_core.specs.Streams.{part};
+ghost use Rattle.csdf_core.specs.Ports.{inputs_at, outputs_at, take_at, give_at};
+ghost use Rattle.csdf_core.specs.Phases.{HasPhases, IsInPhase, IsPhase};
+
+use crate::setup::Setup;
+use crate::turn::Turn;
+use csdf_model::{
+    Channel, Graph, Kernel, MAX_ACTORS, MAX_CHANNELS, MAX_FIRINGS_PER_ACTOR, MAX_PHASES,
+    MAX_TOKENS_PER_FIRING, rate, total,
+};
+use std::alloc::{AllocError, Global};
+use std::marker::Model;
+
+/// A graph with its capacities and limits.
+#[derive(Drop)]
+pub(crate) struct Plan {
+    graph: Graph,
+    capacities: Vec<u32>,
+    limits: Vec<u32>,
+    supply: Vec<u32>,
+    firings: Option<u32>,
+    cells: u32,
+}
+
+impl Model for Plan {
+    ghost use Rattle.csdf_core.specs.Plan.{Plan as PlanModel};
+
+    ghost Value = { PlanModel };
+
+    ghost use Rattle.csdf_core.specs.Planned.{plan_of, IsPlanned};
+
+    ghost view = { λ l. plan_of l.graph l.capacities.items l.limits.items l.supply.items l.firings l.cells };
+
+    ghost invariant = { λ l. IsPlanned l.graph l.capacities.items l.limits.items l.supply.items l.firings l.cells };
+}
+
+#[inline(always)]
+fn is_source(kernel: Kernel) -> bool
+    ensures { result ≡ is_source_kernel kernel }
+{
+    matches!(kernel, Kernel::Source)
+}
+
+/// How many tokens n firings move at these rates, from this one on.
+#[inline(always)]
+fn moved(rates: &[u32], firing: u32, n: u32) -> u64
+    requires { firing + n ≤ MAX_FIRINGS_PER_ACTOR }
+    ensures { total rates.now firing + result ≡ total rates.now (firing + n) }
+{
+    // Most actors have one phase, and then nothing is divided. Blocks of one firing are many.
+    if rates.len() == 1 {
+        return u64::from(n) * u64::from(rates[0]);
+    }
+    if n == 1 {
+        return u64::from(rate(rates, firing));
+    }
+    total(rates, firing + n) - total(rates, firing)
+}
+
+/// The same numbers in a list of their own.
+fn copy_of(alloc: Global, numbers: &[u32]) -> Result<Vec<u32>, AllocError>
+    ensures { IfOk result (λ v. v.items ≡ numbers.now) }
+{
+    numbers.iter().copied().collect(alloc)
+}
+
+impl Plan {
+    /// The plan of the setup, whose graph it copies.
+    ///
+    /// An error says that memory ran out.
+    pub(crate) fn new(alloc: Global, setup: Setup<'_>) -> Result<Plan, AllocError>
+        requires limits { length setup.limits.items ≡ length setup.accepted.now.graph.actors }
+        requires supply { length setup.supply.items ≡ length setup.accepted.now.graph.actors }
+        requires few { All (λ n. n ≤ MAX_FIRINGS_PER_ACTOR) setup.limits.items }
+        ensures plan { IfOk result (λ plan. plan
+            ≡ plan_for setup.entry.accepted.now setup.entry.limits.items setup.entry.supply.items setup.entry.firings) }
+        ensures playable { IfOk result IsPlayable }
+    {
+        let accepted = setup.accepted;
+        let graph = accepted.graph().try_copy(alloc)?;
+        let capacities = copy_of(alloc, accepted.capacities())?;
+        Ok(Plan {
+            graph,
+            capacities,
+            limits: setup.limits,
+            supply: setup.supply,
+            firings: setup.firings,
+            cells: accepted.cells(),
+        })
+    }
+
+    /// The number of actors.
+    pub(crate) fn actors(&self) -> usize
+        ensures count { result ≡ length self.now.sources }
+        ensures few { result ≤ MAX_ACTORS }
+    {
+        self.graph.actors().len()
+    }
+
+    /// The number of channels.
+    pub(crate) fn channels(&self) -> usize
+        ensures count { result ≡ length self.now.channels }
+        ensures few { result ≤ MAX_CHANNELS }
+    {
+        self.graph.channels().len()
+    }
+
+    /// The channels that end at the actor, in file order.
+    #[inline(always)]
+    pub(crate) fn inputs(&self, actor: u32) -> &[u32]
+        requires { actor < length self.now.sources }
+        ensures value { result.now ≡ inputs_at self.now.channels actor }
+        ensures own { All (λ c. to_at self.now.channels c ≡ actor) result.now }
+        ensures within { All (λ c. c < length self.now.channels) result.now }
+        ensures few { length result.now ≤ MAX_CHANNELS }
+    {
+        self.graph.inputs(actor)
+    }
+
+    /// The channels that begin at the actor, in file order.
+    #[inline(always)]
+    pub(crate) fn outputs(&self, actor: u32) -> &[u32]
+        requires { actor < length self.now.sources }
+        ensures value { result.now ≡ outputs_at self.now.channels actor }
+        ensures own { All (λ c. from_at self.now.channels c ≡ actor) result.now }
+        ensures within { All (λ c. c < length self.now.channels) result.now }
+        ensures few { length result.now ≤ MAX_CHANNELS }
+    {
+        self.graph.outputs(actor)
+    }
+
+    /// The channel as the graph has it.
+    #[inline(always)]
+    fn channel(&self, channel: u32) -> &Channel
+        requires { channel < length self.now.channels }
+        ensures value { slice_get self.now.channels channel ≡ Some (with_capacity (
+          channel_view result.now,
+          slice_index (map (λ (c : ChannelModel). c.capacity) self.now.channels) channel,
+        )) }
+        ensures produce { All (λ n. n ≤ MAX_TOKENS_PER_FIRING) result.now.produce.items }
+        ensures consume { All (λ n. n ≤ MAX_TOKENS_PER_FIRING) result.now.consume.items }
+    {
+        &self.graph.channels()[channel as usize]
+    }
+
+    /// No firing gives many tokens. The call does nothing.
+    #[inline(always)]
+    pub(crate) fn gives_few(&self)
+        ensures { (a k : ℕ) → gift a k self.now.channels ≤ 8192 }
+    {
+        // Read for the prover: what every graph keeps.
+        let _channels = self.graph.channels();
+    }
+
+    /// How many phases the actor has.
+    #[inline(always)]
+    pub(crate) fn phases(&self, actor: u32) -> u32
+        requires { actor < length self.now.sources }
+        ensures phases { HasPhases self.now.channels actor result }
+        ensures some { 1 ≤ result }
+        ensures few { result ≤ MAX_PHASES }
+    {
+        self.graph.actors()[actor as usize].phases
+    }
+
+    /// The first firing of every actor.
+    pub(crate) fn first_turn(&self) -> Turn
+        ensures firing { result.firing ≡ 0 }
+        ensures phase { result.phase ≡ 0 }
+        ensures in_phase { (a : ℕ) → IsInPhase self.now.channels a 0 0 }
+    {
+        // The proof takes what the plan keeps from this look into it.
+        let _graph = &self.graph;
+        Turn {
+            firing: 0,
+            phase: 0,
+        }
+    }
+
+    /// How many tokens a firing of the channel's consumer takes out.
+    #[inline(always)]
+    pub(crate) fn takes(&self, channel: u32, turn: Turn) -> u32
+        requires channel { channel < length self.now.channels }
+        requires phase { IsPhase (consume_at self.now.channels channel) turn.firing turn.phase }
+        ensures value { result ≡ take_at self.now.channels turn.firing channel }
+        ensures small { result ≤ MAX_TOKENS_PER_FIRING }
+    {
+        let channel = self.channel(channel);
+        channel.consume[turn.phase as usize]
+    }
+
+    /// How many tokens a firing of the channel's producer puts in.
+    #[inline(always)]
+    pub(crate) fn gives(&self, channel: u32, turn: Turn) -> u32
+        requires channel { channel < length self.now.channels }
+        requires phase { IsPhase (produce_at self.now.channels channel) turn.firing turn.phase }
+        ensures value { result ≡ give_at self.now.channels turn.firing channel }
+        ensures small { result ≤ MAX_TOKENS_PER_FIRING }
+    {
+        let channel = self.channel(channel);
+        channel.produce[turn.phase as usize]
+    }
+
+    /// How many tokens n firings of the channel's consumer take out, from this one on.
+    #[inline(always)]
+    pub(crate) fn taken(&self, channel: u32, firing: u32, n: u32) -> u64
+        requires channel { channel < length self.now.channels }
+        requires few { firing + n ≤ MAX_FIRINGS_PER_ACTOR }
+        ensures value { result ≡ takes_at self.now.channels firing n channel }
+        ensures small { result ≤ MAX_TOKENS_PER_FIRING * n }
+    {
+        let channel = self.channel(channel);
+        moved(&channel.consume, firing, n)
+    }
+
+    /// How many tokens n firings of the channel's producer put in, from this one on.
+    #[inline(always)]
+    pub(crate) fn given(&self, channel: u32, firing: u32, n: u32) -> u64
+        requires channel { channel < length self.now.channels }
+        requires few { firing + n ≤ MAX_FIRINGS_PER_ACTOR }
+        ensures value { result ≡ gives_at self.now.channels firing n channel }
+        ensures small { result ≤ MAX_TOKENS_PER_FIRING * n }
+    {
+        let channel = self.channel(channel);
+        moved(&channel.produce, firing, n)
+    }
+
+    /// The channel's producer.
+    pub(crate) fn producer(&self, channel: u32) -> u32
+        requires { channel < length self.now.channels }
+        ensures { result ≡ from_at self.now.channels channel }
+    {
+        self.channel(channel).from
+    }
+
+    /// The channel's consumer.
+    #[inline(always)]
+    pub(crate) fn consumer(&self, channel: u32) -> u32
+        requires { channel < length self.now.channels }
+        ensures { result ≡ to_at self.now.channels channel }
+    {
+        self.channel(channel).to
+    }
+
+    /// The channel's capacity.
+    #[inline(always)]
+    pub(crate) fn capacity(&self, channel: u32) -> u32
+        requires { channel < length self.now.channels }
+        ensures { result ≡ slice_index (map (λ (c : ChannelModel). c.capacity) self.now.channels) channel }
+    {
+        self.capacities[channel as usize]
+    }
+
+    /// The channel's initial tokens.
+    pub(crate) fn initial(&self, channel: u32) -> &[i32]
+        requires { channel < length self.now.channels }
+        ensures { result.now ≡ part channel (map (λ (c : ChannelModel). c.initial) self.now.channels) }
+    {
+        &self.channel(channel).initial
+    }
+
+    /// The greatest number of firings of the actor.
+    #[inline(always)]
+    pub(crate) fn limit(&self, actor: u32) -> u32
+        requires { actor < length self.now.sources }
+        ensures value { result ≡ slice_index self.now.limits actor }
+        ensures small { result ≤ MAX_FIRINGS_PER_ACTOR }
+    {
+        self.limits[actor as usize]
+    }
+
+    /// The number of tokens in the actor's file.
+    #[inline(always)]
+    pub(crate) fn supply(&self, actor: u32) -> u32
+        requires { actor < length self.now.sources }
+        ensures { result ≡ slice_index self.now.supplies actor }
+    {
+        self.supply[actor as usize]
+    }
+
+    /// Whether the actor is a source.
+    #[inline(always)]
+    pub(crate) fn is_source(&self, actor: u32) -> bool
+        requires { actor < length self.now.sources }
+        ensures { result ≡ slice_index_or self.now.sources actor false }
+    {
+        is_source(self.graph.actors()[actor as usize].kernel)
+    }
+
+    /// The greatest number of firings of all actors, where there is one.
+    pub(crate) fn firings(&self) -> Option<u32>
+        ensures { result ≡ self.now.firings }
+    {
+        self.firings
+    }
+
+    /// The number of cells that all channels share.
+    pub(crate) fn cells(&self) -> u32
+        ensures { result ≡ self.now.cells }
+    {
+        self.cells
+    }
+}
