@@ -52,3 +52,7 @@ taps_of Sink = 0
 taps_of Copy = 0
 taps_of Sum = 0
 taps_of (Fir weights taps shift) = taps
+
+-- how many products the firings of a draft take
+abbrev pub products_of : DraftView → ℕ
+products_of d = d.firings * d.need * taps_of d.kernel

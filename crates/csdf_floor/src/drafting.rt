@@ -9,7 +9,7 @@ ghost use Rattle.csdf_core.specs.Phases.{HasPhases};
 ghost use Rattle.csdf_core.specs.Ports.{outputs_at};
 ghost use Rattle.csdf_core.specs.Rows.{need};
 ghost use Rattle.csdf_core.specs.Step.{count, is_source, refusal, stage};
-ghost use Rattle.csdf_floor.specs.Drafts.{IsDraftOf, Suits, taps_of};
+ghost use Rattle.csdf_floor.specs.Drafts.{IsDraftOf, Suits, products_of, taps_of};
 ghost use Rattle.csdf_floor.specs.Making.{HasMade, made_moves};
 ghost use Rattle.csdf_floor.specs.Work.{program};
 
@@ -178,6 +178,8 @@ impl Book {
         ensures keeps { IfSome result (λ block. self.now.shown.keeps ≡ false) }
         ensures phases { IfSome result (λ block. HasPhases self.now.shown.core.plan.channels actor 1) }
         ensures other { IfSome result (λ block. is_source (program self.now.shown.work).plan actor ≡ false) }
+        ensures heavy { IfSome result (λ block. heavy ≤ block.firings * need actor (count self.now.shown.core.now actor) self.now.shown.core.plan.channels
+            * taps_of (slice_index_or (program self.now.shown.work).kernels actor Sink)) }
     {
         if self.work.is_source(actor) || !self.core.has_one_phase(actor) {
             return None;
@@ -204,6 +206,7 @@ impl Book {
         requires exists { actor < length self.now.shown.core.plan.sources }
         ensures draft { OnOk result (0 < draft.new.firings → IsDraftOf self.now.shown actor draft.new) }
         ensures most { OnOk result (draft.new.firings ≤ most) }
+        ensures heavy { OnOk result (0 < draft.new.firings → heavy ≤ products_of draft.new) }
         ensures open { draft.new.is_made ≡ false }
         ensures none { OnErr result (draft.new.firings ≡ 0) }
     {

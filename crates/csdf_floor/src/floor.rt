@@ -13,7 +13,7 @@ ghost use Rattle.csdf_floor.specs.declared.fault.DeliverFault.TheVariants.{Memor
 ghost use Rattle.csdf_floor.specs.Journal.{IsHonest};
 ghost use Rattle.csdf_floor.specs.Work.{AreFeeds, HasFewFirings, feeds_in, program};
 ghost use Rattle.csdf_floor.specs.Making.{made_moves, closes_made};
-ghost use Rattle.csdf_floor.specs.Drafts.{IsDraftOf};
+ghost use Rattle.csdf_floor.specs.Drafts.{IsDraftOf, products_of};
 ghost use Rattle.csdf_floor.specs.Outcome.{HasTotals, IsEndOf, IsOutcome, journal_in};
 ghost use Rattle.csdf_floor.specs.Floor.{HasGone, IsFloor, IsReady, IsStartAnswer, IsUnderWay, IsDeliverAnswer, closes, closes_after, ending_of};
 ghost use Rattle.csdf_floor.specs.Floor.{present_task, start_refusal, task_of};
@@ -261,6 +261,7 @@ impl Floor {
         ensures answer { IsStartAnswer (start_refusal self.now actor firing) result }
         ensures draft { OnOk result (0 < draft.new.firings → IsDraftOf self.now actor draft.new) }
         ensures most { OnOk result (draft.new.firings ≤ most) }
+        ensures heavy { OnOk result (0 < draft.new.firings → heavy ≤ products_of draft.new) }
         ensures none { OnErr result (draft.new.firings ≡ 0) }
         ensures open { draft.new.is_made ≡ false }
     {
