@@ -16,7 +16,7 @@ use crate::fault::{Name, ToolFault};
 use crate::line::{Line, line_in};
 use crate::printed::name_at;
 use csdf_analysis::{AcceptFault, Accepted, Room, accept, accept_in_room};
-use csdf_core::{Core, Setup};
+use csdf_core::Core;
 use csdf_graph::Script;
 use csdf_model::{Actor, Graph, Kernel};
 use std::alloc::{AllocError, Global};
@@ -130,13 +130,7 @@ fn core_under(
     ensures opening { IfOk result (λ core. Shows core (opening core.plan)) }
 {
     let supply = supplies_of(alloc, accepted.graph().actors(), script.supply)?;
-    let setup = Setup {
-        accepted,
-        limits,
-        supply,
-        firings: script.firings,
-    };
-    Core::new(alloc, setup)
+    Core::new(alloc, accepted, limits, supply, script.firings)
 }
 
 /// The core on which the script is played.

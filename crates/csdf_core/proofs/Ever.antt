@@ -30,7 +30,7 @@ use Rattle.csdf_core.specs.Step.{refused, reply_by, replies_of, state_after}
 use Rattle.csdf_core.specs.Streams.{part}
 use Rattle.csdf_core.proofs.FitLemmas.{IsReached, reached_accepted, within_all}
 use Rattle.csdf_core.proofs.Opening.{reached_opening, alike}
-use Rattle.csdf_core.proofs.Setups.{playable_setup}
+use Rattle.csdf_core.proofs.MadePlans.{playable_made}
 use Rattle.std.proofs.lemmas.List.Elements.{All-from_get_or}
 use Rattle.csdf_core.specs.Ever.{AreFirings, repeated, Allows, IsPeriodEnd, ArePeriods, PhasesReturn, RunsForEver, PrintedIsPeriod, HasPeriod, AmpleByDefault}
 use Rattle.csdf_core.specs.Ever.{HasFirings, whole_firings, none_finished}
@@ -180,7 +180,7 @@ reached_first a limits supplies firings ok =
     let none : List ℕ = replicate (length a.graph.actors) 0 in
     let small : All (λ (n : ℕ). n ≤ 16384000) none =
     All-from_get_or (λ (n : ℕ). n ≤ 16384000) none 0 (λ i lt. (let z = none_at (length a.graph.actors) i in omega arith)) in
-    let r = reached_opening (plan_for a none supplies firings) (playable_setup a none supplies firings ok (length-replicate (length a.graph.actors) 0) small) in
+    let r = reached_opening (plan_for a none supplies firings) (playable_made a none supplies firings ok (length-replicate (length a.graph.actors) 0) small) in
     let plan : Plan = plan_for a limits supplies firings in
     record {
       fit = record {

@@ -23,7 +23,7 @@ pub mod AmountLemmas
 pub mod PhaseLemmas
 pub mod Peaceful
 pub mod Moving
-pub mod Setups
+pub mod MadePlans
 pub mod Fillings
 pub mod Beginnings
 pub mod Headline

@@ -1,4 +1,4 @@
--- What a core keeps of its setup, and what it plays by it.
+-- What a core keeps of an accepted graph, and what it plays by it.
 use Rattle.std.specs.Prelude.{◌≡◌, ℕ, Bool, true, false, List, Option, length, map}
 use Rattle.std.specs.List.{zip}
 use Rattle.csdf_model.specs.declared.parts.Kernel.{Kernel}

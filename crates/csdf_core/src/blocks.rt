@@ -1,10 +1,11 @@
 //! Several firings of one actor, made in one call.
 
-ghost use Rattle.std.specs.Prelude.{ℕ, ◌≡◌, ◌≢◌, ◌+◌, ◌-◌, ◌*◌, ◌<◌, ◌≤◌, ◌↔◌, true, None, IsTrue, IfSome, length, slice_index};
+ghost use Rattle.std.specs.Prelude.{ℕ, ◌≡◌, ◌≢◌, ◌+◌, ◌-◌, ◌*◌, ◌<◌, ◌≤◌, ◌↔◌, true, false, None, IsTrue, IfSome, length, slice_index};
 ghost use Rattle.csdf_pool.specs.Pool.{IsPartition};
 ghost use Rattle.csdf_core.specs.Blocks.{needs_of, gifts_of, takes_at, gives_at, takes_in, puts_in, from_front, reads_over, HoldAll, HaveRoomFor, IsPlain};
-ghost use Rattle.csdf_core.specs.Blocks.{HasNoLoop, pool_after, peaks_after, Suffices};
-ghost use Rattle.csdf_core.specs.Phases.{HasPhases, IsInPhase};
+ghost use Rattle.csdf_core.specs.Blocks.{HasNoLoop, capacity_at, pool_after, peaks_after, Suffices};
+ghost use Rattle.csdf_core.specs.Phases.{HasPhases, IsInPhase, IsPhase};
+ghost use Rattle.csdf_core.specs.Plan.{consume_at, produce_at};
 ghost use Rattle.csdf_core.specs.Ports.{inputs_at, outputs_at, take_at, give_at, tokens_in, tokens_at, raise_over};
 
 use crate::firing_core::Core;
@@ -110,40 +111,99 @@ pub(crate) fn times(tokens: u64, each: u64, most: u32) -> u32
     if n < u64::from(most) { n as u32 } else { most }
 }
 
-/// How many firings at most find their tokens, where each takes as many as this one.
-fn held_times(plan: &Plan, pool: &Pool, actor: u32, turn: Turn, most: u32) -> u32
+/// Whether this is the channel, where there is one.
+fn is_own(own: Option<u32>, channel: u32) -> bool
+    ensures { own ≡ None → result ≡ false }
+{
+    match own {
+        Some(own) => own == channel,
+        None => false,
+    }
+}
+
+/// How many firings at most find their tokens in the input, where each takes as many as this one. The
+/// actor's channel to itself, where one is given, sets no bound.
+fn held_in(plan: &Plan, pool: &Pool, own: Option<u32>, channel: u32, turn: Turn, most: u32) -> u32
+    requires channel { channel < length plan.now.channels }
+    requires same { length pool.now.chains ≡ length plan.now.channels }
+    requires phase { IsPhase (consume_at plan.now.channels channel) turn.firing turn.phase }
+    ensures most { result ≤ most }
+    ensures greatest { own ≡ None → (n : ℕ) → n ≤ most
+        → n * take_at plan.now.channels turn.firing channel ≤ length (tokens_at (tokens_in pool.now) channel) → n ≤ result }
+{
+    if is_own(own, channel) {
+        return most;
+    }
+    let each = u64::from(plan.takes(channel, turn));
+    times(u64::from(pool.len(channel)), each, most)
+}
+
+/// How many firings at most find room in the output, where each gives as many tokens as this one. The
+/// actor's channel to itself, where one is given, sets no bound.
+fn room_in(plan: &Plan, pool: &Pool, own: Option<u32>, channel: u32, turn: Turn, most: u32) -> u32
+    requires channel { channel < length plan.now.channels }
+    requires same { length pool.now.chains ≡ length plan.now.channels }
+    requires phase { IsPhase (produce_at plan.now.channels channel) turn.firing turn.phase }
+    ensures most { result ≤ most }
+    ensures greatest { own ≡ None → (n : ℕ) → n ≤ most
+        → length (tokens_at (tokens_in pool.now) channel) + n * give_at plan.now.channels turn.firing channel ≤ capacity_at plan.now.channels channel
+        → n ≤ result }
+{
+    if is_own(own, channel) {
+        return most;
+    }
+    let room = plan.capacity(channel).saturating_sub(pool.len(channel));
+    let each = u64::from(plan.gives(channel, turn));
+    times(u64::from(room), each, most)
+}
+
+/// How many firings at most find their tokens, where each takes as many as this one. The actor's channel
+/// to itself, where one is given, sets no bound.
+pub(crate) fn held_times(
+    plan: &Plan,
+    pool: &Pool,
+    actor: u32,
+    own: Option<u32>,
+    turn: Turn,
+    most: u32,
+) -> u32
     requires actor { actor < length plan.now.sources }
     requires same { length pool.now.chains ≡ length plan.now.channels }
     requires in_phase { IsInPhase plan.now.channels actor turn.firing turn.phase }
     ensures most { result ≤ most }
-    ensures greatest { (n : ℕ) → n ≤ most
+    ensures greatest { own ≡ None → (n : ℕ) → n ≤ most
         → HoldAll (tokens_in pool.now) (λ c. n * take_at plan.now.channels turn.firing c) (inputs_at plan.now.channels actor) → n ≤ result }
 {
     let inputs = plan.inputs(actor);
     let mut n = most;
     for channel in inputs {
-        let each = u64::from(plan.takes(*channel, turn));
-        n = times(u64::from(pool.len(*channel)), each, n);
+        n = held_in(plan, pool, own, *channel, turn, n);
     }
     n
 }
 
-/// How many firings at most find room, where each gives as many tokens as this one.
-fn room_times(plan: &Plan, pool: &Pool, actor: u32, turn: Turn, most: u32) -> u32
+/// How many firings at most find room, where each gives as many tokens as this one. The actor's channel
+/// to itself, where one is given, sets no bound.
+pub(crate) fn room_times(
+    plan: &Plan,
+    pool: &Pool,
+    actor: u32,
+    own: Option<u32>,
+    turn: Turn,
+    most: u32,
+) -> u32
     requires actor { actor < length plan.now.sources }
     requires same { length pool.now.chains ≡ length plan.now.channels }
     requires in_phase { IsInPhase plan.now.channels actor turn.firing turn.phase }
     ensures most { result ≤ most }
-    ensures greatest { (n : ℕ) → n ≤ most
+    ensures greatest { own ≡ None → (n : ℕ) → n ≤ most
         → HaveRoomFor plan.now.channels (tokens_in pool.now) (λ c. n * give_at plan.now.channels turn.firing c)
         (outputs_at plan.now.channels actor) → n ≤ result }
 {
     let outputs = plan.outputs(actor);
     let mut n = most;
     for channel in outputs {
-        let room = plan.capacity(*channel).saturating_sub(pool.len(*channel));
-        let each = u64::from(plan.gives(*channel, turn));
-        n = times(u64::from(room), each, n);
+        n = room_in(plan, pool, own, *channel, turn, n);
     }
     n
 }
@@ -435,8 +495,8 @@ impl Core {
         let gift = self.gives(actor) as u64;
         let turn = self.turn(actor);
         let limited = self.limited(actor, most);
-        let held = held_times(&self.plan, &self.pool, actor, turn, limited);
-        let roomy = room_times(&self.plan, &self.pool, actor, turn, held);
+        let held = held_times(&self.plan, &self.pool, actor, None, turn, limited);
+        let roomy = room_times(&self.plan, &self.pool, actor, None, turn, held);
         let supplied = self.supplied(actor, gift, roomy);
         self.celled(gift, supplied)
     }

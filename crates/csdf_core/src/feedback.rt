@@ -17,7 +17,7 @@ ghost use Rattle.csdf_core.specs.Rows.{gift};
 ghost use Rattle.csdf_core.specs.Shows.{Plays};
 ghost use Rattle.csdf_core.specs.Step.{count, stage};
 
-use crate::blocks::{look_ahead, times};
+use crate::blocks::{held_times, look_ahead, room_times, times};
 use crate::firing_core::Core;
 use crate::first_refusal::is_at;
 use crate::going::put_lasting;
@@ -185,43 +185,6 @@ fn have_asked(plan: &Plan, pool: &Pool, actor: u32, own: u32, turn: Turn, n: u32
     true
 }
 
-/// How many firings at most find their tokens in the inputs that are not this channel.
-fn held_beside(plan: &Plan, pool: &Pool, actor: u32, own: u32, turn: Turn, most: u32) -> u32
-    requires actor { actor < length plan.now.sources }
-    requires same { length pool.now.chains ≡ length plan.now.channels }
-    requires in_phase { IsInPhase plan.now.channels actor turn.firing turn.phase }
-    ensures { result ≤ most }
-{
-    let inputs = plan.inputs(actor);
-    let mut n = most;
-    for channel in inputs {
-        if *channel != own {
-            let each = u64::from(plan.takes(*channel, turn));
-            n = times(u64::from(pool.len(*channel)), each, n);
-        }
-    }
-    n
-}
-
-/// How many firings at most find room in the outputs that are not this channel.
-fn room_beside(plan: &Plan, pool: &Pool, actor: u32, own: u32, turn: Turn, most: u32) -> u32
-    requires actor { actor < length plan.now.sources }
-    requires same { length pool.now.chains ≡ length plan.now.channels }
-    requires in_phase { IsInPhase plan.now.channels actor turn.firing turn.phase }
-    ensures { result ≤ most }
-{
-    let outputs = plan.outputs(actor);
-    let mut n = most;
-    for channel in outputs {
-        if *channel != own {
-            let room = plan.capacity(*channel).saturating_sub(pool.len(*channel));
-            let each = u64::from(plan.gives(*channel, turn));
-            n = times(u64::from(room), each, n);
-        }
-    }
-    n
-}
-
 /// Copies the oldest tokens of the channel, where there is one, as many as the slice is long.
 fn copy_other(pool: &Pool, other: Option<u32>, into: &mut [i32])
     requires enough { IfSome other (λ c. (c < length pool.now.chains) × (length into.old ≤ length (tokens_at (tokens_in pool.now) c))) }
@@ -371,14 +334,14 @@ impl Core {
     {
         let plan = &self.plan;
         let turn = self.turn(actor);
-        let own = feedback.channel;
+        let own = Some(feedback.channel);
         let left = plan.limit(actor).saturating_sub(turn.firing);
         let mut n = most.min(left);
         if let Some(firings) = plan.firings() {
             n = times(u64::from(firings).saturating_sub(self.started), 1, n);
         }
-        n = held_beside(plan, &self.pool, actor, own, turn, n);
-        n = room_beside(plan, &self.pool, actor, own, turn, n);
+        n = held_times(plan, &self.pool, actor, own, turn, n);
+        n = room_times(plan, &self.pool, actor, own, turn, n);
         let beside = (self.gives(actor) as u64).saturating_sub(u64::from(feedback.taken));
         times(
             u64::from(plan.cells()).saturating_sub(self.used()),

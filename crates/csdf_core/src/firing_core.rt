@@ -8,9 +8,9 @@ ghost use Rattle.csdf_pool.specs.Pool.{chain_of, held_cells};
 
 use crate::filling::{blank_lists, filled_pool, first_gifts, first_needs, lengths_of};
 use crate::plan::Plan;
-use crate::setup::Setup;
 use crate::stage::Stage;
 use crate::turn::Turn;
+use csdf_analysis::Accepted;
 use csdf_model::{MAX_ACTORS, MAX_CHANNELS, MAX_FIRINGS_PER_ACTOR, MAX_PHASES};
 use csdf_pool::{Cells, Pool};
 use std::alloc::{AllocError, Global};
@@ -60,21 +60,29 @@ impl Core {
     ghost use Rattle.csdf_core.specs.Planned.{plan_for};
     ghost use Rattle.csdf_core.specs.Transfers.{opening_pool};
 
-    /// A core of the setup in the state in which nothing has fired: the initial tokens are in the
-    /// channels, in order. It keeps a copy of the accepted graph.
+    /// A core of the accepted graph, of which it keeps a copy, in the state in which nothing has fired:
+    /// the initial tokens are in the channels, in order. Each actor has its greatest number of firings
+    /// (`limits`), and the number of tokens in its file, 0 where it is no source (`supply`). There is a
+    /// greatest number of firings that begin, of all actors together, where `firings` says so.
     ///
     /// An error says that memory ran out.
-    pub fn new(alloc: Global, setup: Setup<'_>) -> Result<Core, AllocError>
-        requires limits { length setup.limits.items ≡ length setup.accepted.now.graph.actors }
-        requires supply { length setup.supply.items ≡ length setup.accepted.now.graph.actors }
-        requires few { All (λ n. n ≤ MAX_FIRINGS_PER_ACTOR) setup.limits.items }
+    pub fn new(
+        alloc: Global,
+        accepted: &Accepted,
+        limits: Vec<u32>,
+        supply: Vec<u32>,
+        firings: Option<u32>,
+    ) -> Result<Core, AllocError>
+        requires limits { length limits.items ≡ length accepted.now.graph.actors }
+        requires supply { length supply.items ≡ length accepted.now.graph.actors }
+        requires few { All (λ n. n ≤ MAX_FIRINGS_PER_ACTOR) limits.items }
         ensures plan { IfOk result (λ core. core.plan
-            ≡ plan_for setup.entry.accepted.now setup.entry.limits.items setup.entry.supply.items setup.entry.firings) }
+            ≡ plan_for accepted.now limits.items supply.items firings) }
         ensures opening { IfOk result (λ core. Shows core (opening core.plan)) }
         ensures peaks { IfOk result (λ core. core.peaks ≡ map length (map (λ (c : ChannelModel). c.initial) core.plan.channels)) }
         ensures cells { IfOk result (λ core. core.pool ≡ opening_pool core.plan) }
     {
-        let plan = Plan::new(alloc, setup)?;
+        let plan = Plan::new(alloc, accepted, limits, supply, firings)?;
         let pool = filled_pool(alloc, &plan)?;
         let peaks = lengths_of(alloc, &pool, plan.channels() as u32)?;
         let needs = first_needs(alloc, &plan)?;

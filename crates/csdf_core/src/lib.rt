@@ -14,7 +14,6 @@ mod plan;
 mod playing;
 mod readiness;
 mod refusal;
-mod setup;
 mod several;
 mod stage;
 mod transfer;
@@ -29,5 +28,4 @@ pub use laws::{
 pub use moves::Move;
 pub use playing::{Played, Reply, play, play_on};
 pub use refusal::Refusal;
-pub use setup::Setup;
 pub use stage::Stage;

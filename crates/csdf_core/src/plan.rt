@@ -15,8 +15,8 @@ ghost use Rattle.csdf_core.specs.Streams.{part};
 ghost use Rattle.csdf_core.specs.Ports.{inputs_at, outputs_at, take_at, give_at};
 ghost use Rattle.csdf_core.specs.Phases.{HasPhases, IsInPhase, IsPhase};
 
-use crate::setup::Setup;
 use crate::turn::Turn;
+use csdf_analysis::Accepted;
 use csdf_model::{
     Channel, Graph, Kernel, MAX_ACTORS, MAX_CHANNELS, MAX_FIRINGS_PER_ACTOR, MAX_PHASES,
     MAX_TOKENS_PER_FIRING, rate, total,
@@ -78,26 +78,32 @@ fn copy_of(alloc: Global, numbers: &[u32]) -> Result<Vec<u32>, AllocError>
 }
 
 impl Plan {
-    /// The plan of the setup, whose graph it copies.
+    /// The plan of an accepted graph, which it copies, with the greatest number of firings of each actor,
+    /// the number of tokens in the file of each source, and the greatest number of all firings.
     ///
     /// An error says that memory ran out.
-    pub(crate) fn new(alloc: Global, setup: Setup<'_>) -> Result<Plan, AllocError>
-        requires limits { length setup.limits.items ≡ length setup.accepted.now.graph.actors }
-        requires supply { length setup.supply.items ≡ length setup.accepted.now.graph.actors }
-        requires few { All (λ n. n ≤ MAX_FIRINGS_PER_ACTOR) setup.limits.items }
+    pub(crate) fn new(
+        alloc: Global,
+        accepted: &Accepted,
+        limits: Vec<u32>,
+        supply: Vec<u32>,
+        firings: Option<u32>,
+    ) -> Result<Plan, AllocError>
+        requires limits { length limits.items ≡ length accepted.now.graph.actors }
+        requires supply { length supply.items ≡ length accepted.now.graph.actors }
+        requires few { All (λ n. n ≤ MAX_FIRINGS_PER_ACTOR) limits.items }
         ensures plan { IfOk result (λ plan. plan
-            ≡ plan_for setup.entry.accepted.now setup.entry.limits.items setup.entry.supply.items setup.entry.firings) }
+            ≡ plan_for accepted.now limits.items supply.items firings) }
         ensures playable { IfOk result IsPlayable }
     {
-        let accepted = setup.accepted;
         let graph = accepted.graph().try_copy(alloc)?;
         let capacities = copy_of(alloc, accepted.capacities())?;
         Ok(Plan {
             graph,
             capacities,
-            limits: setup.limits,
-            supply: setup.supply,
-            firings: setup.firings,
+            limits,
+            supply,
+            firings,
             cells: accepted.cells(),
         })
     }

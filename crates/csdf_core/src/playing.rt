@@ -13,7 +13,7 @@ ghost use Rattle.csdf_core.specs.Headline.{KeepsOrder, KeepsCapacities, KeepsClo
 use crate::firing_core::Core;
 use crate::moves::Move;
 use crate::refusal::Refusal;
-use crate::setup::Setup;
+use csdf_analysis::Accepted;
 use csdf_model::MAX_FIRINGS_PER_ACTOR;
 use std::alloc::{AllocError, Global};
 
@@ -82,28 +82,35 @@ pub struct Played {
 }
 
 /// Makes the moves in order, from the state in which nothing has fired, and answers their replies
-/// beside the core that is reached.
+/// beside the core that is reached. The core is made as by [`Core::new`].
 ///
 /// The tokens taken from a channel are a prefix of its initial tokens followed by those written to
 /// it, in order. No channel holds more than its capacity, and none takes a token after an accepted
 /// close. Between any two moves each cell is in exactly one of the chains and the free list. Moves
 /// of whole periods, by a schedule of the accepted graph, are all accepted where there are enough
 /// cells, and leave the channels as they were at first. An error says that memory ran out.
-pub fn play(alloc: Global, setup: Setup<'_>, moves: &[Move]) -> Result<Played, AllocError>
-    requires limits { length setup.limits.items ≡ length setup.accepted.now.graph.actors }
-    requires supply { length setup.supply.items ≡ length setup.accepted.now.graph.actors }
-    requires few { All (λ n. n ≤ MAX_FIRINGS_PER_ACTOR) setup.limits.items }
-    ensures plan { IfOk result (λ p. p.core.plan ≡ plan_for setup.entry.accepted.now setup.entry.limits.items setup.entry.supply.items setup.entry.firings) }
+pub fn play(
+    alloc: Global,
+    accepted: &Accepted,
+    limits: Vec<u32>,
+    supply: Vec<u32>,
+    firings: Option<u32>,
+    moves: &[Move],
+) -> Result<Played, AllocError>
+    requires limits { length limits.items ≡ length accepted.now.graph.actors }
+    requires supply { length supply.items ≡ length accepted.now.graph.actors }
+    requires few { All (λ n. n ≤ MAX_FIRINGS_PER_ACTOR) limits.items }
+    ensures plan { IfOk result (λ p. p.core.plan ≡ plan_for accepted.now limits.items supply.items firings) }
     ensures replies { IfOk result (λ p. replies_in p.replies.items ≡ replies_of p.core.plan (opening p.core.plan) (map move_of moves.now)) }
     ensures shows { IfOk result (λ p. Shows p.core (state_after p.core.plan (opening p.core.plan) (map move_of moves.now))) }
     ensures peaks { IfOk result (λ p. (c : ℕ) → slice_index p.core.peaks c ≡ peak_of p.core.plan (opening p.core.plan) c (map move_of moves.now)) }
     ensures prefix { IfOk result (λ p. KeepsOrder p.core.plan (map move_of moves.now) (replies_in p.replies.items)) }
     ensures capacity { IfOk result (λ p. KeepsCapacities p.core.plan (map move_of moves.now) (replies_in p.replies.items)) }
     ensures closed { IfOk result (λ p. KeepsClosed p.core.plan (map move_of moves.now) (replies_in p.replies.items)) }
-    ensures periods { IfOk result (λ p. EndsPeriods setup.entry.accepted.now p.core.plan p.core.now (map move_of moves.now) (replies_in p.replies.items)) }
+    ensures periods { IfOk result (λ p. EndsPeriods accepted.now p.core.plan p.core.now (map move_of moves.now) (replies_in p.replies.items)) }
     ensures partition { IfOk result (λ p. IsRun p.core (map move_of moves.now) (replies_in p.replies.items)) }
 {
-    let mut core = Core::new(alloc, setup)?;
+    let mut core = Core::new(alloc, accepted, limits, supply, firings)?;
     let replies = play_on(&mut core, alloc, moves)?;
     Ok(Played { core, replies })
 }

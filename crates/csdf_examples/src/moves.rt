@@ -6,7 +6,7 @@ ghost use Rattle.csdf_core.specs.State.{opening};
 
 use crate::analysis::accepted_in;
 use csdf_analysis::Accepted;
-use csdf_core::{Core, Setup};
+use csdf_core::Core;
 use csdf_model::{Actor, Kernel};
 use std::alloc::{AllocError, Global};
 use std::io;
@@ -37,13 +37,9 @@ fn core_of(alloc: Global, accepted: &Accepted) -> Result<Core, AllocError>
     ensures { IfOk result (λ core. Shows core (opening core.plan)) }
 {
     let actors = accepted.graph().actors();
-    let setup = Setup {
-        accepted,
-        limits: vec![in alloc; 3; actors.len()]?,
-        supply: actors.iter().map(supply_of).collect(alloc)?,
-        firings: None,
-    };
-    Core::new(alloc, setup)
+    let limits = vec![in alloc; 3; actors.len()]?;
+    let supply = actors.iter().map(supply_of).collect(alloc)?;
+    Core::new(alloc, accepted, limits, supply, None)
 }
 
 /// Makes the four moves of the actor's next firing, which writes these tokens, and prints the replies.

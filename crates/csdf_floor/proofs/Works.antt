@@ -20,7 +20,7 @@ use Rattle.csdf_core.specs.Plan.{Channel, gives_of, to_at}
 use Rattle.csdf_core.specs.Ports.{give_at, outputs_at}
 use Rattle.csdf_core.specs.Step.{producer}
 use Rattle.csdf_core.specs.Playable.{IsPlayable}
-use Rattle.csdf_core.proofs.Setups.{playable_setup}
+use Rattle.csdf_core.proofs.MadePlans.{playable_made}
 use Rattle.csdf_core.proofs.PlanLemmas.{seen_at}
 use Rattle.csdf_floor.specs.Journal.{program_for}
 use Rattle.std.proofs.lemmas.Bool.Decides.{eqb_tells, leb_tells}
@@ -68,7 +68,7 @@ pub playable_program : (a : Accepted) (feeds : List (List ℤ)) (periods : ℕ) 
     → IsPlayable (program_for a feeds periods firings).plan
 playable_program a feeds periods firings ok few =
     let len : length (map (λ q. periods * q) a.q) ≡ length a.graph.actors = length-map a.q (λ q. periods * q) ∙ ok.repetition.firings.each_actor in
-    playable_setup a (map (λ q. periods * q) a.q) (map length feeds) firings ok len (All-from_get_or (λ n. n ≤ 16384000) (map (λ q. periods * q) a.q) 0 (λ i lt.
+    playable_made a (map (λ q. periods * q) a.q) (map length feeds) firings ok len (All-from_get_or (λ n. n ≤ 16384000) (map (λ q. periods * q) a.q) 0 (λ i lt.
     let count = length-map a.q (λ q. periods * q) in
     let there : i < length a.q = omega arith in
     subst (λ n. n ≤ 16384000) (sym (get_or-map (λ q. periods * q) a.q i 0 0 there))

@@ -1,6 +1,6 @@
 //! A core, and the moves that brought it where it is.
 
-ghost use Rattle.std.specs.Prelude.{ℕ, ◌≡◌, ◌↔◌, IsTrue, All, ◌+◌, ◌<◌, ◌≤◌, [], None, true, false, pos, IfOk, OnOk, IsOk, length, map};
+ghost use Rattle.std.specs.Prelude.{ℕ, ◌≡◌, ◌↔◌, IsTrue, All, ◌+◌, ◌<◌, ◌≤◌, [], None, true, false, IfOk, OnOk, IsOk, length, map};
 ghost use Rattle.std.specs.Prelude.{replicate, slice_range, suc, slice_index, slice_index_or};
 ghost use Rattle.std.specs.List.{range_with_len};
 ghost use Rattle.csdf_model.specs.declared.parts.Kernel.TheVariants.{Sink};
@@ -8,19 +8,19 @@ ghost use Rattle.csdf_core.specs.declared.stage.Stage.TheVariants.{Idle, Fetched
 ghost use Rattle.csdf_core.specs.Moves.{Begin, Read, Write, Finish, Close};
 ghost use Rattle.csdf_core.specs.Plan.{Channel as ChannelModel};
 ghost use Rattle.csdf_core.specs.Ports.{outputs_at};
-ghost use Rattle.csdf_core.specs.Rows.{need};
+ghost use Rattle.csdf_core.specs.Rows.{gift, need};
 ghost use Rattle.csdf_core.specs.Shows.{Shows};
 ghost use Rattle.csdf_core.specs.State.{opening, present};
 ghost use Rattle.csdf_core.specs.Step.{count, given, stage, refusal, is_over, producer};
 ghost use Rattle.csdf_journal.specs.View.{is_kept};
 ghost use Rattle.csdf_kernel.specs.Value.{HasFilterInRange};
 ghost use Rattle.csdf_floor.specs.Journal.{IsHonest, inputs, output_counts, value, reads_of, state_of};
+ghost use Rattle.csdf_floor.specs.Making.{amount_of};
 ghost use Rattle.csdf_floor.specs.Work.{IsWork, program, feed_of, feeds_in, is_sink_kernel};
 ghost use Rattle.csdf_floor.specs.Floor.{IsUnderWay, task_of};
 ghost use Rattle.csdf_floor.specs.Outcome.{report_of, report_on};
 ghost use Rattle.csdf_floor.specs.Inside.{AreClosed, HasGiven, HasRoom, HasTaken, IsBook, IsNext, is_due};
 
-use crate::jobs::{blank, refill};
 use crate::lists::Lists;
 use crate::outcome::ChannelReport;
 use crate::same::{are_same_tokens, is_same_kernel};
@@ -33,15 +33,15 @@ use std::alloc::{AllocError, Global};
 use std::marker::Model;
 
 /// What is run, its core, the moves that brought the core where it is, and what the sinks took.
-pub(crate) struct Book {
-    pub(crate) work: Work,
+pub(crate) struct Book<'a> {
+    pub(crate) work: Work<'a>,
     pub(crate) core: Core,
     pub(crate) journal: Journal,
     pub(crate) sinks: Lists,
     pub(crate) reads: Vec<Vec<i32>>,
 }
 
-impl Drop for Book {
+impl Drop for Book<'_> {
     fn drop(self) {
         let Book {
             work: _,
@@ -53,7 +53,7 @@ impl Drop for Book {
     }
 }
 
-impl Model for Book {
+impl<'a> Model for Book<'a> {
     ghost use Rattle.csdf_floor.specs.Work.{feeds_in};
     ghost use Rattle.csdf_floor.specs.Inside.{BookView, IsBook};
 
@@ -92,26 +92,23 @@ fn blank_rows(alloc: Global, actors: u32) -> Result<(Lists, Vec<Vec<i32>>), Allo
     Ok((sinks, reads))
 }
 
-/// A core of what is run that has not moved.
-fn core_of(alloc: Global, work: &Work) -> Result<Core, AllocError>
-    ensures plan { IfOk result (λ core. core.plan ≡ (program work.now).plan) }
-    ensures opening { IfOk result (λ core. Shows core (opening core.plan)) }
-    ensures peaks { IfOk result (λ core. core.peaks ≡ map length (map (λ (c : ChannelModel). c.initial) core.plan.channels)) }
-    ensures work { IfOk result (λ core. IsWork work.now) }
-{
-    let setup = work.setup(alloc)?;
-    Core::new(alloc, setup)
-}
-
-impl Book {
+impl<'a> Book<'a> {
     /// The book of a core that has not moved.
-    pub(crate) fn open(alloc: Global, work: Work, keeping: Keeping) -> Result<Book, AllocError>
-        ensures work { IfOk result (λ book. book.shown.work ≡ work) }
+    pub(crate) fn open(
+        alloc: Global,
+        work: Work<'a>,
+        core: Core,
+        keeping: Keeping,
+    ) -> Result<Book<'a>, AllocError>
+        requires work { IsWork work }
+        requires plan { core.plan ≡ (program work).plan }
+        requires opening { Shows core (opening core.plan) }
+        requires peaks { core.peaks ≡ map length (map (λ (c : ChannelModel). c.initial) core.plan.channels) }
+        ensures work { IfOk result (λ book. book.shown.work ≡ work.entry) }
         ensures journal { IfOk result (λ book. book.shown.journal ≡ []) }
         ensures keeps { IfOk result (λ book. book.shown.keeps ≡ is_kept keeping) }
         ensures opening { IfOk result (λ book. book.shown.core.now ≡ present (opening book.shown.core.plan)) }
     {
-        let core = core_of(alloc, &work)?;
         let (sinks, reads) = blank_rows(alloc, core.actors())?;
         Ok(Book {
             work,
@@ -123,7 +120,7 @@ impl Book {
     }
 
     /// What is run.
-    pub(crate) fn work(&self) -> &Work
+    pub(crate) fn work(&self) -> &Work<'a>
         ensures { result.now ≡ self.now.shown.work }
     {
         &self.work
@@ -447,9 +444,9 @@ impl Book {
 
     /// The journal, and what each sink took.
     pub(crate) fn into_parts(self) -> (Journal, Vec<Vec<i32>>)
-        ensures moves { result.0.moves ≡ self.shown.journal }
-        ensures keeps { result.0.keeps ≡ self.shown.keeps }
-        ensures sinks { feeds_in result.1.items ≡ self.shown.sinks }
+        ensures moves { result.0.moves ≡ self.entry.shown.journal }
+        ensures keeps { result.0.keeps ≡ self.entry.shown.keeps }
+        ensures sinks { feeds_in result.1.items ≡ self.entry.shown.sinks }
     {
         let Book {
             work: _,
@@ -481,20 +478,25 @@ impl Book {
         self.work.counts_into(actor, self.core.fired(actor), counts)
     }
 
-    /// The inputs of the actor's next firing, with zeros in the place of what it will read, in the
-    /// place of what the list holds.
-    pub(crate) fn blank_into(&self, actor: u32, into: &mut Inputs) -> Result<(), AllocError>
-        requires exists { actor < length self.now.shown.core.plan.sources }
-        ensures value { OnOk result (into.new.items
-            ≡ inputs (program self.now.shown.work) actor (count self.now.shown.core.now actor)
-            (replicate (need actor (count self.now.shown.core.now actor) self.now.shown.core.plan.channels) (pos 0))) }
-        ensures few { OnOk result (length into.new.items ≤ 8192) }
+    /// How many tokens the actor's next firing computes from.
+    fn amount(&self, actor: u32) -> usize
+        requires { actor < length self.now.shown.core.plan.sources }
+        ensures { result ≡ amount_of (program self.now.shown.work) actor (count self.now.shown.core.now actor) }
     {
-        if !self.work.is_source(actor) {
-            return blank(into, self.core.need(actor));
+        if self.work.is_source(actor) {
+            return self.core.gives(actor);
         }
+        self.core.need(actor)
+    }
+
+    /// Makes the list empty, with room for what the actor's next firing computes from.
+    pub(crate) fn reserve_inputs(&self, actor: u32, into: &mut Inputs) -> Result<(), AllocError>
+        requires { actor < length self.now.shown.core.plan.sources }
+        ensures empty { OnOk result (into.new.items ≡ []) }
+        ensures room { OnOk result (amount_of (program self.now.shown.work) actor (count self.now.shown.core.now actor) ≤ into.new.capacity) }
+    {
         into.clear();
-        into.extend_from_slice(self.feed_part(actor))
+        into.reserve(self.amount(actor))
     }
 
     /// The part of its feed that the next firing of a source computes from.
@@ -503,24 +505,29 @@ impl Book {
         ensures value { result.now ≡ slice_range (feed_of self.now.shown.work.feeds actor)
             (given (program self.now.shown.work).plan actor (count self.now.shown.core.now actor))
             (given (program self.now.shown.work).plan actor (suc (count self.now.shown.core.now actor))) }
+        ensures part { length result.now ≤ gift actor (count self.now.shown.core.now actor) self.now.shown.core.plan.channels }
         ensures few { length result.now ≤ 8192 }
     {
         let used = self.core.written(actor) as usize;
         self.work.part(actor, used, self.core.gives(actor))
     }
 
-    /// Puts what the actor has read in the place of the zeros.
+    /// Puts what the actor's present firing computes from into the list, which is empty and has room for it.
     pub(crate) fn fill(&self, actor: u32, into: &mut Inputs)
         requires exists { actor < length self.now.shown.core.plan.sources }
-        requires blank { into.old.items
-            ≡ inputs (program self.now.shown.work) actor (count self.now.shown.core.now actor)
-            (replicate (length (slice_index_or self.now.reads actor [])) (pos 0)) }
+        requires buffer { length (slice_index_or self.now.reads actor []) ≡ need actor (count self.now.shown.core.now actor) self.now.shown.core.plan.channels }
+        requires empty { into.old.items ≡ [] }
+        requires room { amount_of (program self.now.shown.work) actor (count self.now.shown.core.now actor) ≤ into.old.capacity }
         ensures value { into.new.items
             ≡ inputs (program self.now.shown.work) actor (count self.now.shown.core.now actor) (slice_index_or self.now.reads actor []) }
-        ensures count { length into.new.items ≡ length into.old.items }
+        ensures few { length into.new.items ≤ 8192 }
     {
-        if !self.work.is_source(actor) {
-            refill(into, &self.reads[actor as usize]);
+        // Read for the prover: no firing needs more than 8,192 tokens.
+        let _need = self.core.need(actor);
+        let inputs = self.firing_inputs(actor);
+        match into.extend_from_slice(inputs) {
+            Ok(()) => {}
+            Err(_error) => unreachable!(),
         }
     }
 

@@ -23,7 +23,7 @@ use crate::draft::Draft;
 use crate::ending::ending_of;
 use crate::fault::{DeliverFault, StartFault};
 use crate::outcome::Outcome;
-use crate::work::Work;
+use crate::work::{Work, core_of};
 use csdf_analysis::Accepted;
 use csdf_core::{Core, Move};
 use csdf_journal::Keeping;
@@ -35,17 +35,17 @@ use std::marker::Model;
 ///
 /// Each actor is idle, or has read the tokens of its firing, whose job is under way. A channel is
 /// closed exactly where its producer is idle and makes no firing more.
-pub struct Floor {
-    book: Book,
+pub struct Floor<'a> {
+    book: Book<'a>,
 }
 
-impl Drop for Floor {
+impl Drop for Floor<'_> {
     fn drop(self) {
         let Floor { book: _ } = self;
     }
 }
 
-impl Model for Floor {
+impl<'a> Model for Floor<'a> {
     ghost use Rattle.csdf_floor.specs.Floor.{FloorView, IsBetween};
 
     ghost Value = { FloorView };
@@ -56,14 +56,14 @@ impl Model for Floor {
 }
 
 /// The book of such a run that has not moved.
-fn opened(
+fn opened<'a>(
     alloc: Global,
-    accepted: &Accepted,
-    feeds: &[Vec<i32>],
+    accepted: &'a Accepted,
+    feeds: &'a [Vec<i32>],
     periods: u32,
     firings: Option<u32>,
     keeping: Keeping,
-) -> Result<Book, AllocError>
+) -> Result<Book<'a>, AllocError>
     requires fed { AreFeeds accepted.now.graph (feeds_in feeds.now) }
     requires some_period { 1 ≤ periods }
     requires few_firings { HasFewFirings accepted.now periods }
@@ -73,24 +73,25 @@ fn opened(
     ensures opening { IfOk result (λ book. book.shown.core.now ≡ present (opening book.shown.core.plan)) }
     ensures keeps { IfOk result (λ book. book.shown.keeps ≡ is_kept keeping) }
 {
-    let work = Work::new(alloc, accepted, feeds, periods, firings)?;
-    Book::open(alloc, work, keeping)
+    let core = core_of(alloc, accepted, feeds, periods, firings)?;
+    let work = Work::new(alloc, accepted, feeds, periods, firings, &core)?;
+    Book::open(alloc, work, core, keeping)
 }
 
-impl Floor {
-    /// A floor on which nothing has fired, for so many periods of the graph over copies of these
-    /// feeds, one for each actor and empty for one that is no source; with a limit on all firings
-    /// where there is one. Each channel whose producer makes no firing at all is closed. The journal
+impl<'a> Floor<'a> {
+    /// A floor on which nothing has fired, for so many periods of the graph over these feeds, one for
+    /// each actor and empty for one that is no source; with a limit on all firings where there is one.
+    /// It lasts as long as the graph and the feeds, which it reads where they are. Each channel whose producer makes no firing at all is closed. The journal
     /// is kept.
     ///
     /// An error says that memory ran out.
     pub fn new(
         alloc: Global,
-        accepted: &Accepted,
-        feeds: &[Vec<i32>],
+        accepted: &'a Accepted,
+        feeds: &'a [Vec<i32>],
         periods: u32,
         firings: Option<u32>,
-    ) -> Result<Floor, AllocError>
+    ) -> Result<Floor<'a>, AllocError>
         requires fed { AreFeeds accepted.now.graph (feeds_in feeds.now) }
         requires some_period { 1 ≤ periods }
         requires few_firings { HasFewFirings accepted.now periods }
@@ -106,12 +107,12 @@ impl Floor {
     /// As [`Floor::new`], with a journal that is kept or not. One that is not kept takes no memory.
     pub fn with_journal(
         alloc: Global,
-        accepted: &Accepted,
-        feeds: &[Vec<i32>],
+        accepted: &'a Accepted,
+        feeds: &'a [Vec<i32>],
         periods: u32,
         firings: Option<u32>,
         keeping: Keeping,
-    ) -> Result<Floor, AllocError>
+    ) -> Result<Floor<'a>, AllocError>
         requires fed { AreFeeds accepted.now.graph (feeds_in feeds.now) }
         requires some_period { 1 ≤ periods }
         requires few_firings { HasFewFirings accepted.now periods }
@@ -209,7 +210,7 @@ impl Floor {
             return Err(fault);
         }
         self.book.counts_into(actor, &mut job.counts)?;
-        self.book.blank_into(actor, &mut job.inputs)?;
+        self.book.reserve_inputs(actor, &mut job.inputs)?;
         self.book.make_room(actor)?;
         self.book.take(actor);
         self.book.fill(actor, &mut job.inputs);
@@ -382,10 +383,10 @@ impl Floor {
     /// The outcome of a floor that is quiet.
     pub(crate) fn into_outcome(self, alloc: Global) -> Result<Outcome, AllocError>
         requires { IsQuiet self.core.plan self.core.now }
-        ensures outcome { IfOk result (IsOutcome self.work) }
-        ensures journal { IfOk result (λ o. journal_in o ≡ self.journal) }
-        ensures keeps { IfOk result (λ o. o.journal.keeps ≡ self.keeps) }
-        ensures totals { IfOk result (λ o. HasTotals (program self.work) o self.core.now.counts) }
+        ensures outcome { IfOk result (IsOutcome self.entry.work) }
+        ensures journal { IfOk result (λ o. journal_in o ≡ self.entry.journal) }
+        ensures keeps { IfOk result (λ o. o.journal.keeps ≡ self.entry.keeps) }
+        ensures totals { IfOk result (λ o. HasTotals (program self.entry.work) o self.entry.core.now.counts) }
     {
         let report = self.book.report(alloc)?;
         let ending = ending_of(self.book.core());

@@ -8,7 +8,6 @@ mod drafting;
 mod ending;
 mod fault;
 mod floor;
-mod jobs;
 mod laws;
 mod limits;
 mod lists;

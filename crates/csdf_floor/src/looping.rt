@@ -56,7 +56,7 @@ fn own_values(
     )
 }
 
-impl Book {
+impl Book<'_> {
     /// How many of its next firings an actor that keeps its state in a channel to itself can make at once, at most so
     /// many and at least one, and that channel. `None` where it can't, for a sink, and where the journal is kept.
     pub(crate) fn goes_on(&self, actor: u32, most: u32) -> Option<(Feedback, u32)>
@@ -71,7 +71,7 @@ impl Book {
         if self.journal.keeps() || self.work.is_sink(actor) {
             return None;
         }
-        let feedback = self.core.feedback(actor)?;
+        let feedback = self.work.feedback(actor)?;
         let n = self.core.goes_on(actor, feedback, most);
         if n == 0 {
             return None;

@@ -1,7 +1,7 @@
 //! Several firings of one actor, made at once or one after another.
 
 ghost use Rattle.std.specs.Prelude.{◌≡◌, ◌≤◌, ◌+◌, ◌*◌, ◌++◌, false, length, ◌↔◌, IsTrue, All, ◌<◌, [], None, true, IfOk, OnOk, OnErr, slice_index, slice_index_or};
-ghost use Rattle.csdf_floor.specs.Making.{HasMade, made_moves, made_value};
+ghost use Rattle.csdf_floor.specs.Making.{HasMade, amount_of, made_moves, made_value};
 ghost use Rattle.csdf_model.specs.declared.parts.Kernel.TheVariants.{Sink};
 ghost use Rattle.csdf_core.specs.declared.stage.Stage.TheVariants.{Idle};
 ghost use Rattle.csdf_core.specs.Blocks.{CanFire, AreReadEach, gifts_of, needs_of};
@@ -20,7 +20,7 @@ use csdf_core::Block;
 use csdf_kernel::{Counts, Outputs, eval_block};
 use std::alloc::{AllocError, Global};
 
-impl Book {
+impl Book<'_> {
     /// Makes the buffer of the actor, which is idle, this long.
     fn fit_length(&mut self, actor: u32, needed: usize) -> Result<(), AllocError>
         requires exists { actor < length self.old.shown.core.plan.sources }
@@ -163,8 +163,8 @@ impl Book {
     }
 
     /// How many of its next firings the actor can make at once, at most so many: 0 where the journal
-    /// is kept, and for an actor with a channel to itself (see [`goes_on`](Book::goes_on)). With several
-    /// phases it may be fewer than it can make.
+    /// is kept, for an actor with a channel to itself (see [`goes_on`](Book::goes_on)), and for one of
+    /// several phases that can't make two, whose block would take longer to find than to make.
     pub(crate) fn block(&self, actor: u32, most: u32) -> Block
         requires { actor < length self.now.shown.core.plan.sources }
         ensures most { result.firings ≤ most }
@@ -175,17 +175,15 @@ impl Book {
             ≡ gifts_of self.now.shown.core.plan.channels actor (count self.now.shown.core.now actor) result.firings }
         ensures keeps { 0 < result.firings → self.now.shown.keeps ≡ false }
     {
-        if self.journal.keeps() {
+        let is_long = self.core.has_one_phase(actor) || self.core.can_fire(actor, 2);
+        if self.journal.keeps() || !is_long {
             return Block {
                 firings: 0,
                 needed: 0,
                 given: 0,
             };
         }
-        if self.core.has_one_phase(actor) {
-            return self.core.block(actor, most);
-        }
-        self.phased_block(actor, most)
+        self.core.block(actor, most)
     }
 
     /// Makes room for the actor's next n firings, with a buffer for so many tokens, and the closing of its
@@ -241,11 +239,13 @@ impl Book {
     }
 
     /// What the actor's present firing computes from.
-    fn firing_inputs(&self, actor: u32) -> &[i32]
+    pub(crate) fn firing_inputs(&self, actor: u32) -> &[i32]
         requires exists { actor < length self.now.shown.core.plan.sources }
         requires few { length (slice_index_or self.now.reads actor []) ≤ 8192 }
         ensures value { result.now ≡ inputs (program self.now.shown.work) actor (count self.now.shown.core.now actor)
             (slice_index_or self.now.reads actor []) }
+        ensures amount { length (slice_index_or self.now.reads actor []) ≡ need actor (count self.now.shown.core.now actor) self.now.shown.core.plan.channels
+            → length result.now ≤ amount_of (program self.now.shown.work) actor (count self.now.shown.core.now actor) }
         ensures few { length result.now ≤ 8192 }
     {
         if self.work.is_source(actor) {
@@ -414,17 +414,15 @@ impl Book {
         ensures room { OnOk result (length (outputs_at self.old.shown.core.plan.channels actor) ≤ self.new.room) }
         ensures unchanged { OnErr result (self.new.shown ≡ self.old.shown) }
     {
+        if let Some((feedback, firings)) = self.goes_on(actor, most) {
+            self.make_on(actor, feedback, firings, counts, outputs)?;
+            return Ok(firings);
+        }
         let block = self.block(actor, most);
-        if block.firings > 0 {
-            self.make(actor, block, counts, outputs)?;
-            return Ok(block.firings);
+        if block.firings == 0 {
+            return self.make_singly(actor, most, counts, outputs);
         }
-        match self.goes_on(actor, most) {
-            Some((feedback, firings)) => {
-                self.make_on(actor, feedback, firings, counts, outputs)?;
-                Ok(firings)
-            }
-            None => self.make_singly(actor, most, counts, outputs),
-        }
+        self.make(actor, block, counts, outputs)?;
+        Ok(block.firings)
     }
 }

@@ -1,5 +1,5 @@
-//! The next firings of an actor of several phases: how many are made at once, and their values, each with
-//! its own counts and its own part of the tokens.
+//! The values of the next firings of an actor of several phases, each with its own counts and its own part
+//! of the tokens.
 
 ghost use Rattle.std.specs.Prelude.{◌≡◌, ◌+◌, ◌++◌, ◌^◌, ◌<◌, ◌≤◌, [], false, true, IfOk, OnOk, length, slice_index_or, slice_range};
 ghost use Rattle.smallvec.specs.SmallVec.{HasRoomFor};
@@ -16,7 +16,7 @@ use csdf_kernel::{Counts, Outputs, push_value};
 use csdf_model::MAX_FIRINGS_PER_ACTOR;
 use std::alloc::AllocError;
 
-impl Work {
+impl Work<'_> {
     /// How many tokens the firing computes from.
     fn amount(&self, actor: u32, firing: u32) -> usize
         requires { actor < length self.now.accepted.graph.actors }
@@ -77,103 +77,9 @@ impl Work {
         }
         Ok(())
     }
-
-    /// How many firings of the actor, from this one on and at most so many, read no more than `held`
-    /// tokens in all and write no more than `room`, and what they move.
-    fn reach(&self, actor: u32, first: u32, most: u32, held: u64, room: u64) -> Block
-        requires exists { actor < length self.now.accepted.graph.actors }
-        requires few { first + most < 2 ^ 32 }
-        ensures most { result.firings ≤ most }
-        ensures needed { result.needed ≡ needs_of (program self.now).plan.channels actor first result.firings }
-        ensures given { result.given ≡ gifts_of (program self.now).plan.channels actor first result.firings }
-    {
-        let mut needed = 0;
-        let mut given = 0;
-        for firings in 0..most {
-            let reads = needed + self.need(actor, first + firings) as u64;
-            let writes = given + self.gift(actor, first + firings) as u64;
-            if reads > held || writes > room {
-                return Block {
-                    firings,
-                    needed,
-                    given,
-                };
-            }
-            needed = reads;
-            given = writes;
-        }
-        Block {
-            firings: most,
-            needed,
-            given,
-        }
-    }
 }
 
-impl Book {
-    /// How many tokens the actor's only input holds; without an input more than can be read, and 0 where
-    /// it has several.
-    fn held(&self, actor: u32) -> u64
-        requires { actor < length self.now.shown.core.plan.sources }
-    {
-        let inputs = self.work.inputs(actor);
-        match inputs.len() {
-            0 => u64::MAX,
-            1 => u64::from(self.core.len(inputs[0])),
-            _ => 0,
-        }
-    }
-
-    /// For how many tokens the actor's only output has room; without an output for more than can be
-    /// written, and for 0 where it has several.
-    fn room(&self, actor: u32) -> u64
-        requires { actor < length self.now.shown.core.plan.sources }
-    {
-        let outputs = self.work.outputs(actor);
-        match outputs.len() {
-            0 => u64::MAX,
-            1 => {
-                let capacity = self.work.capacity(outputs[0]);
-                u64::from(capacity.saturating_sub(self.core.len(outputs[0])))
-            }
-            _ => 0,
-        }
-    }
-
-    /// Of [`block`](Book::block) what is so of an actor of several phases: 0 where it can't make two, and
-    /// where it has several inputs or outputs. Such a block would be moved firing by firing, and that
-    /// takes longer than to make the firings one by one.
-    pub(crate) fn phased_block(&self, actor: u32, most: u32) -> Block
-        requires { actor < length self.now.shown.core.plan.sources }
-        ensures most { result.firings ≤ most }
-        ensures can { 0 < result.firings → CanFire self.now.shown.core.plan self.now.shown.core.now actor result.firings }
-        ensures needed { 0 < result.firings → result.needed
-            ≡ needs_of self.now.shown.core.plan.channels actor (count self.now.shown.core.now actor) result.firings }
-        ensures given { 0 < result.firings → result.given
-            ≡ gifts_of self.now.shown.core.plan.channels actor (count self.now.shown.core.now actor) result.firings }
-    {
-        let none = Block {
-            firings: 0,
-            needed: 0,
-            given: 0,
-        };
-        let held = self.held(actor);
-        if held < 2 * self.core.need(actor) as u64 {
-            return none;
-        }
-        let room = self.room(actor);
-        if room < 2 * self.core.gives(actor) as u64 {
-            return none;
-        }
-        let first = self.core.fired(actor);
-        let most = most.min(u32::MAX - first);
-        let block = self.work.reach(actor, first, most, held, room);
-        if block.firings < 2 || !self.core.can_fire(actor, block.firings) {
-            return none;
-        }
-        block
-    }
-
+impl Book<'_> {
     /// What the actor's next firings compute from, which write so many tokens: what is in its buffer, or
     /// for a source the next part of its file.
     fn block_inputs(&self, actor: u32, written: usize) -> &[i32]

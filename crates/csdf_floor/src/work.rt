@@ -1,66 +1,55 @@
 //! What a run is asked for, and what its firings compute from.
 
-ghost use Rattle.std.specs.Prelude.{◌≡◌, ◌↔◌, ◌+◌, ◌*◌, ◌^◌, ◌<◌, ◌≤◌, All, IsTrue, IfOk, OnOk, Some, length, map, slice_get, slice_index_or, slice_range};
+ghost use Rattle.std.specs.Prelude.{◌≡◌, ◌↔◌, ◌+◌, ◌*◌, ◌^◌, ◌<◌, ◌≤◌, All, IsTrue, IfOk, IfSome, OnOk, Some, length, map, slice_get, slice_index_or, slice_range};
 ghost use Rattle.csdf_model.specs.declared.parts.Kernel.TheVariants.{Sink};
 ghost use Rattle.csdf_model.specs.Graph.{channel_view};
 ghost use Rattle.csdf_model.specs.Rates.{total};
+ghost use Rattle.csdf_core.specs.Feedback.{IsFeedback};
 ghost use Rattle.csdf_core.specs.Headline.{capacity_of};
-ghost use Rattle.csdf_core.specs.Planned.{is_source_kernel, plan_for, with_capacity};
-ghost use Rattle.csdf_core.specs.Plan.{consume_at, produce_at, to_at};
+ghost use Rattle.csdf_core.specs.Planned.{is_source_kernel, with_capacity};
+ghost use Rattle.csdf_core.specs.Plan.{Channel as ChannelModel, consume_at, produce_at, to_at};
 ghost use Rattle.csdf_core.specs.Ports.{give_at, inputs_at, outputs_at, take_at};
 ghost use Rattle.csdf_core.specs.Rows.{gift, need};
+ghost use Rattle.csdf_core.specs.Shows.{Shows};
+ghost use Rattle.csdf_core.specs.State.{opening};
 ghost use Rattle.csdf_core.specs.Step.{is_source, producer};
 ghost use Rattle.csdf_kernel.specs.Value.{HasFilterInRange};
-ghost use Rattle.csdf_floor.specs.Journal.{output_counts};
+ghost use Rattle.csdf_floor.specs.Inside.{AreFeedbacks};
+ghost use Rattle.csdf_floor.specs.Journal.{output_counts, program_for};
 ghost use Rattle.csdf_floor.specs.Work.{AreFeeds, HasFewFirings, IsFeed, IsWork, feeds_in, feed_of, is_sink_kernel, program};
 
 use crate::same::{are_same_feeds, is_same_accepted, is_same_limit};
 use csdf_analysis::Accepted;
-use csdf_core::Setup;
+use csdf_core::{Core, Feedback};
 use csdf_kernel::Counts;
-use csdf_model::{Channel, Graph, Kernel};
+use csdf_model::{Actor, Channel, Graph, Kernel};
 use std::alloc::{AllocError, Global};
 use std::marker::Model;
 
 /// What is run: an accepted graph, the contents of its sources' files, for how many periods, and the
-/// limit on all firings where there is one.
-pub(crate) struct Work {
-    accepted: Accepted,
-    feeds: Vec<Vec<i32>>,
+/// limit on all firings where there is one. What each firing would have to look for in the graph again
+/// stands beside them: the channel in which an actor keeps its state.
+#[derive(Drop)]
+pub(crate) struct Work<'a> {
+    accepted: &'a Accepted,
+    feeds: &'a [Vec<i32>],
     periods: u32,
     firings: Option<u32>,
+    feedbacks: Vec<Option<Feedback>>,
 }
 
-impl Drop for Work {
-    fn drop(self) {
-        let Work {
-            accepted: _,
-            feeds: _,
-            periods: _,
-            firings: _,
-        } = self;
-    }
-}
-
-impl Model for Work {
+impl<'a> Model for Work<'a> {
+    ghost use Rattle.std.specs.Prelude.{length};
+    ghost use Rattle.csdf_floor.specs.Journal.{program_for};
+    ghost use Rattle.csdf_floor.specs.Inside.{AreFeedbacks};
     ghost use Rattle.csdf_floor.specs.Work.{Work as WorkModel, IsWork, feeds_in};
 
     ghost Value = { WorkModel };
 
-    ghost view = { λ w. record { accepted = w.accepted; feeds = feeds_in w.feeds.items; periods = w.periods; firings = w.firings } };
+    ghost view = { λ w. record { accepted = w.accepted.now; feeds = feeds_in w.feeds.now; periods = w.periods; firings = w.firings } };
 
-    ghost invariant = { λ w. IsWork (record { accepted = w.accepted; feeds = feeds_in w.feeds.items; periods = w.periods; firings = w.firings }) };
-}
-
-/// A copy of the lists.
-fn copies_of(alloc: Global, feeds: &[Vec<i32>]) -> Result<Vec<Vec<i32>>, AllocError>
-    ensures { IfOk result (λ copies. feeds_in copies.items ≡ feeds_in feeds.now) }
-{
-    let mut copies = Vec::new(alloc);
-    for feed in feeds {
-        copies.push(Vec::from_slice(alloc, feed)?)?;
-    }
-    Ok(copies)
+    ghost invariant = { λ w. IsWork (record { accepted = w.accepted.now; feeds = feeds_in w.feeds.now; periods = w.periods; firings = w.firings })
+        × AreFeedbacks (program_for w.accepted.now (feeds_in w.feeds.now) w.periods w.firings).plan (length w.accepted.now.graph.actors) w.feedbacks.items };
 }
 
 /// The part of the list between these places, or as much of it as there is.
@@ -98,6 +87,13 @@ fn supplies_of(alloc: Global, feeds: &[Vec<i32>]) -> Result<Vec<u32>, AllocError
     Ok(supply)
 }
 
+/// The actor's kernel.
+fn kernel_in(actor: &Actor) -> &Kernel
+    ensures { result.now ≡ actor.now.kernel }
+{
+    &actor.kernel
+}
+
 /// Whether this is the kernel of a source.
 fn is_source(kernel: &Kernel) -> bool
     ensures { result ≡ is_source_kernel kernel.now }
@@ -112,47 +108,70 @@ fn is_sink(kernel: &Kernel) -> bool
     matches!(kernel, Kernel::Sink)
 }
 
-impl Work {
-    /// A copy of all that it is made of. An error says that memory ran out.
+/// A core that has not moved, of what is run of these. An error says that memory ran out.
+pub(crate) fn core_of(
+    alloc: Global,
+    accepted: &Accepted,
+    feeds: &[Vec<i32>],
+    periods: u32,
+    firings: Option<u32>,
+) -> Result<Core, AllocError>
+    requires fed { AreFeeds accepted.now.graph (feeds_in feeds.now) }
+    requires few_firings { HasFewFirings accepted.now periods }
+    ensures plan { IfOk result (λ core. core.plan ≡ (program_for accepted.now (feeds_in feeds.now) periods firings).plan) }
+    ensures opening { IfOk result (λ core. Shows core (opening core.plan)) }
+    ensures peaks { IfOk result (λ core. core.peaks ≡ map length (map (λ (c : ChannelModel). c.initial) core.plan.channels)) }
+{
+    let limits = limits_of(alloc, accepted, periods)?;
+    let supply = supplies_of(alloc, feeds)?;
+    Core::new(alloc, accepted, limits, supply, firings)
+}
+
+/// The channel in which each actor keeps its state, where it has one.
+fn feedbacks_of(alloc: Global, core: &Core) -> Result<Vec<Option<Feedback>>, AllocError>
+    ensures { IfOk result (λ feedbacks. AreFeedbacks core.now.plan (length core.now.plan.sources) feedbacks.items) }
+{
+    let mut feedbacks = Vec::new(alloc);
+    for actor in 0..core.actors() {
+        feedbacks.push(core.feedback(actor))?;
+    }
+    Ok(feedbacks)
+}
+
+impl<'a> Work<'a> {
+    /// What is run of these, by a core of it. An error says that memory ran out.
     pub(crate) fn new(
         alloc: Global,
-        accepted: &Accepted,
-        feeds: &[Vec<i32>],
+        accepted: &'a Accepted,
+        feeds: &'a [Vec<i32>],
         periods: u32,
         firings: Option<u32>,
-    ) -> Result<Work, AllocError>
+        core: &Core,
+    ) -> Result<Work<'a>, AllocError>
         requires fed { AreFeeds accepted.now.graph (feeds_in feeds.now) }
         requires some_period { 1 ≤ periods }
         requires few_firings { HasFewFirings accepted.now periods }
-        ensures { IfOk result (λ work. work ≡ record { accepted = accepted.now; feeds = feeds_in feeds.now; periods = periods; firings = firings }) }
+        requires core { core.now.plan ≡ (program_for accepted.now (feeds_in feeds.now) periods firings).plan }
+        ensures value { IfOk result (λ work. work ≡ record { accepted = accepted.now; feeds = feeds_in feeds.now; periods = periods; firings = firings }) }
+        ensures work { IfOk result IsWork }
     {
-        let accepted = accepted.try_copy(alloc)?;
-        let feeds = copies_of(alloc, feeds)?;
+        // Read for the prover: what an accepted graph keeps.
+        let _graph = accepted.graph();
         Ok(Work {
             accepted,
             feeds,
             periods,
             firings,
+            feedbacks: feedbacks_of(alloc, core)?,
         })
     }
 
-    /// What a core is to play.
-    pub(crate) fn setup(&self, alloc: Global) -> Result<Setup<'_>, AllocError>
-        ensures plan { IfOk result (λ setup. plan_for setup.accepted.now setup.limits.items setup.supply.items setup.firings ≡ (program self.now).plan) }
-        ensures limits { IfOk result (λ setup. length setup.limits.items ≡ length setup.accepted.now.graph.actors) }
-        ensures supply { IfOk result (λ setup. length setup.supply.items ≡ length setup.accepted.now.graph.actors) }
-        ensures few { IfOk result (λ setup. All (λ n. n ≤ 16_384_000) setup.limits.items) }
-        ensures work { IsWork self.now }
+    /// The channel in which the actor keeps its state, where it has one.
+    pub(crate) fn feedback(&self, actor: u32) -> Option<Feedback>
+        requires { actor < length self.now.accepted.graph.actors }
+        ensures { IfSome result (IsFeedback (program self.now).plan actor) }
     {
-        let accepted = &self.accepted;
-        let limits = limits_of(alloc, accepted, self.periods)?;
-        let supply = supplies_of(alloc, &self.feeds)?;
-        Ok(Setup {
-            accepted,
-            limits,
-            supply,
-            firings: self.firings,
-        })
+        self.feedbacks[actor as usize]
     }
 
     /// The actor's kernel.
@@ -161,7 +180,7 @@ impl Work {
         ensures value { result.now ≡ slice_index_or (program self.now).kernels actor Sink }
         ensures in_range { HasFilterInRange result.now }
     {
-        &self.accepted.graph().actors()[actor as usize].kernel
+        kernel_in(&self.accepted.graph().actors()[actor as usize])
     }
 
     /// Whether the actor is a source.
@@ -357,8 +376,8 @@ impl Work {
     {
         self.periods == periods
             && is_same_limit(self.firings, firings)
-            && are_same_feeds(&self.feeds, feeds)
-            && is_same_accepted(&self.accepted, accepted)
+            && are_same_feeds(self.feeds, feeds)
+            && is_same_accepted(self.accepted, accepted)
     }
 }
 

@@ -65,7 +65,7 @@ channel = [
 /// Lets each actor in turn make all that it can of ten firings, and tells how many they were; false where
 /// no actor can begin.
 fn turn(
-    floor: &mut Floor,
+    floor: &mut Floor<'_>,
     counts: &mut Counts,
     outputs: &mut Outputs,
     told: &mut String,
@@ -86,7 +86,7 @@ fn turn(
 }
 
 /// Turns until no actor can begin, and what the sinks took then.
-fn turns(alloc: Global, floor: &mut Floor) -> Result<String, Fail> {
+fn turns(alloc: Global, floor: &mut Floor<'_>) -> Result<String, Fail> {
     let mut told = String::new(alloc);
     let mut counts = Counts::new(alloc);
     let mut outputs = Outputs::new(alloc);

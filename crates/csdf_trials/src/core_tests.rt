@@ -2,7 +2,7 @@ ghost use Rattle.std.specs.Prelude.{◌≡◌, ◌≤◌, All, length, IfOk};
 
 use crate::shared::{CHAIN, accepted_in, expect_eq, expect_eq_of};
 use csdf_analysis::Accepted;
-use csdf_core::{Core, Move, Played, Reply, Setup, play};
+use csdf_core::{Core, Move, Played, Reply, play};
 use csdf_model::{Actor, Kernel};
 use csdf_pool::Cells;
 use std::alloc::{AllocError, Global};
@@ -112,32 +112,12 @@ fn limits_of(alloc: Global, actors: &[Actor], limit: u32) -> Result<Vec<u32>, Al
     vec![in alloc; limit; actors.len()]
 }
 
-/// The graph, with these limits for each of its actors.
-fn setup_of<'a>(
-    alloc: Global,
-    accepted: &'a Accepted,
-    limits: &Limits,
-) -> Result<Setup<'a>, AllocError>
-    ensures accepted { IfOk result (λ setup. setup.accepted.now ≡ accepted.now) }
-    ensures limits { IfOk result (λ setup. length setup.limits.items ≡ length accepted.now.graph.actors) }
-    ensures supply { IfOk result (λ setup. length setup.supply.items ≡ length accepted.now.graph.actors) }
-    ensures few { IfOk result (λ setup. All (λ n. n ≤ 16_384_000) setup.limits.items) }
-{
-    let actors = accepted.graph().actors();
-    let each = limits_of(alloc, actors, limits.limit)?;
-    let supply = supplies(alloc, actors, limits.supply)?;
-    Ok(Setup {
-        accepted,
-        limits: each,
-        supply,
-        firings: limits.firings,
-    })
-}
-
 /// A core of the graph with ample limits, on which nothing has fired.
 pub(crate) fn opening_core(alloc: Global, accepted: &Accepted) -> Result<Core, Fail> {
-    let setup = setup_of(alloc, accepted, &AMPLE)?;
-    Ok(Core::new(alloc, setup)?)
+    let actors = accepted.graph().actors();
+    let limits = limits_of(alloc, actors, AMPLE.limit)?;
+    let supply = supplies(alloc, actors, AMPLE.supply)?;
+    Ok(Core::new(alloc, accepted, limits, supply, AMPLE.firings)?)
 }
 
 /// Plays the script from the start.
@@ -148,8 +128,11 @@ fn played(
     script: &str,
 ) -> Result<Played, Fail> {
     let moves = moves_in(alloc, script)?;
-    let setup = setup_of(alloc, accepted, limits)?;
-    Ok(play(alloc, setup, &moves)?)
+    let actors = accepted.graph().actors();
+    let each = limits_of(alloc, actors, limits.limit)?;
+    let supply = supplies(alloc, actors, limits.supply)?;
+    let played = play(alloc, accepted, each, supply, limits.firings, &moves)?;
+    Ok(played)
 }
 
 /// The reply, with the tokens that a read handed out.

@@ -18,7 +18,7 @@ use Rattle.csdf_words.specs.declared.command.Request.{Request}
 use Rattle.csdf_words.specs.declared.command.Request.TheVariants as request
 use Rattle.csdf_words.specs.declared.command.Unread.{Unread}
 use Rattle.csdf_words.specs.declared.command.Unread.TheVariants as unread
-use Rattle.csdf_words.specs.declared.order.RunOrder.{RunOrder}
+use Rattle.csdf_words.specs.declared.order.RunWords.{RunWords}
 use Rattle.csdf_answers.specs.declared.question.Form.{Form}
 use Rattle.csdf_answers.specs.declared.question.Form.TheVariants as forms
 use Rattle.csdf_answers.specs.declared.question.Question.{Question}
@@ -111,7 +111,7 @@ pub record Order : Type 0 where
   pub progress : Bool
   pub form : Form
 
-abbrev pub order_view : RunOrder → Order
+abbrev pub order_view : RunWords → Order
 order_view o = record {
   graph = o.graph.now;
   folder = o.folder.now;

@@ -11,7 +11,7 @@ ghost use Rattle.csdf_words.specs.CommandLine.{form_in, form_of, how_long_of, is
 ghost use Rattle.csdf_words.specs.HowLong.{MayBeAsked};
 
 use crate::help;
-use crate::order::{Inquiry, RunOrder};
+use crate::order::{Inquiry, RunWords};
 use clap::builder::ValueParser;
 use clap::error::ErrorKind;
 use clap::{Arg, ArgAction, ArgMatches, Command, Error};
@@ -33,7 +33,7 @@ pub enum Request<'a> {
     /// this folder.
     Explain(&'a str, Option<&'a str>),
     /// To run the graph of a file.
-    Run(RunOrder<'a>),
+    Run(RunWords<'a>),
 }
 
 /// Why words are no request.
@@ -599,13 +599,13 @@ fn how_long_of(arguments: &ArgMatches<'_>) -> Option<Length>
 /// The run that the words after `run` ask for, so long and with this room.
 ///
 /// The parser refuses a number out of its range; where one is read all the same, it counts as absent.
-fn order_of<'a>(arguments: &ArgMatches<'a>, room: Room, how_long: Length) -> RunOrder<'a>
+fn order_of<'a>(arguments: &ArgMatches<'a>, room: Room, how_long: Length) -> RunWords<'a>
     requires some_room { HasSomePeriod room }
     requires may { MayBeAsked how_long }
     ensures { order_view result ≡ order_of (rows_of (found_of arguments.now)) room how_long }
 {
     let folder = word_of(arguments, FOLDER);
-    RunOrder {
+    RunWords {
         graph: word_of(arguments, GRAPH),
         folder,
         sink_folder: word_or(arguments, OUT, folder),

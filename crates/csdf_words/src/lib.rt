@@ -6,4 +6,4 @@ mod help;
 mod order;
 
 pub use command::{Request, Unread, form_of, request_of};
-pub use order::{Inquiry, RunOrder};
+pub use order::{Inquiry, RunWords};

@@ -21,9 +21,10 @@ pub struct Inquiry<'a> {
     ghost some_room: { HasSomePeriod room } by { HasSomePeriod-prop room },
 }
 
-/// A run of the graph of a file over the token files of a folder, to files of a folder.
+/// The words of `csdf run`: a run of the graph of a file over the token files of a folder, to files of a
+/// folder.
 #[derive(Clone, Copy)]
-pub struct RunOrder<'a> {
+pub struct RunWords<'a> {
     /// The graph file.
     pub graph: &'a str,
     /// The folder of the sources' files.

@@ -8,23 +8,17 @@ use Rattle.csdf_core.proofs.blocks.room_times.Goals as goal
 
 pub loop-channel-preserved : goal.loop-channel-preserved
 loop-channel-preserved c = (
-  (let i = c.loop-channel.invariant.0 in let n = c.times-n.ensures.most in omega (arith, i, n)),
-  λ m le all.
+  (let i = c.loop-channel.invariant.0 in let n = c.room_in-n.ensures.most in omega (arith, i, n)),
+  λ none m le all.
       let own = all c.loop-channel.channel-index (omega arith) in
-      let before : m ≤ c.loop-channel.n = c.loop-channel.invariant.1 m le (λ j jl. all j (omega (arith, jl))) in
-      c.times-n.ensures.greatest m before (grind (arith, common_steps)),
+      let before : m ≤ c.loop-channel.n = c.loop-channel.invariant.1 none m le (λ j jl. all j (omega (arith, jl))) in
+      c.room_in-n.ensures.greatest none m before (grind (arith, common_steps)),
 )
 
 pub returns-clause-greatest : goal.returns-clause-greatest
 returns-clause-greatest c =
     let held = λ (n d : ℕ). length (tokens_at (tokens_in c.args.pool.now) d) + n * give_at c.args.plan.now.channels c.args.turn.firing d ≤ capacity_at c.args.plan.now.channels d in
-    λ n le all.
+    λ none n le all.
     let here : AllByRecursion (held n) c.outputs-outputs.result.now =
     subst (AllByRecursion (held n)) (sym c.outputs-outputs.ensures.value) all in
-    c.loop-channel.invariant.1 n le (λ j jl. enough_at (held n) c.outputs-outputs.result.now j (omega (arith, jl, c.loop-channel.auto.channel-index-end)) here)
-
-pub gives-requires-clause-phase : goal.gives-requires-clause-phase
-gives-requires-clause-phase c = grind (arith, common_steps)
-
-pub gives-requires-clause-channel : goal.gives-requires-clause-channel
-gives-requires-clause-channel c = grind (arith, common_steps)
+    c.loop-channel.invariant.1 none n le (λ j jl. enough_at (held n) c.outputs-outputs.result.now j (omega (arith, jl, c.loop-channel.auto.channel-index-end)) here)

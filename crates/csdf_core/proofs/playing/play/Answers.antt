@@ -33,7 +33,7 @@ returns-clause-closed c =
 
 pub returns-clause-periods : goal.returns-clause-periods
 returns-clause-periods c =
-    periods_kept c.args.setup.accepted.now c.args.setup.limits.items c.args.setup.supply.items c.args.setup.firings c.in_ok-core.core c.play_on.new.core
+    periods_kept c.args.accepted.now c.args.limits.items c.args.supply.items c.args.firings c.in_ok-core.core c.play_on.new.core
     (map move_of c.args.moves.now) (replies_in c.in_ok-replies.replies.items)
     c.in_ok-core.ensures.plan c.in_ok-core.ensures.opening c.in_ok-replies.ensures.played
 

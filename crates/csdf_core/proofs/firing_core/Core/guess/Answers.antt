@@ -1,4 +1,4 @@
-use Rattle.std.proofs.Common.{◌≡◌, ◌*◌, sym, ap, arith, ◌∙◌}
+use Rattle.std.proofs.Common.{◌≡◌, ◌*◌, refl, sym, ap, arith, ◌∙◌}
 use Rattle.std.proofs.lemmas.Grind.{common_steps}
 use Rattle.csdf_core.specs.Blocks.{gifts_of}
 use Rattle.csdf_core.specs.Ports.{tokens_in}
@@ -19,9 +19,9 @@ returns-clause-greatest c = λ has n le can.
     let gs : gifts_of plan.channels a k n ≡ n * c.gives-gift.result =
     gifts_times plan.channels a has k n ∙ ap (λ x. n * x) (sym c.gives-gift.ensures.sum) in
     let limited = c.limited-limited.ensures.greatest n le can.limit can.firings in
-    let held = c.held_times-held.ensures.greatest n limited
+    let held = c.held_times-held.ensures.greatest refl n limited
     (held_as plan.channels c.self.inside.plan.channels a k c.turn-turn.result.firing n p.tokens (tokens_in c.self.inside.pool) cs ks ts has can.tokens) in
-    let roomy = c.room_times-roomy.ensures.greatest n held
+    let roomy = c.room_times-roomy.ensures.greatest refl n held
     (room_as plan.channels c.self.inside.plan.channels a k c.turn-turn.result.firing n p.tokens (tokens_in c.self.inside.pool) cs ks ts has can.room) in
     let supplied = c.supplied-supplied.ensures.greatest n roomy
     (λ is. let s = can.supply is in let m = given_more plan a k n in omega (arith, s, m, gs)) in

@@ -25,7 +25,7 @@ pub returns-clause-ready : goal.returns-clause-ready
 returns-clause-ready c = record {
   few_counts = c.in_ok-counts_into.ensures.few;
   small_counts = c.in_ok-counts_into.ensures.small;
-  few_inputs = omega (arith, c.in_ok-blank_into.ensures.few, c.fill.ensures.count);
+  few_inputs = c.fill.ensures.few;
   filter_in_range = c.kernel.ensures.in_range;
 }
 
@@ -47,8 +47,8 @@ make_room-requires-clause-exists c = grind (arith, common_steps)
 pub returns-clause-job_stays : goal.returns-clause-job_stays
 returns-clause-job_stays c = grind (arith, common_steps)
 
-pub blank_into-requires : goal.blank_into-requires
-blank_into-requires c = grind (arith, common_steps)
+pub reserve_inputs-requires : goal.reserve_inputs-requires
+reserve_inputs-requires c = grind (arith, common_steps)
 
 pub returns-clause-answer : goal.returns-clause-answer
 returns-clause-answer c = grind (arith, common_steps)

@@ -1,4 +1,4 @@
--- What a core keeps of its setup can be played.
+-- What a core keeps of an accepted graph can be played.
 use Rattle.std.proofs.Common.{◌≡◌, ℕ, suc, ◌*◌, ◌<◌, ◌≤◌, List, [], ◌∷◌, length, map, refl, ◌∙◌, sym, arith, Option, Some, None}
 use Rattle.std.specs.Prelude.{All, sum, sum_by, unwrap_or, IfSome}
 use Rattle.std.specs.List.{zip, AllByRecursion}
@@ -68,9 +68,9 @@ cells_enough a h = by a.graph.cells h.well_formed.fitting.cells
           omega arith;
     }
 
-pub playable_setup : (a : Accepted) (limits supplies : List ℕ) (firings : Option ℕ) → IsAccepted a → length limits ≡ length a.graph.actors
+pub playable_made : (a : Accepted) (limits supplies : List ℕ) (firings : Option ℕ) → IsAccepted a → length limits ≡ length a.graph.actors
     → All (λ n. n ≤ 16384000) limits → IsPlayable (plan_for a limits supplies firings)
-playable_setup a limits supplies firings h counted few =
+playable_made a limits supplies firings h counted few =
     let g : Graph = a.graph in
     let len : length (map (λ (d : graph.Actor). is_source_kernel d.kernel) g.actors) ≡ length g.actors =
     length-map g.actors (λ (d : graph.Actor). is_source_kernel d.kernel) in
@@ -99,5 +99,5 @@ laid_out a limits supplies firings h limited supplied few = record {
   well_formed = h.well_formed;
   roomy = h.least.completes.each_channel;
   supplied = supplied;
-  playable = playable_setup a limits supplies firings h limited few;
+  playable = playable_made a limits supplies firings h limited few;
 }
