@@ -32,3 +32,4 @@ pub mod OneFirings
 pub mod MoreFirings
 pub mod LoopMakings
 pub mod Drafted
+pub mod Notings

@@ -50,7 +50,7 @@ gifts_more cs a k (suc n) =
 -- ---- one firing after another
 
 -- the first of those that are left
-left_is : (k last : ℕ) → k < last → last - k ≡ suc (last - (k + 1))
+pub left_is : (k last : ℕ) → k < last → last - k ≡ suc (last - (k + 1))
 left_is k last lt = omega arith
 
 pub amounts_less : (w : Program) (a k last at amount most : ℕ) → k < last → amount ≡ amount_of w a k → at + amounts_of w a k (last - k) ≤ most

@@ -29,10 +29,9 @@ pub record IsSound (kernel : Kernel) (counts : List ℕ) (need firings : ℕ) (i
   pub whole : firings * need ≤ length inputs
 
 -- the draft has what the actor's next firings compute from, but for their tokens, which may be any of as many. The actor is no source, has one phase and can make
--- these firings, and the journal is not kept
+-- these firings
 pub record Suits (f : FloorView) (a : ℕ) (d : DraftView) : Type 0 where
   pub can : CanFire f.core.plan f.core.now a d.firings
-  pub keeps : f.keeps ≡ false
   pub phases : HasPhases f.core.plan.channels a 1
   pub other : is_source (program f.work).plan a ≡ false
   pub kernel : d.kernel ≡ slice_index_or (program f.work).kernels a Sink

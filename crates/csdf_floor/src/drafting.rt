@@ -65,7 +65,7 @@ impl Book<'_> {
         requires { actor < length self.now.shown.core.plan.sources }
         ensures { IsTrue result → Suits self.now.shown actor draft.now }
     {
-        if self.journal.keeps() || self.work.is_source(actor) {
+        if self.work.is_source(actor) {
             return false;
         }
         let n = draft.firings();
@@ -106,7 +106,7 @@ impl Book<'_> {
             return Ok(false);
         }
         let _ = &self.work;
-        self.fire(actor, n, draft.values());
+        self.fire(alloc, actor, n, draft.values())?;
         Ok(true)
     }
 
@@ -175,7 +175,6 @@ impl Book<'_> {
         ensures can { IfSome result (λ block. CanFire self.now.shown.core.plan self.now.shown.core.now actor block.firings) }
         ensures needed { IfSome result (λ block. block.needed
             ≡ needs_of self.now.shown.core.plan.channels actor (count self.now.shown.core.now actor) block.firings) }
-        ensures keeps { IfSome result (λ block. self.now.shown.keeps ≡ false) }
         ensures phases { IfSome result (λ block. HasPhases self.now.shown.core.plan.channels actor 1) }
         ensures other { IfSome result (λ block. is_source (program self.now.shown.work).plan actor ≡ false) }
         ensures heavy { IfSome result (λ block. heavy ≤ block.firings * need actor (count self.now.shown.core.now actor) self.now.shown.core.plan.channels

@@ -223,9 +223,8 @@ impl<'a> Floor<'a> {
     /// Makes the actor's next firings, where it stands at this firing, and closes its outputs where it
     /// makes no firing more. It answers how many they are: at most so many, and at least one where
     /// `most` is. It goes on until so many are made, the next one is refused, or memory runs out after
-    /// the first. Firings are made in blocks where the journal is not kept, by an actor of one phase that
-    /// has no channel to itself but one in which it keeps its state, and by one of several phases that
-    /// has one input and one output at most; else one by one.
+    /// the first. Firings are made in blocks by an actor that has no channel to itself but one in which it
+    /// keeps its state, and by one of several phases that has none; else one by one.
     ///
     /// The refusals are those of [`Floor::start`], and a refusal changes nothing that a reader shows.
     /// The lists are only worked in.
@@ -249,8 +248,8 @@ impl<'a> Floor<'a> {
 
     /// Puts the actor's next firings into the draft, where the actor stands at this firing: as many as can
     /// be made at once, and at most so many. The draft has none where they take fewer products than
-    /// `heavy`, where the journal is kept, and for an actor of several phases, with a channel to itself or
-    /// that is a source. An error, that memory ran out, leaves none in it as well.
+    /// `heavy`, and for an actor of several phases, with a channel to itself or that is a source. An
+    /// error, that memory ran out, leaves none in it as well.
     pub fn draft(
         &self,
         actor: u32,

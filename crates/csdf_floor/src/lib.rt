@@ -13,6 +13,7 @@ mod limits;
 mod lists;
 mod looping;
 mod making;
+mod noting;
 mod outcome;
 mod phased;
 mod printed;

@@ -14,10 +14,11 @@ ghost use Rattle.csdf_floor.specs.Making.{HasMade, AreLoopValues, AreOwnValues, 
 ghost use Rattle.csdf_floor.specs.Work.{program, is_sink_kernel};
 
 use crate::book::Book;
+use crate::noting::note_firings;
 use csdf_core::{Core, Feedback};
 use csdf_kernel::{Counts, Outputs, eval_loop};
 use csdf_model::Kernel;
-use std::alloc::AllocError;
+use std::alloc::{AllocError, Global};
 
 /// The kernel's values of the actor's next n firings, in the place of what the outputs hold, worked out in the buffer.
 fn own_values(
@@ -58,17 +59,16 @@ fn own_values(
 
 impl Book<'_> {
     /// How many of its next firings an actor that keeps its state in a channel to itself can make at once, at most so
-    /// many and at least one, and that channel. `None` where it can't, for a sink, and where the journal is kept.
+    /// many and at least one, and that channel. `None` where it can't, and for a sink.
     pub(crate) fn goes_on(&self, actor: u32, most: u32) -> Option<(Feedback, u32)>
         requires { actor < length self.now.shown.core.plan.sources }
         ensures most { IfSome result (λ r. r.1 ≤ most) }
         ensures some { IfSome result (λ r. 0 < r.1) }
         ensures feedback { IfSome result (λ r. IsFeedback self.now.shown.core.plan actor r.0) }
         ensures can { IfSome result (λ r. CanGoOn self.now.shown.core.plan self.now.shown.core.now actor r.0.channel r.1) }
-        ensures keeps { IfSome result (λ r. self.now.shown.keeps ≡ false) }
         ensures other { IfSome result (λ r. is_sink_kernel (slice_index_or (program self.now.shown.work).kernels actor Sink) ≡ false) }
     {
-        if self.journal.keeps() || self.work.is_sink(actor) {
+        if self.work.is_sink(actor) {
             return None;
         }
         let feedback = self.work.feedback(actor)?;
@@ -115,18 +115,35 @@ impl Book<'_> {
         )
     }
 
-    /// Makes the actor's next n firings, which write these tokens: the kernel's values.
-    fn fire_on(&mut self, actor: u32, feedback: Feedback, n: u32, tokens: &[i32])
+    /// Makes the actor's next n firings, which write these tokens: the kernel's values. Memory runs out only where the
+    /// journal is kept.
+    fn fire_on(
+        &mut self,
+        alloc: Global,
+        actor: u32,
+        feedback: Feedback,
+        n: u32,
+        tokens: &[i32],
+    ) -> Result<(), AllocError>
         requires feedback { IsFeedback self.old.shown.core.plan actor feedback }
         requires can { CanGoOn self.old.shown.core.plan self.old.shown.core.now actor feedback.channel n }
-        requires keeps { self.old.shown.keeps ≡ false }
         requires other { is_sink_kernel (slice_index_or (program self.old.shown.work).kernels actor Sink) ≡ false }
         requires values { AreOwnValues self.old.shown actor n tokens.now }
-        ensures made { HasMade self.old.shown self.new.shown actor n (made_moves self.old.shown actor n) }
-        ensures room { self.new.room ≡ self.old.room }
+        ensures made { OnOk result (HasMade self.old.shown self.new.shown actor n (made_moves self.old.shown actor n)) }
+        ensures room { OnOk result (self.old.room ≤ self.new.room + 4 * n) }
+        ensures unchanged { OnErr result (self.new.shown ≡ self.old.shown) }
     {
-        self.journal.note_firings(&self.core, actor, n, tokens);
+        note_firings(
+            &self.work,
+            &self.core,
+            &mut self.journal,
+            alloc,
+            actor,
+            n,
+            tokens,
+        )?;
         self.core.go_on(actor, feedback, n, tokens);
+        Ok(())
     }
 
     /// Makes the actor's next n firings at once.
@@ -140,7 +157,6 @@ impl Book<'_> {
     ) -> Result<(), AllocError>
         requires feedback { IsFeedback self.old.shown.core.plan actor feedback }
         requires can { CanGoOn self.old.shown.core.plan self.old.shown.core.now actor feedback.channel n }
-        requires keeps { self.old.shown.keeps ≡ false }
         requires other { is_sink_kernel (slice_index_or (program self.old.shown.work).kernels actor Sink) ≡ false }
         ensures made { OnOk result (HasMade self.old.shown self.new.shown actor n (made_moves self.old.shown actor n)) }
         ensures room { OnOk result (length (outputs_at self.old.shown.core.plan.channels actor) ≤ self.new.room) }
@@ -149,9 +165,9 @@ impl Book<'_> {
         let taken = feedback.taken as usize;
         let each = feedback.each as usize;
         let long = taken + self.core.need(actor) + n as usize * each;
-        self.make_room_for(*outputs.allocator(), actor, n, long)?;
+        let alloc = *outputs.allocator();
+        self.make_room_for(alloc, actor, n, long)?;
         self.own_values_into(actor, feedback, n, counts, outputs)?;
-        self.fire_on(actor, feedback, n, outputs.as_slice());
-        Ok(())
+        self.fire_on(alloc, actor, feedback, n, outputs.as_slice())
     }
 }

@@ -16,6 +16,7 @@ ghost use Rattle.csdf_floor.specs.Work.{program, is_sink_kernel};
 ghost use Rattle.csdf_floor.specs.Inside.{HasRoom};
 
 use crate::book::Book;
+use crate::noting::note_firings;
 use csdf_core::Block;
 use csdf_kernel::{Counts, Outputs, eval_block};
 use std::alloc::{AllocError, Global};
@@ -140,10 +141,15 @@ impl Book<'_> {
     }
 
     /// Makes the actor's next n firings, which write these tokens: the kernel's values of what is in the
-    /// actor's buffer, which is what they read.
-    pub(crate) fn fire(&mut self, actor: u32, n: u32, tokens: &[i32])
+    /// actor's buffer, which is what they read. Memory runs out only where the journal is kept.
+    pub(crate) fn fire(
+        &mut self,
+        alloc: Global,
+        actor: u32,
+        n: u32,
+        tokens: &[i32],
+    ) -> Result<(), AllocError>
         requires can { CanFire self.old.shown.core.plan self.old.shown.core.now actor n }
-        requires keeps { self.old.shown.keeps ≡ false }
         requires buffer { length (slice_index_or self.old.reads actor [])
             ≡ needs_of self.old.shown.core.plan.channels actor (count self.old.shown.core.now actor) n }
         requires read { AreReadEach self.old.shown.core.plan self.old.shown.core.now actor (count self.old.shown.core.now actor) n
@@ -152,19 +158,30 @@ impl Book<'_> {
             → needs_of self.old.shown.core.plan.channels actor (count self.old.shown.core.now actor) n ≤ slice_index self.old.rooms actor }
         requires just { tokens.now ≡ made_value (program self.old.shown.work) actor (count self.old.shown.core.now actor) n
             (slice_index_or self.old.reads actor []) }
-        ensures made { HasMade self.old.shown self.new.shown actor n (made_moves self.old.shown actor n) }
-        ensures room { self.new.room ≡ self.old.room }
+        ensures made { OnOk result (HasMade self.old.shown self.new.shown actor n (made_moves self.old.shown actor n)) }
+        ensures room { OnOk result (self.old.room ≤ self.new.room + 4 * n) }
+        ensures unchanged { OnErr result (self.new.shown ≡ self.old.shown) }
+        ensures room_stays { OnErr result (self.old.room ≤ self.new.room) }
     {
-        self.journal.note_firings(&self.core, actor, n, tokens);
+        note_firings(
+            &self.work,
+            &self.core,
+            &mut self.journal,
+            alloc,
+            actor,
+            n,
+            tokens,
+        )?;
         self.core.fire(actor, n, tokens);
         let is_sink = self.work.is_sink(actor);
         let taken = &self.reads[actor as usize];
         self.sinks.append_where(is_sink, actor, taken);
+        Ok(())
     }
 
-    /// How many of its next firings the actor can make at once, at most so many: 0 where the journal
-    /// is kept, for an actor with a channel to itself (see [`goes_on`](Book::goes_on)), and for one of
-    /// several phases that can't make two, whose block would take longer to find than to make.
+    /// How many of its next firings the actor can make at once, at most so many: 0 for an actor with a
+    /// channel to itself (see [`goes_on`](Book::goes_on)), and for one of several phases that can't make
+    /// two, whose block would take longer to find than to make.
     pub(crate) fn block(&self, actor: u32, most: u32) -> Block
         requires { actor < length self.now.shown.core.plan.sources }
         ensures most { result.firings ≤ most }
@@ -173,10 +190,8 @@ impl Book<'_> {
             ≡ needs_of self.now.shown.core.plan.channels actor (count self.now.shown.core.now actor) result.firings }
         ensures given { 0 < result.firings → result.given
             ≡ gifts_of self.now.shown.core.plan.channels actor (count self.now.shown.core.now actor) result.firings }
-        ensures keeps { 0 < result.firings → self.now.shown.keeps ≡ false }
     {
-        let is_long = self.core.has_one_phase(actor) || self.core.can_fire(actor, 2);
-        if self.journal.keeps() || !is_long {
+        if !self.core.has_one_phase(actor) && !self.core.can_fire(actor, 2) {
             return Block {
                 firings: 0,
                 needed: 0,
@@ -224,18 +239,17 @@ impl Book<'_> {
         requires can { CanFire self.old.shown.core.plan self.old.shown.core.now actor block.firings }
         requires needed { block.needed ≡ needs_of self.old.shown.core.plan.channels actor (count self.old.shown.core.now actor) block.firings }
         requires given { block.given ≡ gifts_of self.old.shown.core.plan.channels actor (count self.old.shown.core.now actor) block.firings }
-        requires keeps { self.old.shown.keeps ≡ false }
         ensures made { OnOk result (HasMade self.old.shown self.new.shown actor block.firings (made_moves self.old.shown actor block.firings)) }
         ensures room { OnOk result (length (outputs_at self.old.shown.core.plan.channels actor) ≤ self.new.room) }
         ensures unchanged { OnErr result (self.new.shown ≡ self.old.shown) }
         ensures room_stays { OnErr result (self.old.room ≤ self.new.room) }
     {
         let n = block.firings;
-        self.make_room_for(*outputs.allocator(), actor, n, block.needed as usize)?;
+        let alloc = *outputs.allocator();
+        self.make_room_for(alloc, actor, n, block.needed as usize)?;
         self.peek(actor, n);
         self.block_values_into(actor, block, counts, outputs)?;
-        self.fire(actor, n, outputs.as_slice());
-        Ok(())
+        self.fire(alloc, actor, n, outputs.as_slice())
     }
 
     /// What the actor's present firing computes from.

@@ -3,7 +3,7 @@
 //! What notes a move is inlined: where no move is kept, it is a test of one byte, and each firing notes
 //! four moves.
 
-ghost use Rattle.std.specs.Prelude.{◌≡◌, ◌<◌, ◌≤◌, ◌+◌, [], ◌∷◌, ◌++◌, IsOk, OnOk, false, length, map};
+ghost use Rattle.std.specs.Prelude.{◌≡◌, ◌<◌, ◌≤◌, ◌+◌, ◌*◌, [], ◌∷◌, ◌++◌, IsOk, OnOk, OnErr, false, true, length, map};
 ghost use Rattle.csdf_core.specs.Blocks.{firings_of};
 ghost use Rattle.csdf_core.specs.Moves.{Begin, Read, Write, Finish, Close, move_of};
 ghost use Rattle.csdf_core.specs.Step.{count};
@@ -47,7 +47,7 @@ impl Model for Journal {
 }
 
 impl Journal {
-    ghost use Rattle.csdf_journal.specs.Noted.{noted, tokens_in, is_write};
+    ghost use Rattle.csdf_journal.specs.Noted.{gifts_from, noted, tokens_in, is_write};
 
     /// A journal of no moves, which keeps them or does not.
     pub fn new(alloc: Global, keeping: Keeping) -> Journal
@@ -198,21 +198,40 @@ impl Journal {
     }
 
     /// Notes the actor's next n firings, which the core has not made yet: they write these tokens, one
-    /// firing's after another's. The journal keeps no moves, so this does nothing when it runs.
+    /// firing's after another's, and each as many as its entry of the gifts. Where moves are kept it
+    /// makes room for them; where they are not, it reads no gifts and does nothing when it runs.
+    ///
+    /// An error says that memory ran out; then nothing is noted.
     #[inline(always)]
-    pub fn note_firings(&mut self, core: &Core, actor: u32, n: u32, tokens: &[i32])
-        requires { self.old.keeps ≡ false }
-        ensures moves { self.new.moves ≡ self.old.moves
-            ++ firings_of core.now.plan.channels actor (count core.now.now actor) n tokens.now }
+    pub fn note_firings(
+        &mut self,
+        core: &Core,
+        actor: u32,
+        n: u32,
+        gifts: &[usize],
+        tokens: &[i32],
+    ) -> Result<(), AllocError>
+        requires gifts { self.old.keeps ≡ true → gifts.now ≡ gifts_from core.now.plan.channels actor (count core.now.now actor) n }
+        ensures moves { OnOk result (self.new.moves ≡ self.old.moves
+            ++ firings_of core.now.plan.channels actor (count core.now.now actor) n tokens.now) }
+        ensures unchanged { OnErr result (self.new.moves ≡ self.old.moves) }
         ensures keeps { self.new.keeps ≡ self.old.keeps }
-        ensures room { self.new.room ≡ self.old.room }
+        ensures room { OnOk result (self.old.room ≤ self.new.room + 4 * n) }
+        ensures room_stays { OnErr result (self.old.room ≤ self.new.room) }
         ensures width { self.new.width ≡ self.old.width }
+        ensures takes_nothing { self.old.keeps ≡ false → IsOk result }
     {
-        self.past = self.past.then_all(&Firings {
+        let firings = Firings {
             core,
             actor,
             n,
+            gifts,
             tokens,
-        });
+        };
+        if self.keeps() {
+            firings.append_to(&mut self.moves)?;
+        }
+        self.past = self.past.then_all(&firings);
+        Ok(())
     }
 }

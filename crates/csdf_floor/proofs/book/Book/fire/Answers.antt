@@ -70,21 +70,21 @@ module _ (c : After-append_where) where
       c.self.inside.sinks.lists (feeds_in c.self.inside.reads.items) c.args.actor c.args.n c.args.tokens.now c.self.invariant can buffer read just
       c.fire.ensures.plays
 
-pub invariant_of-self : goal.invariant_of-self
-invariant_of-self c =
-    let at : After-append_where = (goal.at.invariant_of-self c).After-append_where in
-    subst (λ (b : Bool). IsBook (floor_of b c.self.inside.work c.fire.new.self c.note_firings.new.self.moves c.append_where.new.self.lists)
+pub invariant_of-self-2 : goal.invariant_of-self-2
+invariant_of-self-2 c =
+    let at : After-append_where = (goal.at.invariant_of-self-2 c).After-append_where in
+    subst (λ (b : Bool). IsBook (floor_of b c.self.inside.work c.fire.new.self c.note_firings.new.journal.moves c.append_where.new.self.lists)
     (feeds_in c.self.inside.reads.items)) (sym c.note_firings.ensures.keeps)
     (book_fired c.self.inside.journal.keeps c.self.inside.journal.keeps c.self.inside.work c.self.inside.core c.fire.new.self c.self.inside.journal.moves
-    c.note_firings.new.self.moves c.self.inside.sinks.lists c.append_where.new.self.lists (feeds_in c.self.inside.reads.items) c.args.actor c.args.n
-    (tokens at) c.args.tokens.now c.self.invariant (made at) c.note_firings.ensures.moves (took at))
+    c.note_firings.new.journal.moves c.self.inside.sinks.lists c.append_where.new.self.lists (feeds_in c.self.inside.reads.items) c.args.actor c.args.n
+    (tokens at) c.args.tokens.now c.self.invariant (made at) c.in_ok-note_firings.ensures.moves (took at))
 
 pub returns-clause-made : goal.returns-clause-made
 returns-clause-made c =
     let at : After-append_where = (goal.at.returns-clause-made c).After-append_where in
     rw (← c.self.view_is) (has_made c.self.inside.journal.keeps c.self.inside.work c.self.inside.core c.fire.new.self c.self.inside.journal
-    c.note_firings.new.self c.self.inside.sinks c.append_where.new.self (feeds_in c.self.inside.reads.items)
-    c.args.actor c.args.n (tokens at) c.args.tokens.now c.self.invariant.kept.plan (made at) c.note_firings.ensures.moves
+    c.note_firings.new.journal c.self.inside.sinks c.append_where.new.self (feeds_in c.self.inside.reads.items)
+    c.args.actor c.args.n (tokens at) c.args.tokens.now c.self.invariant.kept.plan (made at) c.in_ok-note_firings.ensures.moves
     c.note_firings.ensures.keeps)
 
 pub append_where-requires-clause-room : goal.append_where-requires-clause-room

@@ -1,5 +1,5 @@
 use Rattle.std.proofs.lemmas.Grind.{common_steps}
-use Rattle.std.proofs.Common.{◌≡◌, ◌++◌, ℕ, List, [], length, get_or, set, cond, ap, sym, subst, ◌∙◌, arith, Bool, false}
+use Rattle.std.proofs.Common.{◌≡◌, ◌+◌, ◌≤◌, ◌++◌, ℕ, List, [], length, get_or, set, cond, ap, sym, subst, ◌∙◌, arith, Bool, false}
 use Rattle.std.specs.Prelude.{ℤ}
 use Rattle.csdf_core.specs.Blocks.{gifts_of}
 use Rattle.csdf_core.specs.Feedback.{CanGoOn}
@@ -13,6 +13,7 @@ use Rattle.csdf_model.specs.declared.parts.Kernel.TheVariants.{Sink}
 use Rattle.csdf_floor.proofs.Books.{floor_of, sinks_after}
 use Rattle.csdf_floor.proofs.LoopMakings.{fired_on_book}
 use Rattle.csdf_floor.proofs.Makings.{IsMade, book_fired, has_made, length_made}
+use Rattle.csdf_floor.proofs.PhaseValues.{few_numbers}
 use Rattle.csdf_floor.proofs.book.Book.fire_on.Goals as goal
 use Rattle.csdf_floor.proofs.book.Book.fire_on.Goals.{After-go_on}
 
@@ -22,6 +23,13 @@ all_given : (f : FloorView) (a n : ℕ) (v : List ℤ) → f.core.plan ≡ (prog
 all_given f a n v same own =
     ap length own.just ∙ length_made (program f.work) a (count f.core.now a) n own.tokens
     ∙ ap (λ (u : Plan). gifts_of u.channels a (count f.core.now a) n) (sym same)
+
+pub note_firings-requires-clause-few : goal.note_firings-requires-clause-few
+note_firings-requires-clause-few c =
+    let k : ℕ = count c.self.inside.core.now c.args.actor in
+    let can : CanGoOn c.self.inside.core.plan c.self.inside.core.now c.args.actor c.args.feedback.channel c.args.n = rw (← c.self.view_is) at c.requires.can in
+    few_numbers c.self.inside.work c.args.actor k c.args.n c.self.invariant.work
+    (subst (λ (u : Plan). k + c.args.n ≤ get_or u.limits c.args.actor 0) c.self.invariant.kept.plan can.limit)
 
 pub go_on-requires-clause-all : goal.go_on-requires-clause-all
 go_on-requires-clause-all c =
@@ -51,21 +59,21 @@ module _ (c : After-go_on) where
       c.self.inside.sinks.lists (feeds_in c.self.inside.reads.items) c.args.actor c.args.n c.args.tokens.now c.self.invariant can.there can.idle own
       c.go_on.ensures.plays
 
-pub invariant_of-self : goal.invariant_of-self
-invariant_of-self c =
-    let at : After-go_on = (goal.at.invariant_of-self c).After-go_on in
-    subst (λ (b : Bool). IsBook (floor_of b c.self.inside.work c.go_on.new.self c.note_firings.new.self.moves c.self.inside.sinks.lists)
+pub invariant_of-self-2 : goal.invariant_of-self-2
+invariant_of-self-2 c =
+    let at : After-go_on = (goal.at.invariant_of-self-2 c).After-go_on in
+    subst (λ (b : Bool). IsBook (floor_of b c.self.inside.work c.go_on.new.self c.note_firings.new.journal.moves c.self.inside.sinks.lists)
     (feeds_in c.self.inside.reads.items)) (sym c.note_firings.ensures.keeps)
     (book_fired c.self.inside.journal.keeps c.self.inside.journal.keeps c.self.inside.work c.self.inside.core c.go_on.new.self c.self.inside.journal.moves
-    c.note_firings.new.self.moves c.self.inside.sinks.lists c.self.inside.sinks.lists (feeds_in c.self.inside.reads.items) c.args.actor c.args.n
-    (own at).tokens c.args.tokens.now c.self.invariant (made at) c.note_firings.ensures.moves (took at))
+    c.note_firings.new.journal.moves c.self.inside.sinks.lists c.self.inside.sinks.lists (feeds_in c.self.inside.reads.items) c.args.actor c.args.n
+    (own at).tokens c.args.tokens.now c.self.invariant (made at) c.in_ok-note_firings.ensures.moves (took at))
 
 pub returns-clause-made : goal.returns-clause-made
 returns-clause-made c =
     let at : After-go_on = (goal.at.returns-clause-made c).After-go_on in
     rw (← c.self.view_is) (has_made c.self.inside.journal.keeps c.self.inside.work c.self.inside.core c.go_on.new.self c.self.inside.journal
-    c.note_firings.new.self c.self.inside.sinks c.self.inside.sinks (feeds_in c.self.inside.reads.items)
-    c.args.actor c.args.n (own at).tokens c.args.tokens.now c.self.invariant.kept.plan (made at) c.note_firings.ensures.moves
+    c.note_firings.new.journal c.self.inside.sinks c.self.inside.sinks (feeds_in c.self.inside.reads.items)
+    c.args.actor c.args.n (own at).tokens c.args.tokens.now c.self.invariant.kept.plan (made at) c.in_ok-note_firings.ensures.moves
     c.note_firings.ensures.keeps)
 
 pub go_on-requires-clause-can : goal.go_on-requires-clause-can

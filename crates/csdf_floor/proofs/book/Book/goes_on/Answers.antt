@@ -2,23 +2,20 @@ use Rattle.std.proofs.Common.{arith}
 use Rattle.std.proofs.lemmas.Grind.{common_steps}
 use Rattle.csdf_floor.proofs.book.Book.goes_on.Goals as goal
 
-pub returns-then-keeps-clause-most : goal.returns-then-keeps-clause-most
-returns-then-keeps-clause-most c = grind (arith, common_steps)
+pub returns-then-is_sink-clause-most : goal.returns-then-is_sink-clause-most
+returns-then-is_sink-clause-most c = grind (arith, common_steps)
 
-pub returns-then-keeps-clause-some : goal.returns-then-keeps-clause-some
-returns-then-keeps-clause-some c = grind (arith, common_steps)
+pub returns-then-is_sink-clause-some : goal.returns-then-is_sink-clause-some
+returns-then-is_sink-clause-some c = grind (arith, common_steps)
 
-pub returns-then-keeps-clause-feedback : goal.returns-then-keeps-clause-feedback
-returns-then-keeps-clause-feedback c = grind (arith, common_steps)
+pub returns-then-is_sink-clause-feedback : goal.returns-then-is_sink-clause-feedback
+returns-then-is_sink-clause-feedback c = grind (arith, common_steps)
 
-pub returns-then-keeps-clause-can : goal.returns-then-keeps-clause-can
-returns-then-keeps-clause-can c = grind (arith, common_steps)
+pub returns-then-is_sink-clause-can : goal.returns-then-is_sink-clause-can
+returns-then-is_sink-clause-can c = grind (arith, common_steps)
 
-pub returns-then-keeps-clause-keeps : goal.returns-then-keeps-clause-keeps
-returns-then-keeps-clause-keeps c = grind (arith, common_steps)
-
-pub returns-then-keeps-clause-other : goal.returns-then-keeps-clause-other
-returns-then-keeps-clause-other c = grind (arith, common_steps)
+pub returns-then-is_sink-clause-other : goal.returns-then-is_sink-clause-other
+returns-then-is_sink-clause-other c = grind (arith, common_steps)
 
 pub feedback-requires : goal.feedback-requires
 feedback-requires c = grind (arith, common_steps)
@@ -34,9 +31,6 @@ returns-in_err-feedback-clause-feedback c = grind (arith, common_steps)
 
 pub returns-in_err-feedback-clause-can : goal.returns-in_err-feedback-clause-can
 returns-in_err-feedback-clause-can c = grind (arith, common_steps)
-
-pub returns-in_err-feedback-clause-keeps : goal.returns-in_err-feedback-clause-keeps
-returns-in_err-feedback-clause-keeps c = grind (arith, common_steps)
 
 pub returns-in_err-feedback-clause-other : goal.returns-in_err-feedback-clause-other
 returns-in_err-feedback-clause-other c = grind (arith, common_steps)
@@ -56,9 +50,6 @@ returns-then-n-eq0-clause-feedback c = grind (arith, common_steps)
 pub returns-then-n-eq0-clause-can : goal.returns-then-n-eq0-clause-can
 returns-then-n-eq0-clause-can c = grind (arith, common_steps)
 
-pub returns-then-n-eq0-clause-keeps : goal.returns-then-n-eq0-clause-keeps
-returns-then-n-eq0-clause-keeps c = grind (arith, common_steps)
-
 pub returns-then-n-eq0-clause-other : goal.returns-then-n-eq0-clause-other
 returns-then-n-eq0-clause-other c = grind (arith, common_steps)
 
@@ -70,9 +61,6 @@ returns-clause-some c = grind (arith, common_steps)
 
 pub returns-clause-feedback : goal.returns-clause-feedback
 returns-clause-feedback c = grind (arith, common_steps)
-
-pub returns-clause-keeps : goal.returns-clause-keeps
-returns-clause-keeps c = grind (arith, common_steps)
 
 pub returns-clause-other : goal.returns-clause-other
 returns-clause-other c = grind (arith, common_steps)

@@ -1,10 +1,13 @@
 use Rattle.std.proofs.lemmas.Grind.{common_steps}
-use Rattle.std.proofs.Common.{ℕ, ap, subst, ◌∙◌, arith}
+use Rattle.std.proofs.Common.{◌≡◌, ℕ, ap, subst, ◌∙◌, arith}
+use Rattle.std.specs.Prelude.{OnOk}
 use Rattle.std.proofs.lemmas.Nat.{mul-le}
 use Rattle.csdf_core.specs.Feedback.{IsFeedback}
 use Rattle.csdf_core.specs.Plan.{Plan}
 use Rattle.csdf_core.specs.Rows.{need}
 use Rattle.csdf_core.specs.Step.{count}
+use Rattle.csdf_floor.specs.Floor.{FloorView}
+use Rattle.csdf_floor.specs.Making.{HasMade, made_moves}
 use Rattle.csdf_floor.specs.Work.{program}
 use Rattle.csdf_floor.proofs.LoopMakings.{needs_both}
 use Rattle.csdf_floor.proofs.book.Book.make_on.Goals as goal
@@ -38,3 +41,9 @@ own_values_into-requires-clause-feedback c = grind (arith, common_steps)
 
 pub own_values_into-requires-clause-buffer : goal.own_values_into-requires-clause-buffer
 own_values_into-requires-clause-buffer c = grind (arith, common_steps)
+
+pub returns-clause-made : goal.returns-clause-made
+returns-clause-made c =
+    let same : c.own_values_into.new.self.shown ≡ c.args.self.now.shown = grind (arith, common_steps) in
+    subst (λ (f : FloorView). OnOk c.fire_on.result (HasMade f c.fire_on.new.self.shown c.args.actor c.args.n (made_moves f c.args.actor c.args.n))) same
+    c.fire_on.ensures.made
