@@ -34,7 +34,7 @@ pub fn feeds_of(alloc: Global, tokens: &[i32]) -> Result<Vec<Vec<i32>>, AllocErr
 
 /// Makes the actor's firing of this number: it begins and reads, is evaluated, which needs no floor, and
 /// its tokens are written.
-fn fire(alloc: Global, floor: &mut Floor<'_>, actor: u32, firing: u32) -> anyhow::Result<()> {
+fn fire(alloc: Global, floor: &mut Floor, actor: u32, firing: u32) -> anyhow::Result<()> {
     let job = floor
         .start(alloc, actor, firing)
         .map_err(|fault| anyhow!("{fault:?}"))?;
@@ -45,7 +45,7 @@ fn fire(alloc: Global, floor: &mut Floor<'_>, actor: u32, firing: u32) -> anyhow
 }
 
 /// How many firings the actor has finished, where there is one.
-fn fired_by(floor: &Floor<'_>, actor: u32) -> u32 {
+fn fired_by(floor: &Floor, actor: u32) -> u32 {
     if actor < floor.core().actors() {
         floor.core().fired(actor)
     } else {
@@ -54,7 +54,7 @@ fn fired_by(floor: &Floor<'_>, actor: u32) -> u32 {
 }
 
 /// Lets each actor in turn make all the firings that it can. False where none can begin one.
-fn turn(rt: &impl Print, alloc: Global, floor: &mut Floor<'_>) -> anyhow::Result<bool> {
+fn turn(rt: &impl Print, alloc: Global, floor: &mut Floor) -> anyhow::Result<bool> {
     let (mut counts, mut outputs) = (Counts::new(alloc), Outputs::new(alloc));
     let mut has_made = false;
     for actor in 0..floor.core().actors() {
@@ -72,7 +72,7 @@ fn turn(rt: &impl Print, alloc: Global, floor: &mut Floor<'_>) -> anyhow::Result
 }
 
 /// Takes turns until no actor can begin a firing.
-fn finish(rt: &impl Print, alloc: Global, floor: &mut Floor<'_>) -> anyhow::Result<()> {
+fn finish(rt: &impl Print, alloc: Global, floor: &mut Floor) -> anyhow::Result<()> {
     for _ in 0..u32::MAX {
         if !turn(rt, alloc, floor)? {
             break;
@@ -82,7 +82,7 @@ fn finish(rt: &impl Print, alloc: Global, floor: &mut Floor<'_>) -> anyhow::Resu
 }
 
 /// How many firings each actor has finished.
-fn totals_of(alloc: Global, floor: &Floor<'_>) -> Result<Vec<u32>, AllocError> {
+fn totals_of(alloc: Global, floor: &Floor) -> Result<Vec<u32>, AllocError> {
     let mut totals = Vec::new(alloc);
     for actor in 0..floor.core().actors() {
         totals.push(fired_by(floor, actor))?;

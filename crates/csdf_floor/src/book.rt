@@ -33,15 +33,15 @@ use std::alloc::{AllocError, Global};
 use std::marker::Model;
 
 /// What is run, its core, the moves that brought the core where it is, and what the sinks took.
-pub(crate) struct Book<'a> {
-    pub(crate) work: Work<'a>,
+pub(crate) struct Book {
+    pub(crate) work: Work,
     pub(crate) core: Core,
     pub(crate) journal: Journal,
     pub(crate) sinks: Lists,
     pub(crate) reads: Vec<Vec<i32>>,
 }
 
-impl Drop for Book<'_> {
+impl Drop for Book {
     fn drop(self) {
         let Book {
             work: _,
@@ -53,7 +53,7 @@ impl Drop for Book<'_> {
     }
 }
 
-impl<'a> Model for Book<'a> {
+impl Model for Book {
     ghost use Rattle.csdf_floor.specs.Work.{feeds_in};
     ghost use Rattle.csdf_floor.specs.Inside.{BookView, IsBook};
 
@@ -92,19 +92,19 @@ fn blank_rows(alloc: Global, actors: u32) -> Result<(Lists, Vec<Vec<i32>>), Allo
     Ok((sinks, reads))
 }
 
-impl<'a> Book<'a> {
+impl Book {
     /// The book of a core that has not moved.
     pub(crate) fn open(
         alloc: Global,
-        work: Work<'a>,
+        work: Work,
         core: Core,
         keeping: Keeping,
-    ) -> Result<Book<'a>, AllocError>
+    ) -> Result<Book, AllocError>
         requires work { IsWork work }
         requires plan { core.plan ≡ (program work).plan }
         requires opening { Shows core (opening core.plan) }
         requires peaks { core.peaks ≡ map length (map (λ (c : ChannelModel). c.initial) core.plan.channels) }
-        ensures work { IfOk result (λ book. book.shown.work ≡ work.entry) }
+        ensures work { IfOk result (λ book. book.shown.work ≡ work) }
         ensures journal { IfOk result (λ book. book.shown.journal ≡ []) }
         ensures keeps { IfOk result (λ book. book.shown.keeps ≡ is_kept keeping) }
         ensures opening { IfOk result (λ book. book.shown.core.now ≡ present (opening book.shown.core.plan)) }
@@ -120,7 +120,7 @@ impl<'a> Book<'a> {
     }
 
     /// What is run.
-    pub(crate) fn work(&self) -> &Work<'a>
+    pub(crate) fn work(&self) -> &Work
         ensures { result.now ≡ self.now.shown.work }
     {
         &self.work
@@ -444,9 +444,9 @@ impl<'a> Book<'a> {
 
     /// The journal, and what each sink took.
     pub(crate) fn into_parts(self) -> (Journal, Vec<Vec<i32>>)
-        ensures moves { result.0.moves ≡ self.entry.shown.journal }
-        ensures keeps { result.0.keeps ≡ self.entry.shown.keeps }
-        ensures sinks { feeds_in result.1.items ≡ self.entry.shown.sinks }
+        ensures moves { result.0.moves ≡ self.shown.journal }
+        ensures keeps { result.0.keeps ≡ self.shown.keeps }
+        ensures sinks { feeds_in result.1.items ≡ self.shown.sinks }
     {
         let Book {
             work: _,

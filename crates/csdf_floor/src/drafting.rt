@@ -49,7 +49,7 @@ fn read_ahead(
     Ok(())
 }
 
-impl Book<'_> {
+impl Book {
     /// How many tokens n firings of the actor read, which has one phase.
     fn needed(&self, actor: u32, n: u32) -> usize
         requires exists { actor < length self.now.shown.core.plan.sources }

@@ -35,17 +35,17 @@ use std::marker::Model;
 ///
 /// Each actor is idle, or has read the tokens of its firing, whose job is under way. A channel is
 /// closed exactly where its producer is idle and makes no firing more.
-pub struct Floor<'a> {
-    book: Book<'a>,
+pub struct Floor {
+    book: Book,
 }
 
-impl Drop for Floor<'_> {
+impl Drop for Floor {
     fn drop(self) {
         let Floor { book: _ } = self;
     }
 }
 
-impl<'a> Model for Floor<'a> {
+impl Model for Floor {
     ghost use Rattle.csdf_floor.specs.Floor.{FloorView, IsBetween};
 
     ghost Value = { FloorView };
@@ -56,14 +56,14 @@ impl<'a> Model for Floor<'a> {
 }
 
 /// The book of such a run that has not moved.
-fn opened<'a>(
+fn opened(
     alloc: Global,
-    accepted: &'a Accepted,
-    feeds: &'a [Vec<i32>],
+    accepted: &Accepted,
+    feeds: &[Vec<i32>],
     periods: u32,
     firings: Option<u32>,
     keeping: Keeping,
-) -> Result<Book<'a>, AllocError>
+) -> Result<Book, AllocError>
     requires fed { AreFeeds accepted.now.graph (feeds_in feeds.now) }
     requires some_period { 1 ≤ periods }
     requires few_firings { HasFewFirings accepted.now periods }
@@ -78,20 +78,20 @@ fn opened<'a>(
     Book::open(alloc, work, core, keeping)
 }
 
-impl<'a> Floor<'a> {
-    /// A floor on which nothing has fired, for so many periods of the graph over these feeds, one for
-    /// each actor and empty for one that is no source; with a limit on all firings where there is one.
-    /// It lasts as long as the graph and the feeds, which it reads where they are. Each channel whose producer makes no firing at all is closed. The journal
+impl Floor {
+    /// A floor on which nothing has fired, for so many periods of the graph over copies of these
+    /// feeds, one for each actor and empty for one that is no source; with a limit on all firings
+    /// where there is one. Each channel whose producer makes no firing at all is closed. The journal
     /// is kept.
     ///
     /// An error says that memory ran out.
     pub fn new(
         alloc: Global,
-        accepted: &'a Accepted,
-        feeds: &'a [Vec<i32>],
+        accepted: &Accepted,
+        feeds: &[Vec<i32>],
         periods: u32,
         firings: Option<u32>,
-    ) -> Result<Floor<'a>, AllocError>
+    ) -> Result<Floor, AllocError>
         requires fed { AreFeeds accepted.now.graph (feeds_in feeds.now) }
         requires some_period { 1 ≤ periods }
         requires few_firings { HasFewFirings accepted.now periods }
@@ -107,12 +107,12 @@ impl<'a> Floor<'a> {
     /// As [`Floor::new`], with a journal that is kept or not. One that is not kept takes no memory.
     pub fn with_journal(
         alloc: Global,
-        accepted: &'a Accepted,
-        feeds: &'a [Vec<i32>],
+        accepted: &Accepted,
+        feeds: &[Vec<i32>],
         periods: u32,
         firings: Option<u32>,
         keeping: Keeping,
-    ) -> Result<Floor<'a>, AllocError>
+    ) -> Result<Floor, AllocError>
         requires fed { AreFeeds accepted.now.graph (feeds_in feeds.now) }
         requires some_period { 1 ≤ periods }
         requires few_firings { HasFewFirings accepted.now periods }
@@ -382,10 +382,10 @@ impl<'a> Floor<'a> {
     /// The outcome of a floor that is quiet.
     pub(crate) fn into_outcome(self, alloc: Global) -> Result<Outcome, AllocError>
         requires { IsQuiet self.core.plan self.core.now }
-        ensures outcome { IfOk result (IsOutcome self.entry.work) }
-        ensures journal { IfOk result (λ o. journal_in o ≡ self.entry.journal) }
-        ensures keeps { IfOk result (λ o. o.journal.keeps ≡ self.entry.keeps) }
-        ensures totals { IfOk result (λ o. HasTotals (program self.entry.work) o self.entry.core.now.counts) }
+        ensures outcome { IfOk result (IsOutcome self.work) }
+        ensures journal { IfOk result (λ o. journal_in o ≡ self.journal) }
+        ensures keeps { IfOk result (λ o. o.journal.keeps ≡ self.keeps) }
+        ensures totals { IfOk result (λ o. HasTotals (program self.work) o self.core.now.counts) }
     {
         let report = self.book.report(alloc)?;
         let ending = ending_of(self.book.core());

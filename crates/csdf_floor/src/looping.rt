@@ -57,7 +57,7 @@ fn own_values(
     )
 }
 
-impl Book<'_> {
+impl Book {
     /// How many of its next firings an actor that keeps its state in a channel to itself can make at once, at most so
     /// many and at least one, and that channel. `None` where it can't, and for a sink.
     pub(crate) fn goes_on(&self, actor: u32, most: u32) -> Option<(Feedback, u32)>

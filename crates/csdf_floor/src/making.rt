@@ -21,7 +21,7 @@ use csdf_core::Block;
 use csdf_kernel::{Counts, Outputs, eval_block};
 use std::alloc::{AllocError, Global};
 
-impl Book<'_> {
+impl Book {
     /// Makes the buffer of the actor, which is idle, this long.
     fn fit_length(&mut self, actor: u32, needed: usize) -> Result<(), AllocError>
         requires exists { actor < length self.old.shown.core.plan.sources }

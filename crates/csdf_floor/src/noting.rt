@@ -12,7 +12,7 @@ use csdf_journal::Journal;
 use csdf_model::MAX_FIRINGS_PER_ACTOR;
 use std::alloc::{AllocError, Global};
 
-impl Work<'_> {
+impl Work {
     /// How many tokens each of n firings of the actor writes, from this one on.
     fn gifts(&self, alloc: Global, actor: u32, first: u32, n: u32) -> Result<Vec<usize>, AllocError>
         requires exists { actor < length self.now.accepted.graph.actors }
@@ -31,7 +31,7 @@ impl Work<'_> {
 /// Notes the next n firings of an actor of the core, which write these tokens. Memory runs out only
 /// where the journal is kept; then nothing is noted.
 pub(crate) fn note_firings(
-    work: &Work<'_>,
+    work: &Work,
     core: &Core,
     journal: &mut Journal,
     alloc: Global,

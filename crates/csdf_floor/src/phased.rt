@@ -16,7 +16,7 @@ use csdf_kernel::{Counts, Outputs, push_value};
 use csdf_model::MAX_FIRINGS_PER_ACTOR;
 use std::alloc::AllocError;
 
-impl Work<'_> {
+impl Work {
     /// How many tokens the firing computes from.
     fn amount(&self, actor: u32, firing: u32) -> usize
         requires { actor < length self.now.accepted.graph.actors }
@@ -79,7 +79,7 @@ impl Work<'_> {
     }
 }
 
-impl Book<'_> {
+impl Book {
     /// What the actor's next firings compute from, which write so many tokens: what is in its buffer, or
     /// for a source the next part of its file.
     fn block_inputs(&self, actor: u32, written: usize) -> &[i32]

@@ -26,7 +26,7 @@ use std::alloc::Global;
 /// where a run is complete: any other complete run of the same work has the same sinks.
 pub fn settle(
     alloc: Global,
-    floor: Floor<'_>,
+    floor: Floor,
     accepted: &Accepted,
     feeds: &[Vec<i32>],
     periods: u32,
@@ -38,9 +38,9 @@ pub fn settle(
     requires few_firings { HasFewFirings accepted.now periods }
     requires totals { length totals.now ≡ length accepted.now.graph.actors }
     ensures answer { IsSettleAnswer
-        (IsEndOf floor.entry (record { accepted = accepted.now; feeds = feeds_in feeds.now; periods = periods; firings = firings }) totals.now) result }
-    ensures journal { IfOk result (λ o. journal_in o ≡ floor.entry.journal) }
-    ensures keeps { IfOk result (λ o. o.journal.keeps ≡ floor.entry.keeps) }
+        (IsEndOf floor (record { accepted = accepted.now; feeds = feeds_in feeds.now; periods = periods; firings = firings }) totals.now) result }
+    ensures journal { IfOk result (λ o. journal_in o ≡ floor.journal) }
+    ensures keeps { IfOk result (λ o. o.journal.keeps ≡ floor.keeps) }
     ensures honest { IfOk result (HasHonestJournal (program_for accepted.now (feeds_in feeds.now) periods firings)) }
     ensures settled { IfOk result (EndsSettled (program_for accepted.now (feeds_in feeds.now) periods firings)) }
     ensures order { IfOk result (TakesInOrder (program_for accepted.now (feeds_in feeds.now) periods firings)) }

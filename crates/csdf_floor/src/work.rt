@@ -30,15 +30,15 @@ use std::marker::Model;
 /// limit on all firings where there is one. What each firing would have to look for in the graph again
 /// stands beside them: the channel in which an actor keeps its state.
 #[derive(Drop)]
-pub(crate) struct Work<'a> {
-    accepted: &'a Accepted,
-    feeds: &'a [Vec<i32>],
+pub(crate) struct Work {
+    accepted: Accepted,
+    feeds: Vec<Vec<i32>>,
     periods: u32,
     firings: Option<u32>,
     feedbacks: Vec<Option<Feedback>>,
 }
 
-impl<'a> Model for Work<'a> {
+impl Model for Work {
     ghost use Rattle.std.specs.Prelude.{length};
     ghost use Rattle.csdf_floor.specs.Journal.{program_for};
     ghost use Rattle.csdf_floor.specs.Inside.{AreFeedbacks};
@@ -46,10 +46,21 @@ impl<'a> Model for Work<'a> {
 
     ghost Value = { WorkModel };
 
-    ghost view = { λ w. record { accepted = w.accepted.now; feeds = feeds_in w.feeds.now; periods = w.periods; firings = w.firings } };
+    ghost view = { λ w. record { accepted = w.accepted; feeds = feeds_in w.feeds.items; periods = w.periods; firings = w.firings } };
 
-    ghost invariant = { λ w. IsWork (record { accepted = w.accepted.now; feeds = feeds_in w.feeds.now; periods = w.periods; firings = w.firings })
-        × AreFeedbacks (program_for w.accepted.now (feeds_in w.feeds.now) w.periods w.firings).plan (length w.accepted.now.graph.actors) w.feedbacks.items };
+    ghost invariant = { λ w. IsWork (record { accepted = w.accepted; feeds = feeds_in w.feeds.items; periods = w.periods; firings = w.firings })
+        × AreFeedbacks (program_for w.accepted (feeds_in w.feeds.items) w.periods w.firings).plan (length w.accepted.graph.actors) w.feedbacks.items };
+}
+
+/// A copy of the lists.
+fn copies_of(alloc: Global, feeds: &[Vec<i32>]) -> Result<Vec<Vec<i32>>, AllocError>
+    ensures { IfOk result (λ copies. feeds_in copies.items ≡ feeds_in feeds.now) }
+{
+    let mut copies = Vec::new(alloc);
+    for feed in feeds {
+        copies.push(Vec::from_slice(alloc, feed)?)?;
+    }
+    Ok(copies)
 }
 
 /// The part of the list between these places, or as much of it as there is.
@@ -138,16 +149,17 @@ fn feedbacks_of(alloc: Global, core: &Core) -> Result<Vec<Option<Feedback>>, All
     Ok(feedbacks)
 }
 
-impl<'a> Work<'a> {
-    /// What is run of these, by a core of it. An error says that memory ran out.
+impl Work {
+    /// A copy of all that it is made of, and of the core what each firing would look for again. An error
+    /// says that memory ran out.
     pub(crate) fn new(
         alloc: Global,
-        accepted: &'a Accepted,
-        feeds: &'a [Vec<i32>],
+        accepted: &Accepted,
+        feeds: &[Vec<i32>],
         periods: u32,
         firings: Option<u32>,
         core: &Core,
-    ) -> Result<Work<'a>, AllocError>
+    ) -> Result<Work, AllocError>
         requires fed { AreFeeds accepted.now.graph (feeds_in feeds.now) }
         requires some_period { 1 ≤ periods }
         requires few_firings { HasFewFirings accepted.now periods }
@@ -157,12 +169,15 @@ impl<'a> Work<'a> {
     {
         // Read for the prover: what an accepted graph keeps.
         let _graph = accepted.graph();
+        let accepted = accepted.try_copy(alloc)?;
+        let feeds = copies_of(alloc, feeds)?;
+        let feedbacks = feedbacks_of(alloc, core)?;
         Ok(Work {
             accepted,
             feeds,
             periods,
             firings,
-            feedbacks: feedbacks_of(alloc, core)?,
+            feedbacks,
         })
     }
 
@@ -376,8 +391,8 @@ impl<'a> Work<'a> {
     {
         self.periods == periods
             && is_same_limit(self.firings, firings)
-            && are_same_feeds(self.feeds, feeds)
-            && is_same_accepted(self.accepted, accepted)
+            && are_same_feeds(&self.feeds, feeds)
+            && is_same_accepted(&self.accepted, accepted)
     }
 }
 

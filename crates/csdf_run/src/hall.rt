@@ -27,8 +27,8 @@ const YIELDS: u32 = 100;
 /// without the lock, which actors can begin, which of them are spare, how many workers look for one, and
 /// whether the run has ended. When a worker is woken, and for what, is told at [`Policy`].
 #[derive(Drop)]
-pub(crate) struct Hall<'a, K: Asked> {
-    watched: Mutex<Watched<'a, K>>,
+pub(crate) struct Hall<K: Asked> {
+    watched: Mutex<Watched<K>>,
     changed: Condvar,
     ready: AtomicU64,
     spare: AtomicU64,
@@ -62,8 +62,8 @@ fn put(word: &AtomicU64, value: u64) {
     }
 }
 
-impl<'a, K: Asked> Hall<'a, K> {
-    pub(crate) fn new(floor: RunFloor<'a, K>, hints: Hints, crew: Crew) -> Hall<'a, K> {
+impl<K: Asked> Hall<K> {
+    pub(crate) fn new(floor: RunFloor<K>, hints: Hints, crew: Crew) -> Hall<K> {
         let ready = hints.ready();
         Hall {
             watched: Mutex::new(Watched {
@@ -83,7 +83,7 @@ impl<'a, K: Asked> Hall<'a, K> {
     }
 
     /// The floor, once no worker shares it any more.
-    pub(crate) fn into_floor(self) -> Floor<'a>
+    pub(crate) fn into_floor(self) -> Floor
         ensures { result.keeps ≡ K.keeps }
     {
         let Hall {
@@ -148,7 +148,7 @@ impl<'a, K: Asked> Hall<'a, K> {
     }
 
     /// Tells where to look, under the lock. True where the teller is to wake a worker.
-    fn tell(&self, watched: &mut Watched<'_, K>, teller: Teller) -> bool {
+    fn tell(&self, watched: &mut Watched<K>, teller: Teller) -> bool {
         if self.is_alone {
             return false;
         }
@@ -196,7 +196,7 @@ impl<'a, K: Asked> Hall<'a, K> {
     }
 
     /// The worker leaves the lock to evaluate what it has drafted, and tends no longer. The lock is held.
-    fn leave(&self, watched: &mut Watched<'_, K>, stand: &mut Stand) {
+    fn leave(&self, watched: &mut Watched<K>, stand: &mut Stand) {
         watched.policy.rests(stand.tends);
         stand.tends = false;
         if self.tell(watched, Teller::Fires) {

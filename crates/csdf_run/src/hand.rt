@@ -92,7 +92,7 @@ impl Hand {
     /// Starts a firing on the floor, with its job in the place of the one in hand.
     pub(crate) fn start(
         &mut self,
-        floor: &mut Floor<'_>,
+        floor: &mut Floor,
         actor: u32,
         firing: u32,
     ) -> Result<(), StartFault>
@@ -110,13 +110,7 @@ impl Hand {
 
     /// Drafts firings of an actor, the claimed one first: at most so many, which take so many products at
     /// least. False where there are none.
-    pub(crate) fn draft(
-        &mut self,
-        floor: &Floor<'_>,
-        claim: Claim,
-        most: u32,
-        heavy: u64,
-    ) -> bool
+    pub(crate) fn draft(&mut self, floor: &Floor, claim: Claim, most: u32, heavy: u64) -> bool
         ensures { self.new ≡ self.old }
     {
         let draft = &mut self.draft;
@@ -141,7 +135,7 @@ impl Hand {
     /// pass the gate. They are those of the draft where it was evaluated. Nothing is in hand then.
     pub(crate) fn make<G: Gate>(
         &mut self,
-        floor: &mut Floor<'_>,
+        floor: &mut Floor,
         gate: &G,
         claim: Claim,
         most: u32,

@@ -100,7 +100,7 @@ impl<'a> Request<'a> {
     }
 
     /// A floor for it on which nothing has fired, with a journal that keeps its moves or does not.
-    pub(crate) fn floor(&self, alloc: Global, keeping: Keeping) -> Result<Floor<'a>, AllocError>
+    pub(crate) fn floor(&self, alloc: Global, keeping: Keeping) -> Result<Floor, AllocError>
         ensures { IfOk result (λ floor. floor.keeps ≡ is_kept keeping) }
     {
         Floor::with_journal(
@@ -117,12 +117,12 @@ impl<'a> Request<'a> {
     pub(crate) fn settle(
         &self,
         alloc: Global,
-        floor: Floor<'_>,
+        floor: Floor,
         totals: &[u32],
     ) -> Result<Outcome, RunFault>
         requires { length totals.now ≡ length self.now.accepted.graph.actors }
         ensures outcome { IfOk result (IsOutcome self.now) }
-        ensures keeps { IfOk result (λ o. o.journal.keeps ≡ floor.entry.keeps) }
+        ensures keeps { IfOk result (λ o. o.journal.keeps ≡ floor.keeps) }
     {
         let outcome = settle(
             alloc,

@@ -26,8 +26,8 @@ impl Asked for Brand {
 
 /// The floor of a run, which keeps its journal where the run asks for it.
 #[derive(Drop)]
-pub(crate) struct RunFloor<'a, K: Asked> {
-    floor: Floor<'a>,
+pub(crate) struct RunFloor<K: Asked> {
+    floor: Floor,
     of: PhantomData<K>,
     ghost kept: { floor.keeps ≡ K.keeps },
 }
@@ -88,8 +88,8 @@ impl Made {
     }
 }
 
-impl<'a, K: Asked> RunFloor<'a, K> {
-    pub(crate) fn new(floor: Floor<'a>) -> RunFloor<'a, K>
+impl<K: Asked> RunFloor<K> {
+    pub(crate) fn new(floor: Floor) -> RunFloor<K>
         requires { floor.keeps ≡ K.keeps }
     {
         RunFloor {
@@ -106,7 +106,7 @@ impl<'a, K: Asked> RunFloor<'a, K> {
     }
 
     /// The floor itself.
-    pub(crate) fn into_floor(self) -> Floor<'a>
+    pub(crate) fn into_floor(self) -> Floor
         ensures { result.keeps ≡ K.keeps }
     {
         let RunFloor { floor, of: _ } = self;

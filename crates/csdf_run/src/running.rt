@@ -135,7 +135,7 @@ fn place_after(place: Place, answer: Result<(), RunFault>) -> Result<Place, RunF
 fn alone<K: Asked, R: Wait, G: Gate>(
     rt: &R,
     alloc: Global,
-    hall: &Hall<'_, K>,
+    hall: &Hall<K>,
     board: &Board,
     gate: &G,
     first: Place,
@@ -152,7 +152,7 @@ fn alone<K: Asked, R: Wait, G: Gate>(
 fn in_threads<K: Asked + Send + Sync, R: Threads + Wait + Sync, G: Gate>(
     rt: &R,
     alloc: Global,
-    hall: &Hall<'_, K>,
+    hall: &Hall<K>,
     board: &Board,
     gate: &G,
     first: Place,
@@ -239,7 +239,7 @@ fn totals_of(alloc: Global, board: Board, place: Place) -> Result<Vec<u32>, RunF
 fn run_hall<K: Asked + Send + Sync, R: Threads + Wait + Sync, G: Gate>(
     rt: &R,
     alloc: Global,
-    hall: &Hall<'_, K>,
+    hall: &Hall<K>,
     actors: u32,
     workers: u32,
     gate: &G,
@@ -261,12 +261,12 @@ fn run_hall<K: Asked + Send + Sync, R: Threads + Wait + Sync, G: Gate>(
 }
 
 /// A hall for the run.
-fn hall_of<'a, K: Asked>(
+fn hall_of<K: Asked>(
     alloc: Global,
-    request: &Request<'a>,
+    request: &Request<'_>,
     keeping: Keeping,
     crew: Crew,
-) -> Result<Hall<'a, K>, AllocError>
+) -> Result<Hall<K>, AllocError>
     requires { is_kept keeping ≡ K.keeps }
 {
     let mut hints = request.hints(alloc)?;
@@ -291,7 +291,7 @@ fn outcome_as<K: Asked + Send + Sync, R: Threads + Wait + Sync, G: Gate>(
         workers: request.workers(),
         may_wait: gate.may_wait(),
     };
-    let hall: Hall<'_, K> = hall_of(alloc, request, keeping, crew)?;
+    let hall: Hall<K> = hall_of(alloc, request, keeping, crew)?;
     gate.begins(request.most_firings());
     let totals = run_hall(rt, alloc, &hall, request.actors(), crew.workers, gate)?;
     let outcome = request.settle(alloc, hall.into_floor(), totals.as_slice())?;

@@ -36,14 +36,14 @@ pub(crate) struct Stand {
 /// The floor, where to look for the next firing, how many firings are under way, and what the policy goes
 /// by.
 #[derive(Drop)]
-pub(crate) struct Watched<'a, K: Asked> {
-    pub(crate) floor: RunFloor<'a, K>,
+pub(crate) struct Watched<K: Asked> {
+    pub(crate) floor: RunFloor<K>,
     pub(crate) hints: Hints,
     pub(crate) running: u32,
     pub(crate) policy: Policy,
 }
 
-impl<K: Asked> Watched<'_, K> {
+impl<K: Asked> Watched<K> {
     /// Starts the actor's firing.
     fn start(&mut self, actor: u32, firing: u32, hand: &mut Hand) -> Result<(), StartFault>
         ensures idle { hand.new.is_made ≡ false }

@@ -28,7 +28,7 @@ pub(crate) struct Ended {
 /// once what is held is delivered. None once all is over, and none beside what is held where the worker
 /// goes on by blocks, each of which begins with nothing in hand.
 fn claim_next<K: Asked>(
-    hall: &Hall<'_, K>,
+    hall: &Hall<K>,
     board: &Board,
     place: &mut Place,
     stand: &Stand,
@@ -100,7 +100,7 @@ fn settle_start(
 fn turn<K: Asked, R: Wait>(
     rt: &R,
     alloc: Global,
-    hall: &Hall<'_, K>,
+    hall: &Hall<K>,
     board: &Board,
     place: &mut Place,
     stand: &mut Stand,
@@ -177,7 +177,7 @@ fn fire<G: Gate>(
 /// worker is woken. True where some were made.
 fn make<K: Asked, R: Wait, G: Gate>(
     rt: &R,
-    hall: &Hall<'_, K>,
+    hall: &Hall<K>,
     board: &Board,
     gate: &G,
     place: &mut Place,
@@ -224,7 +224,7 @@ fn tell_delivered<G: Gate>(gate: &G, given: Option<Claim>) {
 fn advance<K: Asked, R: Wait, G: Gate>(
     rt: &R,
     alloc: Global,
-    hall: &Hall<'_, K>,
+    hall: &Hall<K>,
     board: &Board,
     gate: &G,
     place: &mut Place,
@@ -263,7 +263,7 @@ fn advance<K: Asked, R: Wait, G: Gate>(
 pub(crate) fn work<K: Asked, R: Wait, G: Gate>(
     rt: &R,
     alloc: Global,
-    hall: &Hall<'_, K>,
+    hall: &Hall<K>,
     board: &Board,
     gate: &G,
     place: Place,

@@ -29,19 +29,19 @@ struct Lists {
 }
 
 /// Makes all firings of the actor that can be made.
-fn make(floor: &mut Floor<'_>, actor: u32, lists: &mut Lists) -> Result<u32, Fail> {
+fn make(floor: &mut Floor, actor: u32, lists: &mut Lists) -> Result<u32, Fail> {
     let firing = fired_by(floor, actor);
     Ok(floor.make(actor, firing, 10, &mut lists.counts, &mut lists.outputs)?)
 }
 
 /// The same of the filter, by the draft where it is one of these firings.
-fn make_from(floor: &mut Floor<'_>, draft: &Draft, lists: &mut Lists) -> Result<u32, Fail> {
+fn make_from(floor: &mut Floor, draft: &Draft, lists: &mut Lists) -> Result<u32, Fail> {
     let firing = fired_by(floor, 1);
     Ok(floor.make_from(1, firing, 10, draft, &mut lists.counts, &mut lists.outputs)?)
 }
 
 /// The filter's next firings, where they take so many products, evaluated.
-fn drafted(alloc: Global, floor: &Floor<'_>, heavy: u64) -> Result<Draft, Fail> {
+fn drafted(alloc: Global, floor: &Floor, heavy: u64) -> Result<Draft, Fail> {
     let mut draft = Draft::new(alloc);
     floor.draft(1, fired_by(floor, 1), 10, heavy, &mut draft)?;
     draft.evaluate()?;
@@ -57,7 +57,7 @@ fn check_sink(rt: &impl Abort, sinks: &[Vec<i32>], wanted: &[i32]) {
 /// Makes two firings of the filter by the draft, and asserts what the sink took then.
 fn check_made(
     rt: &impl Abort,
-    floor: &mut Floor<'_>,
+    floor: &mut Floor,
     draft: &Draft,
     lists: &mut Lists,
     wanted: &[i32],
@@ -70,7 +70,7 @@ fn check_made(
 
 /// Two firings take eight products. The draft of the first two does for these, and for the next two,
 /// whose tokens are others, the floor evaluates anew.
-fn check_drafts(rt: &impl Abort, alloc: Global, floor: &mut Floor<'_>) -> Result<(), Fail> {
+fn check_drafts(rt: &impl Abort, alloc: Global, floor: &mut Floor) -> Result<(), Fail> {
     let mut lists = Lists {
         counts: Counts::new(alloc),
         outputs: Outputs::new(alloc),

@@ -93,21 +93,21 @@ fn show_rest_of_core(text: &mut String, core: &Core) -> Result<(), AllocError> {
     Ok(())
 }
 
-fn show_journal(text: &mut String, floor: &Floor<'_>) -> Result<(), AllocError> {
+fn show_journal(text: &mut String, floor: &Floor) -> Result<(), AllocError> {
     for next in floor.journal() {
         write!(text, "{next:?}\n")?;
     }
     Ok(())
 }
 
-fn show_sinks(text: &mut String, floor: &Floor<'_>) -> Result<(), AllocError> {
+fn show_sinks(text: &mut String, floor: &Floor) -> Result<(), AllocError> {
     for sink in floor.sinks() {
         write!(text, "{sink:?}\n")?;
     }
     Ok(())
 }
 
-fn show_all(text: &mut String, floor: &Floor<'_>) -> Result<(), AllocError> {
+fn show_all(text: &mut String, floor: &Floor) -> Result<(), AllocError> {
     show_actors(text, floor.core())?;
     show_channels(text, floor.core())?;
     show_rest_of_core(text, floor.core())?;
@@ -116,7 +116,7 @@ fn show_all(text: &mut String, floor: &Floor<'_>) -> Result<(), AllocError> {
 }
 
 /// All that the readers show.
-fn shown(alloc: Global, floor: &Floor<'_>) -> Result<String, Fail> {
+fn shown(alloc: Global, floor: &Floor) -> Result<String, Fail> {
     let mut text = String::new(alloc);
     show_all(&mut text, floor)?;
     Ok(text)
@@ -128,7 +128,7 @@ fn shown(alloc: Global, floor: &Floor<'_>) -> Result<String, Fail> {
 fn check_unchanged<R: Abort>(
     rt: &R,
     alloc: Global,
-    floor: &Floor<'_>,
+    floor: &Floor,
     before: &str,
 ) -> Result<(), Fail> {
     let now = shown(alloc, floor)?;
@@ -140,7 +140,7 @@ fn check_unchanged<R: Abort>(
 fn started_at_last<R: Abort>(
     rt: &R,
     alloc: Global,
-    floor: &mut Floor<'_>,
+    floor: &mut Floor,
     actor: u32,
 ) -> Result<Job, Fail>
     ensures { IfOk result IsReady }
@@ -169,7 +169,7 @@ fn done_at_last<R: Abort>(rt: &R, alloc: Global, job: Job) -> Result<Done, Fail>
 fn deliver_at_last<R: Abort>(
     rt: &R,
     alloc: Global,
-    floor: &mut Floor<'_>,
+    floor: &mut Floor,
     done: &Done,
 ) -> Result<(), Fail> {
     let before = shown(alloc, floor)?;
@@ -184,7 +184,7 @@ fn deliver_at_last<R: Abort>(
 }
 
 /// Makes the actor's first firing.
-fn fire<R: Abort>(rt: &R, alloc: Global, floor: &mut Floor<'_>, actor: u32) -> Result<(), Fail> {
+fn fire<R: Abort>(rt: &R, alloc: Global, floor: &mut Floor, actor: u32) -> Result<(), Fail> {
     let job = started_at_last(rt, alloc, floor, actor)?;
     let done = done_at_last(rt, alloc, job)?;
     deliver_at_last(rt, alloc, floor, &done)
@@ -209,7 +209,7 @@ fn check_told<R: Abort>(
 }
 
 /// Makes the first firing of each actor.
-fn fire_all<R: Abort>(rt: &R, alloc: Global, floor: &mut Floor<'_>) -> Result<(), Fail> {
+fn fire_all<R: Abort>(rt: &R, alloc: Global, floor: &mut Floor) -> Result<(), Fail> {
     for actor in 0..3 {
         fire(rt, alloc, floor, actor)?;
     }
@@ -217,7 +217,7 @@ fn fire_all<R: Abort>(rt: &R, alloc: Global, floor: &mut Floor<'_>) -> Result<()
 }
 
 /// A floor on which each actor has fired.
-fn driven<'a, R: Abort>(rt: &R, alloc: Global, asked: &'a Asked) -> Result<Floor<'a>, Fail> {
+fn driven<R: Abort>(rt: &R, alloc: Global, asked: &Asked) -> Result<Floor, Fail> {
     let mut floor = floor_for(rt, alloc, asked, 1)?;
     fire_all(rt, alloc, &mut floor)?;
     Ok(floor)
@@ -237,7 +237,7 @@ fn a_floor_is_driven_to_its_end(rt: HostRuntime) -> Result<(), Fail> {
 fn start_again<R: Abort>(
     rt: &R,
     alloc: Global,
-    floor: &mut Floor<'_>,
+    floor: &mut Floor,
     actor: u32,
     job: &mut Job,
 ) -> Result<(), Fail>
@@ -258,7 +258,7 @@ fn start_again<R: Abort>(
 fn fire_again<R: Abort>(
     rt: &R,
     alloc: Global,
-    floor: &mut Floor<'_>,
+    floor: &mut Floor,
     actor: u32,
     job: &mut Job,
     outputs: &mut Outputs,
@@ -279,7 +279,7 @@ fn check_sink<R: Abort>(rt: &R, sinks: &[Vec<i32>]) {
 }
 
 /// Makes the first firing of each actor by one job and one list of outputs.
-fn fire_all_again<R: Abort>(rt: &R, alloc: Global, floor: &mut Floor<'_>) -> Result<(), Fail> {
+fn fire_all_again<R: Abort>(rt: &R, alloc: Global, floor: &mut Floor) -> Result<(), Fail> {
     let mut job = Job::blank(alloc);
     let mut outputs = Outputs::new(alloc);
     for actor in 0..3 {

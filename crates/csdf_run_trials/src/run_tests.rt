@@ -91,7 +91,7 @@ const CASES: [Case; 11] = [
     // enough tokens
     Case {
         graph: ACCUMULATED,
-        feed: &LONG_FEED,
+        feed: &[1, 2, 3, 4, 5, 6],
         periods: 2,
         firings: None,
         wanted: "6 15 \n\
@@ -148,7 +148,7 @@ const CASES: [Case; 11] = [
     // four cells are enough
     Case {
         graph: CHAIN_OF_FOUR,
-        feed: &LONG_FEED,
+        feed: &[1, 2, 3, 4, 5, 6],
         periods: 1,
         firings: None,
         wanted: "1 4 \n\
@@ -159,7 +159,7 @@ const CASES: [Case; 11] = [
     // three cells starve
     Case {
         graph: CHAIN_OF_THREE,
-        feed: &LONG_FEED,
+        feed: &[1, 2, 3, 4, 5, 6],
         periods: 1,
         firings: None,
         wanted: "\n\
@@ -170,7 +170,7 @@ const CASES: [Case; 11] = [
     // eight firings are enough
     Case {
         graph: ACCUMULATED,
-        feed: &LONG_FEED,
+        feed: &[1, 2, 3, 4, 5, 6],
         periods: 2,
         firings: Some(8),
         wanted: "6 15 \n\
@@ -181,7 +181,7 @@ const CASES: [Case; 11] = [
     // seven stop before the last
     Case {
         graph: ACCUMULATED,
-        feed: &LONG_FEED,
+        feed: &[1, 2, 3, 4, 5, 6],
         periods: 2,
         firings: Some(7),
         wanted: "6 \n\
@@ -192,7 +192,7 @@ const CASES: [Case; 11] = [
     // three fill the second channel
     Case {
         graph: ACCUMULATED,
-        feed: &LONG_FEED,
+        feed: &[1, 2, 3, 4, 5, 6],
         periods: 2,
         firings: Some(3),
         wanted: "\n\
@@ -203,7 +203,7 @@ const CASES: [Case; 11] = [
     // no firing is allowed
     Case {
         graph: ACCUMULATED,
-        feed: &LONG_FEED,
+        feed: &[1, 2, 3, 4, 5, 6],
         periods: 2,
         firings: Some(0),
         wanted: "\n\
@@ -260,7 +260,7 @@ fn runs_by_some_workers(rt: HostRuntime) -> Result<(), Fail> {
 // ---- a floor driven by hand
 
 /// Does the job, and delivers it.
-fn finish(alloc: Global, floor: &mut Floor<'_>, job: Job) -> Result<(), Fail>
+fn finish(alloc: Global, floor: &mut Floor, job: Job) -> Result<(), Fail>
     requires { IsReady job }
 {
     let done = done_of(alloc, job)?;
@@ -268,18 +268,18 @@ fn finish(alloc: Global, floor: &mut Floor<'_>, job: Job) -> Result<(), Fail>
 }
 
 /// Makes the actor's firing, from its start to its delivery.
-fn fire(alloc: Global, floor: &mut Floor<'_>, actor: u32, firing: u32) -> Result<(), Fail> {
+fn fire(alloc: Global, floor: &mut Floor, actor: u32, firing: u32) -> Result<(), Fail> {
     let job = started(alloc, floor, actor, firing)?;
     finish(alloc, floor, job)
 }
 
 /// Asserts that the result is a stranger to the floor, and is not taken.
-fn expect_stranger<R: Abort>(rt: &R, alloc: Global, floor: &mut Floor<'_>, done: &Done) {
+fn expect_stranger<R: Abort>(rt: &R, alloc: Global, floor: &mut Floor, done: &Done) {
     expect_eq(&rt, floor.deliver(alloc, done), Err(DeliverFault::Stranger));
 }
 
 /// Asserts that the result is taken.
-fn expect_taken<R: Abort>(rt: &R, alloc: Global, floor: &mut Floor<'_>, done: &Done) {
+fn expect_taken<R: Abort>(rt: &R, alloc: Global, floor: &mut Floor, done: &Done) {
     expect_eq(&rt, floor.deliver(alloc, done), Ok(()));
 }
 
@@ -298,13 +298,17 @@ fn altered(alloc: Global, job: &Job, inputs: &[i32]) -> Result<Job, Fail>
     })
 }
 
-const LONG_FEED: [i32; 6] = [1, 2, 3, 4, 5, 6];
+/// A floor over these tokens, on which nothing has fired.
+fn floor_over<R: Abort>(rt: &R, alloc: Global, feed: &[i32]) -> Result<Floor, Fail> {
+    let asked = asked_for(alloc, ACCUMULATED, feed)?;
+    floor_for(rt, alloc, &asked, 2)
+}
 
 /// Starts and computes the firing, whose counts and inputs are these.
 fn done_with<R: Abort>(
     rt: &R,
     alloc: Global,
-    floor: &mut Floor<'_>,
+    floor: &mut Floor,
     firing: u32,
     counts: &[u32],
     inputs: &[i32],
@@ -315,7 +319,7 @@ fn done_with<R: Abort>(
     done_of(alloc, job)
 }
 
-fn check_taken_once<R: Abort>(rt: &R, alloc: Global, floor: &mut Floor<'_>) -> Result<(), Fail> {
+fn check_taken_once<R: Abort>(rt: &R, alloc: Global, floor: &mut Floor) -> Result<(), Fail> {
     let done = done_with(rt, alloc, floor, 0, &[2], &[1, 2])?;
     expect_taken(rt, alloc, floor, &done);
     expect_stranger(rt, alloc, floor, &done);
@@ -323,7 +327,7 @@ fn check_taken_once<R: Abort>(rt: &R, alloc: Global, floor: &mut Floor<'_>) -> R
 }
 
 /// Why the firing was not started.
-fn refusal_of(alloc: Global, floor: &mut Floor<'_>, actor: u32, firing: u32) -> Option<StartFault> {
+fn refusal_of(alloc: Global, floor: &mut Floor, actor: u32, firing: u32) -> Option<StartFault> {
     match floor.start(alloc, actor, firing) {
         Ok(_) => None,
         Err(fault) => Some(fault),
@@ -332,8 +336,7 @@ fn refusal_of(alloc: Global, floor: &mut Floor<'_>, actor: u32, firing: u32) -> 
 
 #[test]
 fn a_result_is_taken_once(rt: HostRuntime) -> Result<(), Fail> {
-    let asked = asked_for(rt.alloc(), ACCUMULATED, &LONG_FEED)?;
-    let mut floor = floor_for(&rt, rt.alloc(), &asked, 2)?;
+    let mut floor = floor_over(&rt, rt.alloc(), &[1, 2, 3, 4, 5, 6])?;
     check_taken_once(&rt, rt.alloc(), &mut floor)?;
     expect_eq(
         &rt,
@@ -344,20 +347,20 @@ fn a_result_is_taken_once(rt: HostRuntime) -> Result<(), Fail> {
 }
 
 /// The firing with other inputs than its own is a stranger, and with its own it is taken.
-fn check_strangers<R: Abort>(rt: &R, alloc: Global, floor: &mut Floor<'_>) -> Result<(), Fail> {
+fn check_strangers<R: Abort>(rt: &R, alloc: Global, floor: &mut Floor) -> Result<(), Fail> {
     let job = started(alloc, floor, 0, 1)?;
     check_altered(rt, alloc, floor, &job)?;
     check_taken(rt, alloc, floor, job)
 }
 
-fn check_altered<R: Abort>(rt: &R, alloc: Global, floor: &mut Floor<'_>, job: &Job) -> Result<(), Fail>
+fn check_altered<R: Abort>(rt: &R, alloc: Global, floor: &mut Floor, job: &Job) -> Result<(), Fail>
     requires { IsReady job.now }
 {
     let stranger = altered(alloc, job, &[4])?;
     check_stranger(rt, alloc, floor, stranger)
 }
 
-fn check_taken<R: Abort>(rt: &R, alloc: Global, floor: &mut Floor<'_>, job: Job) -> Result<(), Fail>
+fn check_taken<R: Abort>(rt: &R, alloc: Global, floor: &mut Floor, job: Job) -> Result<(), Fail>
     requires { IsReady job }
 {
     let done = done_of(alloc, job)?;
@@ -365,7 +368,7 @@ fn check_taken<R: Abort>(rt: &R, alloc: Global, floor: &mut Floor<'_>, job: Job)
     Ok(())
 }
 
-fn check_stranger<R: Abort>(rt: &R, alloc: Global, floor: &mut Floor<'_>, job: Job) -> Result<(), Fail>
+fn check_stranger<R: Abort>(rt: &R, alloc: Global, floor: &mut Floor, job: Job) -> Result<(), Fail>
     requires { IsReady job }
 {
     let done = done_of(alloc, job)?;
@@ -376,8 +379,7 @@ fn check_stranger<R: Abort>(rt: &R, alloc: Global, floor: &mut Floor<'_>, job: J
 
 #[test]
 fn altered_tokens_are_not_taken(rt: HostRuntime) -> Result<(), Fail> {
-    let asked = asked_for(rt.alloc(), ACCUMULATED, &LONG_FEED)?;
-    let mut floor = floor_for(&rt, rt.alloc(), &asked, 2)?;
+    let mut floor = floor_over(&rt, rt.alloc(), &[1, 2, 3, 4, 5, 6])?;
     fire(rt.alloc(), &mut floor, 0, 0)?;
     check_strangers(&rt, rt.alloc(), &mut floor)?;
     let refusal = refusal_of(rt.alloc(), &mut floor, 0, 2);
@@ -405,7 +407,7 @@ fn other_done(alloc: Global, kernel: Kernel, actor: u32, inputs: &[i32]) -> Resu
 fn check_other<R: Abort>(
     rt: &R,
     alloc: Global,
-    floor: &mut Floor<'_>,
+    floor: &mut Floor,
     kernel: Kernel,
     actor: u32,
     inputs: &[i32],
@@ -421,8 +423,7 @@ fn check_other<R: Abort>(
 /// Of a firing that was not started, and of the started one with one token fewer to write.
 #[test]
 fn results_of_other_firings_are_strangers(rt: HostRuntime) -> Result<(), Fail> {
-    let asked = asked_for(rt.alloc(), ACCUMULATED, &LONG_FEED)?;
-    let mut floor = floor_for(&rt, rt.alloc(), &asked, 2)?;
+    let mut floor = floor_over(&rt, rt.alloc(), &[1, 2, 3, 4, 5, 6])?;
     expect_eq(&rt, refusal_of(rt.alloc(), &mut floor, 0, 0), None);
     let alloc = rt.alloc();
     check_other(&rt, alloc, &mut floor, Kernel::Sum, 1, &[1, 2, 3])?;
@@ -431,8 +432,7 @@ fn results_of_other_firings_are_strangers(rt: HostRuntime) -> Result<(), Fail> {
 
 #[test]
 fn a_start_is_refused_in_order(rt: HostRuntime) -> Result<(), Fail> {
-    let asked = asked_for(rt.alloc(), ACCUMULATED, &LONG_FEED)?;
-    let mut floor = floor_for(&rt, rt.alloc(), &asked, 2)?;
+    let mut floor = floor_over(&rt, rt.alloc(), &[1, 2, 3, 4, 5, 6])?;
     expect_eq(
         &rt,
         refusal_of(rt.alloc(), &mut floor, 9, 0),
@@ -447,21 +447,21 @@ fn a_start_is_refused_in_order(rt: HostRuntime) -> Result<(), Fail> {
 }
 
 /// Makes these firings, each of an actor and its number.
-fn drive(alloc: Global, floor: &mut Floor<'_>, firings: &[(u32, u32)]) -> Result<(), Fail> {
+fn drive(alloc: Global, floor: &mut Floor, firings: &[(u32, u32)]) -> Result<(), Fail> {
     for (actor, firing) in firings {
         fire(alloc, floor, *actor, *firing)?;
     }
     Ok(())
 }
 
-/// A floor for two periods, on which these firings were made.
-fn floor_after<'a, R: Abort>(
+/// A floor over these tokens, on which these firings were made.
+fn floor_after<R: Abort>(
     rt: &R,
     alloc: Global,
-    asked: &'a Asked,
+    feed: &[i32],
     firings: &[(u32, u32)],
-) -> Result<Floor<'a>, Fail> {
-    let mut floor = floor_for(rt, alloc, asked, 2)?;
+) -> Result<Floor, Fail> {
+    let mut floor = floor_over(rt, alloc, feed)?;
     drive(alloc, &mut floor, firings)?;
     Ok(floor)
 }
@@ -475,7 +475,7 @@ const DRY: &str = "6 \nending dry\nx written 5 taken 3 held 2 peak 3 capacity 3 
     y written 1 taken 1 held 0 peak 1 capacity 1 open\n";
 
 fn check_dry<R: Abort>(rt: &R, alloc: Global, asked: &Asked) -> Result<(), Fail> {
-    let floor = floor_after(rt, alloc, asked, &DRY_FIRINGS)?;
+    let floor = floor_after(rt, alloc, &DRY_FEED, &DRY_FIRINGS)?;
     match settled(rt, alloc, floor, asked, 2, None, &[3, 1, 1]) {
         Ok(outcome) => {
             expect_eq(&rt, outcome.ending, Ending::Dry);
@@ -527,9 +527,9 @@ const MIXED: [Mixed; 4] = [
     },
     // a floor that can go on
     Mixed {
-        feed: &LONG_FEED,
+        feed: &[1, 2, 3, 4, 5, 6],
         made: &[(0, 0)],
-        asked: &LONG_FEED,
+        asked: &[1, 2, 3, 4, 5, 6],
         limit: None,
         totals: &[1, 0, 0],
     },
@@ -537,8 +537,7 @@ const MIXED: [Mixed; 4] = [
 
 /// The floor is not at the end of what is asked.
 fn check_mixed<R: Abort>(rt: &R, alloc: Global, asked: &Asked, row: &Mixed) -> Result<(), Fail> {
-    let fed = asked_for(alloc, ACCUMULATED, row.feed)?;
-    let floor = floor_after(rt, alloc, &fed, row.made)?;
+    let floor = floor_after(rt, alloc, row.feed, row.made)?;
     let answer = settled(rt, alloc, floor, asked, 2, row.limit, row.totals);
     assert!(rt; matches!(answer, Err(RunFault::Mixed)));
     Ok(())

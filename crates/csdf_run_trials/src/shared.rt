@@ -65,12 +65,12 @@ pub(crate) fn asked_for(alloc: Global, text: &str, feed: &[i32]) -> Result<Asked
 }
 
 /// A floor for so many periods, on which nothing has fired.
-pub(crate) fn floor_for<'a>(
+pub(crate) fn floor_for(
     rt: &impl Abort,
     alloc: Global,
-    asked: &'a Asked,
+    asked: &Asked,
     periods: u32,
-) -> Result<Floor<'a>, Fail> {
+) -> Result<Floor, Fail> {
     let (accepted, feeds) = (&asked.accepted, &asked.feeds);
     assert!(rt; are_feeds(accepted.graph(), feeds));
     assert!(rt; 1 <= periods);
@@ -79,13 +79,13 @@ pub(crate) fn floor_for<'a>(
 }
 
 /// The same where it is said whether the moves are kept.
-pub(crate) fn floor_that_keeps<'a>(
+pub(crate) fn floor_that_keeps(
     rt: &impl Abort,
     alloc: Global,
-    asked: &'a Asked,
+    asked: &Asked,
     periods: u32,
     keeping: Keeping,
-) -> Result<Floor<'a>, Fail> {
+) -> Result<Floor, Fail> {
     let (accepted, feeds) = (&asked.accepted, &asked.feeds);
     assert!(rt; are_feeds(accepted.graph(), feeds));
     assert!(rt; 1 <= periods);
@@ -94,7 +94,7 @@ pub(crate) fn floor_that_keeps<'a>(
 }
 
 /// How many firings the actor has made, where there is one.
-pub(crate) fn fired_by(floor: &Floor<'_>, actor: u32) -> u32 {
+pub(crate) fn fired_by(floor: &Floor, actor: u32) -> u32 {
     if actor < floor.core().actors() {
         floor.core().fired(actor)
     } else {
@@ -208,7 +208,7 @@ pub(crate) fn told_of(
 /// Starts the actor's firing.
 pub(crate) fn started(
     alloc: Global,
-    floor: &mut Floor<'_>,
+    floor: &mut Floor,
     actor: u32,
     firing: u32,
 ) -> Result<Job, Fail>
@@ -230,7 +230,7 @@ pub(crate) fn done_of(alloc: Global, job: Job) -> Result<Done, Fail>
     }
 }
 
-pub(crate) fn deliver(alloc: Global, floor: &mut Floor<'_>, done: &Done) -> Result<(), Fail> {
+pub(crate) fn deliver(alloc: Global, floor: &mut Floor, done: &Done) -> Result<(), Fail> {
     match floor.deliver(alloc, done) {
         Ok(()) => Ok(()),
         Err(fault) => Err(fault.into()),
@@ -259,7 +259,7 @@ pub(crate) fn ran<R: Threads + Wait + Abort + Sync, G: Gate>(
 pub(crate) fn settled<R: Abort>(
     rt: &R,
     alloc: Global,
-    floor: Floor<'_>,
+    floor: Floor,
     asked: &Asked,
     periods: u32,
     firings: Option<u32>,

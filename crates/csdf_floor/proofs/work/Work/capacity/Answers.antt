@@ -6,12 +6,12 @@ pub bounds-capacities-channel : goal.bounds-capacities-channel
 bounds-capacities-channel c =
     let lt = rw (← c.self.view_is) at c.requires in
     let each = c.self.invariant.0.accepted.least.completes.each_channel in
-    let same = length-capacities c.self.inside.accepted.now.graph.channels c.self.inside.accepted.now.capacities each in
+    let same = length-capacities c.self.inside.accepted.graph.channels c.self.inside.accepted.capacities each in
     omega (arith, lt, each, same, ap length c.capacities.ensures.value)
 
 pub returns : goal.returns
 returns c =
     rw (← c.self.view_is)
     (ap (λ (ns : List ℕ). get_or ns c.args.channel 0)
-    (c.capacities.ensures.value ∙ sym (capacities-map c.self.inside.accepted.now.graph.channels c.self.inside.accepted.now.capacities
+    (c.capacities.ensures.value ∙ sym (capacities-map c.self.inside.accepted.graph.channels c.self.inside.accepted.capacities
     c.self.invariant.0.accepted.least.completes.each_channel)))

@@ -6,11 +6,11 @@ use Rattle.csdf_floor.proofs.work.Work.channel.Goals as goal
 use Rattle.csdf_floor.proofs.work.Work.channel.Goals.{After-channels, After-index-channels-channel}
 
 module _ (c : After-channels) where
-  rows : map channel_view c.channels.result.now ≡ c.self.inside.accepted.now.graph.channels
+  rows : map channel_view c.channels.result.now ≡ c.self.inside.accepted.graph.channels
   rows = c.channels.ensures.value ∙ ap (λ (g : Graph). g.channels) c.graph.ensures.graph
 
   there : c.args.channel < length c.channels.result.now
-  there = in_graph channel_view c.channels.result.now _ c.self.inside.accepted.now.capacities c.args.channel rows
+  there = in_graph channel_view c.channels.result.now _ c.self.inside.accepted.capacities c.args.channel rows
       c.self.invariant.0.accepted.least.completes.each_channel (rw (← c.self.view_is) at c.requires)
 
 module _ (c : After-index-channels-channel) where
@@ -24,7 +24,7 @@ bounds-channels-channel c = there (goal.at.bounds-channels-channel c).After-chan
 pub returns-clause-value : goal.returns-clause-value
 returns-clause-value c =
     let at : goal.After-channels = (goal.at.returns-clause-value c).After-channels in
-    rw (← c.self.view_is) (channel_seen channel_view c.channels.result.now _ c.self.inside.accepted.now.capacities c.args.channel c.index-channels-channel.result
+    rw (← c.self.view_is) (channel_seen channel_view c.channels.result.now _ c.self.inside.accepted.capacities c.args.channel c.index-channels-channel.result
     (rows at) c.self.invariant.0.accepted.least.completes.each_channel (there at) c.index-channels-channel.is)
 
 pub returns-clause-produce : goal.returns-clause-produce

@@ -8,12 +8,12 @@ pub returns-clause-value : goal.returns-clause-value
 returns-clause-value c =
     rw (← c.self.view_is) (c.inputs.ensures.value
     ∙ ap (λ (g : Graph). inputs_of g.channels c.args.actor) c.graph.ensures.graph
-    ∙ sym (numbers-capacities (λ ch. ch.to == c.args.actor) (λ g. g.to == c.args.actor) (λ g b. refl) 0 c.self.inside.accepted.now.graph.channels
-    c.self.inside.accepted.now.capacities c.self.invariant.0.accepted.least.completes.each_channel))
+    ∙ sym (numbers-capacities (λ ch. ch.to == c.args.actor) (λ g. g.to == c.args.actor) (λ g b. refl) 0 c.self.inside.accepted.graph.channels
+    c.self.inside.accepted.capacities c.self.invariant.0.accepted.least.completes.each_channel))
 
 pub returns-clause-within : goal.returns-clause-within
 returns-clause-within c =
     let same = ap (λ (g : Graph). length g.channels) c.graph.ensures.graph
-    ∙ sym (length-capacities c.self.inside.accepted.now.graph.channels c.self.inside.accepted.now.capacities
+    ∙ sym (length-capacities c.self.inside.accepted.graph.channels c.self.inside.accepted.capacities
     c.self.invariant.0.accepted.least.completes.each_channel) in
     rw (← c.self.view_is) (subst (λ n. All (λ i. i < n) c.inputs.result.now) same c.inputs.ensures.within)

@@ -8,11 +8,11 @@ use Rattle.csdf_floor.proofs.work.Work.kernel.Goals as goal
 use Rattle.csdf_floor.proofs.work.Work.kernel.Goals.{After-index-actors-actor}
 
 module _ (c : After-index-actors-actor) where
-  there : c.args.actor < length c.self.inside.accepted.now.graph.actors
+  there : c.args.actor < length c.self.inside.accepted.graph.actors
   there = rw (← c.self.view_is) at c.requires
 
-  own : c.index-actors-actor.result.kernel ≡ get_or (map (λ (row : Actor). row.kernel) c.self.inside.accepted.now.graph.actors) c.args.actor Sink
-  own = actor_at (λ (row : Actor). row.kernel) c.actors.result.now c.self.inside.accepted.now.graph.actors c.args.actor c.index-actors-actor.result Sink
+  own : c.index-actors-actor.result.kernel ≡ get_or (map (λ (row : Actor). row.kernel) c.self.inside.accepted.graph.actors) c.args.actor Sink
+  own = actor_at (λ (row : Actor). row.kernel) c.actors.result.now c.self.inside.accepted.graph.actors c.args.actor c.index-actors-actor.result Sink
       (c.actors.ensures.value ∙ ap (λ (g : Graph). g.actors) c.graph.ensures.graph) there c.index-actors-actor.is
 
 pub bounds-actors-actor : goal.bounds-actors-actor
@@ -35,4 +35,4 @@ pub returns-clause-in_range : goal.returns-clause-in_range
 returns-clause-in_range c =
     let at : goal.After-index-actors-actor = (goal.at.returns-clause-in_range c).After-index-actors-actor in
     subst HasFilterInRange (sym c.kernel_in.ensures)
-    (in_range c.self.inside.accepted.now.graph c.args.actor c.index-actors-actor.result.kernel c.self.invariant.0.accepted.well_formed (there at) (own at))
+    (in_range c.self.inside.accepted.graph c.args.actor c.index-actors-actor.result.kernel c.self.invariant.0.accepted.well_formed (there at) (own at))
