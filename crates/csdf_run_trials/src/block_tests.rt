@@ -3,7 +3,7 @@
 
 ghost use Rattle.std.specs.Prelude.{IfOk};
 
-use crate::shared::{Asked, asked_for, expect_eq, fired_by, floor_that_keeps};
+use crate::shared::{Asked, asked_for, deliver, done_of, expect_eq, fired_by, floor_that_keeps};
 use csdf_floor::{Floor, StartFault};
 use csdf_journal::Keeping;
 use csdf_kernel::{Counts, Outputs};
@@ -101,34 +101,68 @@ fn turns(alloc: Global, floor: &mut Floor) -> Result<String, Fail> {
     Ok(told)
 }
 
-/// Asserts what comes of four periods of the graph.
-fn check_told(
-    rt: &impl Abort,
-    alloc: Global,
-    graph: &str,
-    keeping: Keeping,
-    wanted: &str,
-) -> Result<(), Fail> {
-    let asked = asked_for(alloc, graph, &[5, -6, 7, 8])?;
-    check_turns(rt, alloc, &asked, keeping, wanted)
+/// Makes a firing of the actor by its four moves; false where it can't begin.
+fn single(alloc: Global, floor: &mut Floor, actor: u32) -> Result<bool, Fail> {
+    let firing = fired_by(floor, actor);
+    match floor.start(alloc, actor, firing) {
+        Ok(job) => {
+            let done = done_of(alloc, job)?;
+            deliver(alloc, floor, &done)?;
+            Ok(true)
+        }
+        Err(StartFault::Refused(_)) => Ok(false),
+        Err(fault) => Err(fault.into()),
+    }
 }
 
-fn check_turns(
+/// The same as [`turn`], but one firing after another.
+fn single_turn(alloc: Global, floor: &mut Floor) -> Result<(), Fail> {
+    for actor in 0..3 {
+        for _ in 0..10 {
+            if !single(alloc, floor, actor)? {
+                break;
+            }
+        }
+    }
+    Ok(())
+}
+
+fn single_turns(alloc: Global, floor: &mut Floor) -> Result<(), Fail> {
+    for _ in 0..10 {
+        single_turn(alloc, floor)?;
+    }
+    Ok(())
+}
+
+/// The moves that the floor keeps.
+fn moves_of(alloc: Global, floor: &Floor) -> Result<String, Fail> {
+    Ok(format!(in alloc; "{:?}", floor.journal())?)
+}
+
+/// What comes of four periods of the graph, and the moves that are kept.
+fn made_at_once(
     rt: &impl Abort,
     alloc: Global,
     asked: &Asked,
     keeping: Keeping,
     wanted: &str,
-) -> Result<(), Fail> {
+) -> Result<String, Fail> {
     let mut floor = floor_that_keeps(rt, alloc, asked, 4, keeping)?;
     let told = turns(alloc, &mut floor)?;
     expect_eq(rt, told.as_str(), wanted);
-    Ok(())
+    moves_of(alloc, &floor)
 }
 
-/// Graphs, and what comes of them where no moves are kept. Three firings fill a channel, so three are made
-/// at once, and then the fourth; with two phases two firings fill it.
-const NOT_KEPT: [(&str, &str); 4] = [
+/// The moves of the same firings one by one.
+fn made_singly(rt: &impl Abort, alloc: Global, asked: &Asked) -> Result<String, Fail> {
+    let mut floor = floor_that_keeps(rt, alloc, asked, 4, Keeping::Kept)?;
+    single_turns(alloc, &mut floor)?;
+    moves_of(alloc, &floor)
+}
+
+/// Graphs, and what comes of them. Three firings fill a channel, so three are made at once, and then the
+/// fourth; with two phases two firings fill it.
+const GRAPHS: [(&str, &str); 4] = [
     (LINE, "3 3 3 1 1 1 [][][5, -6, 7, 8]"),
     // 5 gives 5, 5, and -6, 7 give -6; then 8 gives 8, 8, of which the sink takes one
     (PHASES, "2 2 2 1 1 1 [][][5, 5, -6, 8]"),
@@ -139,25 +173,34 @@ const NOT_KEPT: [(&str, &str); 4] = [
     (FILTER, "3 3 3 1 1 1 [][][3, 25, 23, 49]"),
 ];
 
+fn check_not_kept(rt: &impl Abort, alloc: Global, graph: &str, wanted: &str) -> Result<(), Fail> {
+    let asked = asked_for(alloc, graph, &[5, -6, 7, 8])?;
+    let moves = made_at_once(rt, alloc, &asked, Keeping::NotKept, wanted)?;
+    expect_eq(rt, moves.as_str(), "[]");
+    Ok(())
+}
+
 #[test]
 fn firings_are_made_at_once(rt: HostRuntime) -> Result<(), Fail> {
-    for (graph, wanted) in &NOT_KEPT {
-        check_told(&rt, rt.alloc(), *graph, Keeping::NotKept, *wanted)?;
+    for (graph, wanted) in &GRAPHS {
+        check_not_kept(&rt, rt.alloc(), *graph, *wanted)?;
     }
     Ok(())
 }
 
-/// The same where the moves are kept; the sums are made one by one.
-const KEPT: [(&str, &str); 3] = [
-    (LINE, "3 3 3 1 1 1 [][][5, -6, 7, 8]"),
-    (PHASES, "2 2 2 1 1 1 [][][5, 5, -6, 8]"),
-    (SUMS, "3 3 3 1 1 1 [][][5, -1, 6, 14]"),
-];
+/// Firings that are made at once leave the moves of firings one by one.
+fn check_kept(rt: &impl Abort, alloc: Global, graph: &str, wanted: &str) -> Result<(), Fail> {
+    let asked = asked_for(alloc, graph, &[5, -6, 7, 8])?;
+    let moves = made_at_once(rt, alloc, &asked, Keeping::Kept, wanted)?;
+    let singly = made_singly(rt, alloc, &asked)?;
+    expect_eq(rt, moves.as_str(), singly.as_str());
+    Ok(())
+}
 
 #[test]
 fn moves_of_firings_are_kept(rt: HostRuntime) -> Result<(), Fail> {
-    for (graph, wanted) in &KEPT {
-        check_told(&rt, rt.alloc(), *graph, Keeping::Kept, *wanted)?;
+    for (graph, wanted) in &GRAPHS {
+        check_kept(&rt, rt.alloc(), *graph, *wanted)?;
     }
     Ok(())
 }
