@@ -160,18 +160,20 @@ fn made_singly(rt: &impl Abort, alloc: Global, asked: &Asked) -> Result<String, 
     moves_of(alloc, &floor)
 }
 
-/// Graphs, and what comes of them. Three firings fill a channel, so three are made at once, and then the
-/// fourth; with two phases two firings fill it.
-const GRAPHS: [(&str, &str); 4] = [
+/// Graphs of one phase, and what comes of them. Three firings fill a channel, so three are made at once,
+/// and then the fourth.
+const GRAPHS: [(&str, &str); 3] = [
     (LINE, "3 3 3 1 1 1 [][][5, -6, 7, 8]"),
-    // 5 gives 5, 5, and -6, 7 give -6; then 8 gives 8, 8, of which the sink takes one
-    (PHASES, "2 2 2 1 1 1 [][][5, 5, -6, 8]"),
     // running sums: each firing reads what the one before it wrote to itself
     (SUMS, "3 3 3 1 1 1 [][][5, -1, 6, 14]"),
     // from 1, 1 and 5: 3 goes to the sink, and 3, 11 are the next state; then 25, and 25, -1; 23, and
     // 23, 13; 49
     (FILTER, "3 3 3 1 1 1 [][][3, 25, 23, 49]"),
 ];
+
+/// What comes of two phases, of which two firings fill a channel: 5 gives 5, 5, and -6, 7 give -6; then 8
+/// gives 8, 8, of which the sink takes one.
+const OF_PHASES: &str = "2 2 2 1 1 1 [][][5, 5, -6, 8]";
 
 fn check_not_kept(rt: &impl Abort, alloc: Global, graph: &str, wanted: &str) -> Result<(), Fail> {
     let asked = asked_for(alloc, graph, &[5, -6, 7, 8])?;
@@ -185,7 +187,7 @@ fn firings_are_made_at_once(rt: HostRuntime) -> Result<(), Fail> {
     for (graph, wanted) in &GRAPHS {
         check_not_kept(&rt, rt.alloc(), *graph, *wanted)?;
     }
-    Ok(())
+    check_not_kept(&rt, rt.alloc(), PHASES, OF_PHASES)
 }
 
 /// Firings that are made at once leave the moves of firings one by one.
@@ -203,4 +205,11 @@ fn moves_of_firings_are_kept(rt: HostRuntime) -> Result<(), Fail> {
         check_kept(&rt, rt.alloc(), *graph, *wanted)?;
     }
     Ok(())
+}
+
+/// The copy makes its firings one by one here, and fewer where memory runs out after the first. So
+/// `tests/memory/run` leaves this one out.
+#[test]
+fn moves_of_phases_are_kept(rt: HostRuntime) -> Result<(), Fail> {
+    check_kept(&rt, rt.alloc(), PHASES, OF_PHASES)
 }
