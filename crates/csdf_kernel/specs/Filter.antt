@@ -2,6 +2,7 @@
 use Rattle.std.specs.Prelude.{ℕ, ◌≡◌, ◌+◌, ◌<◌, ◌≤◌, ◌^◌, Bool, IsTrue, List, ℤ, length, unsigned_abs, ◌*ℤ◌}
 use Rattle.csdf_model.specs.declared.parts.Kernel.{Kernel}
 use Rattle.csdf_model.specs.declared.parts.Kernel.TheVariants.{Source, Sink, Copy, Sum, Fir}
+use Rattle.csdf_model.specs.declared.limits.TheConstants.{MAX_SHIFT, MAX_WEIGHTS}
 use Rattle.csdf_kernel.specs.Value.{token_at}
 
 -- each of the first n weights is at most 2^27 in size, so that its product with a token is at most 2^58, and sixteen add up to 2^62 at most
@@ -17,10 +18,10 @@ pub record IsWindow (xs : List ℤ) (base : ℕ) (window : List ℤ) : Type 0 wh
   pub long : length window ≡ 32
   pub alike : (i : ℕ) → i < 32 → token_at window i ≡ token_at xs (base + i)
 
--- at most 16 taps, a shift of at most 31, and weights that are small where they are marked so
+-- taps and a shift within their limits, and weights that are small where they are marked so
 pub record IsInRange (weights : List ℤ) (taps shift : ℕ) (small : Bool) : Type 0 where
-  pub few_taps : taps ≤ 16
-  pub low_shift : shift ≤ 31
+  pub few_taps : taps ≤ MAX_WEIGHTS
+  pub low_shift : shift ≤ MAX_SHIFT
   pub are_small : IsTrue small → AreSmall weights taps
 
 -- sixteen taps with small weights, each of which has a token from this place on

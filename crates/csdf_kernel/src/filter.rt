@@ -10,6 +10,7 @@ use crate::small::{
     sixteen_narrow_products_at, sixteen_products_at, small_clamped, small_products_at,
     small_shifted,
 };
+use csdf_model::{MAX_SHIFT, MAX_WEIGHTS};
 
 /// A filter: the first `taps` weights count, and each sum of products is divided by two to the power
 /// of `shift`.
@@ -27,8 +28,8 @@ pub(crate) struct Filter<'a> {
 impl<'a> Filter<'a> {
     /// The filter of these weights, which are gone through once.
     pub(crate) fn new(weights: &'a [i32], taps: u32, shift: u32) -> Filter<'a>
-        requires taps { taps ≤ 16 }
-        requires shift { shift ≤ 31 }
+        requires taps { taps ≤ MAX_WEIGHTS }
+        requires shift { shift ≤ MAX_SHIFT }
         ensures weights { result.weights.now ≡ weights.now }
         ensures taps { result.taps ≡ taps }
         ensures shift { result.shift ≡ shift }

@@ -13,7 +13,7 @@ mod outputs;
 mod small;
 
 pub use channels::push_same;
-use csdf_model::Kernel;
+use csdf_model::{Kernel, MAX_CHANNELS, MAX_TOKENS_PER_FIRING};
 pub use looping::eval_loop;
 use outputs::{outputs_into, values_into};
 pub use outputs::{Outputs, push_value};
@@ -108,8 +108,8 @@ impl Done {
 /// An error says that memory ran out; then the outputs hold what they held.
 #[tactic(auto, using(crate::proofs::ValueLemmas::length_of_value, crate::proofs::ValueLemmas::value_of_none))]
 pub fn eval_into(job: &Job, outputs: &mut Outputs) -> Result<(), AllocError>
-    requires few_counts { length job.now.counts.items ≤ 128 }
-    requires small_counts { All (λ count. count ≤ 64) job.now.counts.items }
+    requires few_counts { length job.now.counts.items ≤ MAX_CHANNELS }
+    requires small_counts { All (λ count. count ≤ MAX_TOKENS_PER_FIRING) job.now.counts.items }
     requires few_inputs { length job.now.inputs.items ≤ 8192 }
     requires filter_in_range { HasFilterInRange job.now.kernel }
     ensures value { OnOk result
@@ -142,8 +142,8 @@ pub fn eval_block(
     inputs: &[i32],
     outputs: &mut Outputs,
 ) -> Result<(), AllocError>
-    requires few_counts { length counts.now ≤ 128 }
-    requires small_counts { All (λ count. count ≤ 64) counts.now }
+    requires few_counts { length counts.now ≤ MAX_CHANNELS }
+    requires small_counts { All (λ count. count ≤ MAX_TOKENS_PER_FIRING) counts.now }
     requires few_inputs { need ≤ 8192 }
     requires filter_in_range { HasFilterInRange kernel.now }
     requires whole { firings * need ≤ length inputs.now }
@@ -157,8 +157,8 @@ pub fn eval_block(
 /// Does a job. It allocates once at most, and not at all for 16 outputs or fewer. Where there is no
 /// memory for the outputs it hands the job back.
 pub fn eval(alloc: Global, job: Job) -> Result<Done, (Job, AllocError)>
-    requires few_counts { length job.counts.items ≤ 128 }
-    requires small_counts { All (λ count. count ≤ 64) job.counts.items }
+    requires few_counts { length job.counts.items ≤ MAX_CHANNELS }
+    requires small_counts { All (λ count. count ≤ MAX_TOKENS_PER_FIRING) job.counts.items }
     requires few_inputs { length job.inputs.items ≤ 8192 }
     requires filter_in_range { HasFilterInRange job.kernel }
 

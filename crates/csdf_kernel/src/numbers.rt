@@ -2,6 +2,8 @@
 ghost use Rattle.std.specs.Prelude.{◌≡◌, ◌⊎◌, ◌+◌, ◌*◌, ◌^◌, ◌≤◌, length, pos, ◌+ℤ◌, ◌*ℤ◌, ◌≤ℤ◌, ◌<ℤ◌, unsigned_abs};
 ghost use Rattle.csdf_kernel.specs.Value.{token_at, total, clamp, floor, convolution};
 
+use csdf_model::{MAX_SHIFT, MAX_WEIGHTS};
+
 /// Token `place` of the inputs, or 0 past their end.
 pub(crate) fn token(inputs: &[i32], place: usize) -> i32
     ensures { result ≡ token_at inputs.now place }
@@ -53,7 +55,7 @@ pub(crate) fn full_taps(weights: &[i32], taps: usize, inputs: &[i32], place: usi
 
 /// The sum of the products of the first `taps` weights with the tokens from `place` on.
 pub(crate) fn products_at(weights: &[i32], taps: usize, inputs: &[i32], place: usize) -> i128
-    requires taps { taps ≤ 16 }
+    requires taps { taps ≤ MAX_WEIGHTS }
     requires place { place ≤ 8192 }
     ensures value { result ≡ convolution weights.now taps inputs.now place }
     ensures bound { unsigned_abs result ≤ taps * 2 ^ 62 }
@@ -68,7 +70,7 @@ pub(crate) fn products_at(weights: &[i32], taps: usize, inputs: &[i32], place: u
 /// A number divided by two to the power of `shift`, rounded down.
 #[tactic(auto, using(crate::proofs::NumberLemmas::shr_is))]
 pub(crate) fn shifted(value: i128, shift: u32) -> i128
-    requires { shift ≤ 31 }
+    requires { shift ≤ MAX_SHIFT }
     ensures value { result ≡ floor value (2 ^ shift) }
 
     // Times that power it is at most the value, and one more would be too great.

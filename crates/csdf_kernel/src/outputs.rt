@@ -7,7 +7,7 @@ ghost use Rattle.csdf_kernel.specs.Value.{token_at, value_of, values_of, GivesAs
 use crate::channels::{push_copies, push_filtered, push_same, push_source};
 use crate::filter::Filter;
 use crate::numbers::{clamped, sum_of};
-use csdf_model::Kernel;
+use csdf_model::{Kernel, MAX_CHANNELS, MAX_TOKENS_PER_FIRING};
 use smallvec::SmallVec;
 use std::alloc::AllocError;
 
@@ -50,8 +50,8 @@ pub(crate) fn push_value_by(
     counts: &[u32],
     inputs: &[i32],
 )
-    requires few_counts { length counts.now ≤ 128 }
-    requires small_counts { All (λ count. count ≤ 64) counts.now }
+    requires few_counts { length counts.now ≤ MAX_CHANNELS }
+    requires small_counts { All (λ count. count ≤ MAX_TOKENS_PER_FIRING) counts.now }
     requires few_inputs { length inputs.now ≤ 8192 }
     requires filter { IsFilterOf kernel.now filter.now.weights.now filter.now.taps filter.now.shift }
     requires in_range { IsInRange filter.now.weights.now filter.now.taps filter.now.shift filter.now.small }
@@ -72,8 +72,8 @@ pub(crate) fn push_value_by(
 
 /// The kernel's value of one firing, at the end of a list that has room for it.
 pub fn push_value(outputs: &mut Outputs, kernel: &Kernel, counts: &[u32], inputs: &[i32])
-    requires few_counts { length counts.now ≤ 128 }
-    requires small_counts { All (λ count. count ≤ 64) counts.now }
+    requires few_counts { length counts.now ≤ MAX_CHANNELS }
+    requires small_counts { All (λ count. count ≤ MAX_TOKENS_PER_FIRING) counts.now }
     requires few_inputs { length inputs.now ≤ 8192 }
     requires filter_in_range { HasFilterInRange kernel.now }
     requires room { HasRoomFor outputs.old (sum counts.now) }
@@ -109,8 +109,8 @@ pub(crate) fn outputs_into(
     inputs: &[i32],
     outputs: &mut Outputs,
 ) -> Result<(), AllocError>
-    requires few_counts { length counts.now ≤ 128 }
-    requires small_counts { All (λ count. count ≤ 64) counts.now }
+    requires few_counts { length counts.now ≤ MAX_CHANNELS }
+    requires small_counts { All (λ count. count ≤ MAX_TOKENS_PER_FIRING) counts.now }
     requires few_inputs { length inputs.now ≤ 8192 }
     requires filter_in_range { HasFilterInRange kernel.now }
     ensures value { OnOk result (outputs.new.items ≡ value_of kernel.now counts.now inputs.now) }
@@ -168,8 +168,8 @@ fn push_values(
     firings: u32,
     inputs: &[i32],
 )
-    requires few_counts { length counts.now ≤ 128 }
-    requires small_counts { All (λ count. count ≤ 64) counts.now }
+    requires few_counts { length counts.now ≤ MAX_CHANNELS }
+    requires small_counts { All (λ count. count ≤ MAX_TOKENS_PER_FIRING) counts.now }
     requires few_inputs { need ≤ 8192 }
     requires filter_in_range { HasFilterInRange kernel.now }
     requires whole { firings * need ≤ length inputs.now }
@@ -204,8 +204,8 @@ pub(crate) fn values_into(
     inputs: &[i32],
     outputs: &mut Outputs,
 ) -> Result<(), AllocError>
-    requires few_counts { length counts.now ≤ 128 }
-    requires small_counts { All (λ count. count ≤ 64) counts.now }
+    requires few_counts { length counts.now ≤ MAX_CHANNELS }
+    requires small_counts { All (λ count. count ≤ MAX_TOKENS_PER_FIRING) counts.now }
     requires few_inputs { need ≤ 8192 }
     requires filter_in_range { HasFilterInRange kernel.now }
     requires whole { firings * need ≤ length inputs.now }

@@ -4,6 +4,7 @@ ghost use Rattle.csdf_kernel.specs.Filter.{AreNarrow, AreSmall, IsWindow};
 ghost use Rattle.csdf_kernel.specs.Value.{clamp, convolution, filter_token, floor, places, token_at};
 
 use crate::numbers::full_taps;
+use csdf_model::{MAX_SHIFT, MAX_WEIGHTS};
 
 /// The greatest size of a small weight: sixteen products with tokens of 32 bits stay within 2^62.
 const GREATEST_SMALL: u32 = 1 << 27;
@@ -79,7 +80,7 @@ pub(crate) fn sixteen_narrow_products_at(weights: &[i32], inputs: &[i32], place:
 /// A narrow sum divided by two to the power of `shift`, rounded down: no size grows, so nothing is clamped.
 #[tactic(auto, using(crate::proofs::NumberLemmas::shr_clamped))]
 pub(crate) fn narrow_shifted(sum: i32, shift: u32) -> i32
-    requires { shift ≤ 31 }
+    requires { shift ≤ MAX_SHIFT }
     ensures { result ≡ clamp (floor sum (2 ^ shift)) }
 {
     sum >> shift
@@ -92,7 +93,7 @@ fn narrow_token_at(weights: &[i32], inputs: &[i32], place: usize, shift: u32) ->
     requires weights { 16 ≤ length weights.now }
     requires tokens { place + 16 ≤ length inputs.now }
     requires narrow { AreNarrow weights.now inputs.now }
-    requires shift { shift ≤ 31 }
+    requires shift { shift ≤ MAX_SHIFT }
     ensures { result ≡ filter_token weights.now 16 shift inputs.now place }
 {
     narrow_shifted(narrow_sum_at(weights, inputs, place), shift)
@@ -110,7 +111,7 @@ pub(crate) fn eight_narrow_tokens_at(
     requires weights { 16 ≤ length weights.now }
     requires tokens { place + 23 ≤ length inputs.now }
     requires narrow { AreNarrow weights.now inputs.now }
-    requires shift { shift ≤ 31 }
+    requires shift { shift ≤ MAX_SHIFT }
     ensures { result ≡ places (λ i. filter_token weights.now 16 shift inputs.now (place + i)) 8 }
 {
     [
@@ -164,7 +165,7 @@ pub(crate) fn sixteen_products_at(weights: &[i32], inputs: &[i32], place: usize)
 
 /// The sum of the products of the first `taps` weights with the tokens from `place` on.
 pub(crate) fn small_products_at(weights: &[i32], taps: usize, inputs: &[i32], place: usize) -> i64
-    requires taps { taps ≤ 16 }
+    requires taps { taps ≤ MAX_WEIGHTS }
     requires place { place ≤ 8192 }
     requires small { AreSmall weights.now taps }
     ensures { result ≡ convolution weights.now taps inputs.now place }
@@ -179,7 +180,7 @@ pub(crate) fn small_products_at(weights: &[i32], taps: usize, inputs: &[i32], pl
 /// A sum divided by two to the power of `shift`, rounded down.
 #[tactic(auto, using(crate::proofs::NumberLemmas::shr_is))]
 pub(crate) fn small_shifted(sum: i64, shift: u32) -> i64
-    requires { shift ≤ 31 }
+    requires { shift ≤ MAX_SHIFT }
     ensures { result ≡ floor sum (2 ^ shift) }
 {
     sum >> shift
