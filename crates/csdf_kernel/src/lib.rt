@@ -7,6 +7,7 @@ ghost use Rattle.csdf_kernel.specs.Value.{value_of, values_of, HasFilterInRange}
 
 mod channels;
 mod filter;
+mod light;
 mod looping;
 mod numbers;
 mod outputs;

@@ -49,24 +49,24 @@ fn narrow_product(weight: i32, token: i32) -> i32
     weight * token
 }
 
-/// The sum of the products of sixteen weights with the tokens from `place` on, which are all there, where
-/// each product is narrow.
+/// The sum of the products of `N` weights with the tokens from `place` on, which are all there, where each
+/// product is narrow. Its loop has a constant length, so that the compiler makes vectors of it.
 #[inline]
-fn narrow_sum_at(weights: &[i32], inputs: &[i32], place: usize) -> i32
-    requires weights { 16 ≤ length weights.now }
-    requires tokens { place + 16 ≤ length inputs.now }
+pub(crate) fn narrow_sum_at<const N: usize>(weights: &[i32], inputs: &[i32], place: usize) -> i32
+    requires few { N ≤ MAX_WEIGHTS }
+    requires weights { N ≤ length weights.now }
+    requires tokens { place + N ≤ length inputs.now }
     requires narrow { AreNarrow weights.now inputs.now }
-    ensures { result ≡ convolution weights.now 16 inputs.now place }
+    ensures { result ≡ convolution weights.now N inputs.now place }
 {
     let mut sum = 0;
-    for tap in 0..16 {
+    for tap in 0..N {
         sum += narrow_product(weights[tap], inputs[place + tap]);
     }
     sum
 }
 
-/// The same sum. Its loop has a constant length, and it stands by itself, so that the compiler makes
-/// vectors of it.
+/// The same sum for sixteen weights. It stands by itself, so that the compiler makes vectors of it.
 #[inline(never)]
 pub(crate) fn sixteen_narrow_products_at(weights: &[i32], inputs: &[i32], place: usize) -> i32
     requires weights { 16 ≤ length weights.now }
@@ -74,7 +74,7 @@ pub(crate) fn sixteen_narrow_products_at(weights: &[i32], inputs: &[i32], place:
     requires narrow { AreNarrow weights.now inputs.now }
     ensures { result ≡ convolution weights.now 16 inputs.now place }
 {
-    narrow_sum_at(weights, inputs, place)
+    narrow_sum_at::<16>(weights, inputs, place)
 }
 
 /// A narrow sum divided by two to the power of `shift`, rounded down: no size grows, so nothing is clamped.
@@ -96,7 +96,7 @@ fn narrow_token_at(weights: &[i32], inputs: &[i32], place: usize, shift: u32) ->
     requires shift { shift ≤ MAX_SHIFT }
     ensures { result ≡ filter_token weights.now 16 shift inputs.now place }
 {
-    narrow_shifted(narrow_sum_at(weights, inputs, place), shift)
+    narrow_shifted(narrow_sum_at::<16>(weights, inputs, place), shift)
 }
 
 /// The tokens at eight places in a row, whose taps all find one, where each product is narrow. It stands by
@@ -148,16 +148,17 @@ fn small_product(weight: i32, token: i32) -> i64
     i64::from(weight) * i64::from(token)
 }
 
-/// The sum of the products of sixteen weights with the tokens from `place` on, which are all there.
+/// The sum of the products of `N` small weights with the tokens from `place` on, which are all there.
 /// Its loop has a constant length, so that the compiler unrolls it.
-pub(crate) fn sixteen_products_at(weights: &[i32], inputs: &[i32], place: usize) -> i64
-    requires weights { 16 ≤ length weights.now }
-    requires tokens { place + 16 ≤ length inputs.now }
-    requires small { AreSmall weights.now 16 }
-    ensures { result ≡ convolution weights.now 16 inputs.now place }
+pub(crate) fn small_sum_at<const N: usize>(weights: &[i32], inputs: &[i32], place: usize) -> i64
+    requires few { N ≤ MAX_WEIGHTS }
+    requires weights { N ≤ length weights.now }
+    requires tokens { place + N ≤ length inputs.now }
+    requires small { AreSmall weights.now N }
+    ensures { result ≡ convolution weights.now N inputs.now place }
 {
     let mut sum = 0;
-    for next in 0..16 {
+    for next in 0..N {
         sum += small_product(weights[next], inputs[place + next]);
     }
     sum
