@@ -4,7 +4,7 @@ ghost use Rattle.std.specs.Prelude.{◌≡◌, ◌<◌, ◌≤◌, ◌+◌, ℕ,
 ghost use Rattle.csdf_kernel.specs.Filter.{AreNarrow, AreTapsAt, IsInRange, IsNarrow, IsPadded, IsWhole, IsWindow};
 ghost use Rattle.csdf_kernel.specs.Value.{filter_token, places, token_at};
 
-use crate::numbers::{clamped, products_at, shifted};
+use crate::numbers::{clamped, full_taps, products_at, shifted};
 use crate::small::{
     are_narrow, eight_narrow_tokens_at, greatest_size, is_small, narrow_shifted,
     sixteen_narrow_products_at, small_clamped, small_products_at, small_shifted, small_sum_at,
@@ -90,9 +90,7 @@ impl<'a> Filter<'a> {
         ensures taps { AreTapsAt self.now.weights.now self.now.taps need place result }
         ensures weights { result ≤ length self.now.weights.now }
     {
-        (self.taps as usize)
-            .min(self.weights.len())
-            .min(need.saturating_sub(place))
+        full_taps(self.weights, self.taps as usize, need, place)
     }
 
     /// The first so many weights, and zeros after them.

@@ -42,15 +42,14 @@ fn product(a: i32, b: i32) -> i128
     i128::from(i64::from(a) * i64::from(b))
 }
 
-/// How many of the taps have a weight and a token from `place` on.
-pub(crate) fn full_taps(weights: &[i32], taps: usize, inputs: &[i32], place: usize) -> usize
+/// How many of the taps have a weight, and a token from `place` on among so many.
+pub(crate) fn full_taps(weights: &[i32], taps: usize, tokens: usize, place: usize) -> usize
     ensures taps { result ≤ taps }
     ensures weights { result ≤ length weights.now }
-    ensures tokens { result + place ≤ length inputs.now ⊎ result ≡ 0 }
-    ensures all { result ≡ taps ⊎ length weights.now ≤ result ⊎ length inputs.now ≤ place + result }
+    ensures tokens { place + result ≤ tokens ⊎ result ≡ 0 }
+    ensures all { result ≡ taps ⊎ length weights.now ≤ result ⊎ tokens ≤ place + result }
 {
-    taps.min(weights.len())
-        .min(inputs.len().saturating_sub(place))
+    taps.min(weights.len()).min(tokens.saturating_sub(place))
 }
 
 /// The sum of the products of the first `taps` weights with the tokens from `place` on.
@@ -61,7 +60,7 @@ pub(crate) fn products_at(weights: &[i32], taps: usize, inputs: &[i32], place: u
     ensures bound { unsigned_abs result ≤ taps * 2 ^ 62 }
 {
     let mut sum = 0;
-    for tap in 0..full_taps(weights, taps, inputs, place) {
+    for tap in 0..full_taps(weights, taps, inputs.len(), place) {
         sum += product(weights[tap], inputs[place + tap]);
     }
     sum

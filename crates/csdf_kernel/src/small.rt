@@ -172,7 +172,7 @@ pub(crate) fn small_products_at(weights: &[i32], taps: usize, inputs: &[i32], pl
     ensures { result ≡ convolution weights.now taps inputs.now place }
 {
     let mut sum = 0;
-    for tap in 0..full_taps(weights, taps, inputs, place) {
+    for tap in 0..full_taps(weights, taps, inputs.len(), place) {
         sum += small_product(weights[tap], inputs[place + tap]);
     }
     sum
