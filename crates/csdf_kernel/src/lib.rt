@@ -1,9 +1,9 @@
 //! Jobs and their values: what the kernel of an actor gives for the tokens that one firing read.
 #![tactic(auto)]
 
-ghost use Rattle.std.specs.Prelude.{◌≡◌, ◌≤◌, ◌*◌, [], length, sum, replicate, pos, All, IsOk, IfOk, OnOk, OnErr, IfErr};
+ghost use Rattle.std.specs.Prelude.{◌≡◌, ◌≤◌, [], length, sum, replicate, pos, All, IsOk, IfOk, OnOk, OnErr, IfErr};
 ghost use Rattle.csdf_model.specs.declared.parts.Kernel.TheVariants.{Sink};
-ghost use Rattle.csdf_kernel.specs.Value.{value_of, values_of, HasFilterInRange};
+ghost use Rattle.csdf_kernel.specs.Value.{value_of, HasFilterInRange};
 
 mod channels;
 mod filter;
@@ -16,8 +16,8 @@ mod small;
 pub use channels::push_same;
 use csdf_model::{Kernel, MAX_CHANNELS, MAX_TOKENS_PER_FIRING};
 pub use looping::eval_loop;
-use outputs::{outputs_into, values_into};
-pub use outputs::{Outputs, push_value};
+use outputs::outputs_into;
+pub use outputs::{Outputs, eval_block, push_value};
 use smallvec::SmallVec;
 use std::alloc::{AllocError, Global};
 use std::marker::Model;
@@ -127,32 +127,6 @@ pub fn eval_into(job: &Job, outputs: &mut Outputs) -> Result<(), AllocError>
         job.inputs.as_slice(),
         outputs,
     )
-}
-
-/// The kernel's values of a block of firings with the same counts, end to end, in the place of what
-/// the outputs hold. Each firing has the next `need` of the inputs, and its value is what `eval` gives
-/// for these. It allocates once at most, before the first firing, and not at all where the outputs
-/// have room for all values.
-///
-/// An error says that memory ran out; then the outputs hold what they held.
-pub fn eval_block(
-    kernel: &Kernel,
-    counts: &[u32],
-    need: usize,
-    firings: u32,
-    inputs: &[i32],
-    outputs: &mut Outputs,
-) -> Result<(), AllocError>
-    requires few_counts { length counts.now ≤ MAX_CHANNELS }
-    requires small_counts { All (λ count. count ≤ MAX_TOKENS_PER_FIRING) counts.now }
-    requires few_inputs { need ≤ 8192 }
-    requires filter_in_range { HasFilterInRange kernel.now }
-    requires whole { firings * need ≤ length inputs.now }
-    ensures values { OnOk result (outputs.new.items ≡ values_of kernel.now counts.now need firings inputs.now) }
-    ensures unchanged { OnErr result (outputs.new ≡ outputs.old) }
-    ensures room { firings * sum counts.now ≤ outputs.old.capacity → IsOk result }
-{
-    values_into(kernel, counts, need, firings, inputs, outputs)
 }
 
 /// Does a job. It allocates once at most, and not at all for 16 outputs or fewer. Where there is no

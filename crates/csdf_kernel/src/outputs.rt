@@ -195,11 +195,13 @@ fn push_values(
     }
 }
 
-/// The kernel's values of so many firings of the same counts, end to end, in the place of what the
-/// list holds. Each firing has the next `need` of the inputs.
+/// The kernel's values of a block of firings with the same counts, end to end, in the place of what
+/// the outputs hold. Each firing has the next `need` of the inputs, and its value is what `eval` gives
+/// for these. It allocates once at most, before the first firing, and not at all where the outputs
+/// have room for all values.
 ///
-/// An error says that memory ran out; then the list is as it was.
-pub(crate) fn values_into(
+/// An error says that memory ran out; then the outputs hold what they held.
+pub fn eval_block(
     kernel: &Kernel,
     counts: &[u32],
     need: usize,

@@ -8,7 +8,7 @@ use Rattle.std.proofs.lemmas.List.{length-take-le}
 use Rattle.csdf_kernel.proofs.ValueLemmas.{no_counts, one_sum, values_as_read, values_unwritten}
 use Rattle.std.proofs.lemmas.List.Sums.{sum_by-le}
 use Rattle.std.proofs.lemmas.Nat.{mul-le}
-use Rattle.csdf_kernel.proofs.outputs.values_into.Goals as goal
+use Rattle.csdf_kernel.proofs.outputs.eval_block.Goals as goal
 
 pub total_of-requires : goal.total_of-requires
 total_of-requires c = omega (arith, sum_by-le (λ x. x) 64 c.args.counts.now c.requires.small_counts, c.requires.few_counts)
