@@ -3,3 +3,4 @@ pub mod NumberLemmas
 pub mod ValueLemmas
 pub mod Examples
 pub mod LoopLemmas
+pub mod LightLemmas

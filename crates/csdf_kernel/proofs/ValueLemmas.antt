@@ -100,7 +100,7 @@ room_one n i at each most lt le = omega (arith, room_less each n i at most lt le
 
 -- ---- firings that write what they read
 
-places_are : (f : ℕ → ℤ) (n : ℕ) (xs : List ℤ) → length xs ≡ n → ((i : ℕ) → i < n → f i ≡ token_at xs i) → places f n ≡ xs
+pub places_are : (f : ℕ → ℤ) (n : ℕ) (xs : List ℤ) → length xs ≡ n → ((i : ℕ) → i < n → f i ≡ token_at xs i) → places f n ≡ xs
 unfolding places
 places_are f n xs long each = ext_get_or (pos 0) (places f n) xs (length_places f n ∙ sym long)
     (λ i lt. let within : i < n = omega (arith, lt, length_places f n) in get_or-map-range_with_len f 0 n i i (pos 0) within (omega arith) ∙ each i within)

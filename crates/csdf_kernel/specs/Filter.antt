@@ -1,7 +1,8 @@
 -- What the code keeps of a filter while it fires.
-use Rattle.std.specs.Prelude.{ℕ, ◌≡◌, ◌+◌, ◌<◌, ◌≤◌, ◌^◌, Bool, IsTrue, List, ℤ, length, unsigned_abs, ◌*ℤ◌}
+use Rattle.std.specs.Prelude.{ℕ, ◌≡◌, ◌+◌, ◌<◌, ◌≤◌, ◌^◌, Bool, IsTrue, List, ℤ, length, unsigned_abs, ◌*ℤ◌, pos, ◌⊎◌}
 use Rattle.csdf_model.specs.declared.parts.Kernel.{Kernel}
 use Rattle.csdf_model.specs.declared.parts.Kernel.TheVariants.{Source, Sink, Copy, Sum, Fir}
+use Rattle.csdf_model.specs.declared.limits.TheConstants.{MAX_SHIFT, MAX_WEIGHTS}
 use Rattle.csdf_kernel.specs.Value.{token_at}
 
 -- each of the first n weights is at most 2^27 in size, so that its product with a token is at most 2^58, and sixteen add up to 2^62 at most
@@ -17,10 +18,22 @@ pub record IsWindow (xs : List ℤ) (base : ℕ) (window : List ℤ) : Type 0 wh
   pub long : length window ≡ 32
   pub alike : (i : ℕ) → i < 32 → token_at window i ≡ token_at xs (base + i)
 
--- at most 16 taps, a shift of at most 31, and weights that are small where they are marked so
+-- so many of the taps have a weight, and find a token at this place of a firing that reads so many
+pub record AreTapsAt (weights : List ℤ) (taps need place have : ℕ) : Type 0 where
+  pub few : have ≤ taps
+  pub there : place + have ≤ need ⊎ have ≡ 0
+  pub all : have ≡ taps ⊎ length weights ≤ have ⊎ need ≤ place + have
+
+-- the first so many of the weights, and zeros after them
+pub record IsPadded (weights : List ℤ) (have : ℕ) (padded : List ℤ) : Type 0 where
+  pub long : length padded ≡ MAX_WEIGHTS
+  pub alike : (j : ℕ) → j < have → token_at padded j ≡ token_at weights j
+  pub zeros : (j : ℕ) → have ≤ j → token_at padded j ≡ pos 0
+
+-- taps and a shift within their limits, and weights that are small where they are marked so
 pub record IsInRange (weights : List ℤ) (taps shift : ℕ) (small : Bool) : Type 0 where
-  pub few_taps : taps ≤ 16
-  pub low_shift : shift ≤ 31
+  pub few_taps : taps ≤ MAX_WEIGHTS
+  pub low_shift : shift ≤ MAX_SHIFT
   pub are_small : IsTrue small → AreSmall weights taps
 
 -- sixteen taps with small weights, each of which has a token from this place on

@@ -1,3 +1,4 @@
 pub mod Filter
 pub mod Value
+pub mod Light
 pub mod Loop

@@ -5,6 +5,7 @@ use Rattle.std.specs.Prelude.{ℕ, zero, suc, ◌≡◌, ◌+◌, ◌%◌, ◌^�
 use Rattle.std.specs.Prelude.{ℤ, pos, ◌+ℤ◌, ◌*ℤ◌}
 use Rattle.std.specs.List.{range_with_len}
 use Rattle.std.specs.Int.{w32, saturate_signed, int_div_euclid}
+use Rattle.csdf_model.specs.declared.limits.TheConstants.{MAX_SHIFT, MAX_WEIGHTS}
 use Rattle.csdf_model.specs.declared.parts.Kernel.{Kernel}
 use Rattle.csdf_model.specs.declared.parts.Kernel.TheVariants.{Source, Sink, Copy, Sum, Fir}
 
@@ -57,10 +58,10 @@ values_of kernel counts need (suc n) xs = value_of kernel counts (take need xs) 
 abbrev pub GivesAsRead : Kernel → List ℕ → ℕ → Type 0
 GivesAsRead kernel counts need = (xs : List ℤ) → length xs ≡ need → value_of kernel counts xs ≡ xs
 
--- a filter has at most 16 taps, and shifts by at most 31
+-- a filter has its taps and its shift within their limits
 abbrev pub HasFilterInRange : Kernel → Type 0
 HasFilterInRange Source = Unit {0}
 HasFilterInRange Sink = Unit {0}
 HasFilterInRange Copy = Unit {0}
 HasFilterInRange Sum = Unit {0}
-HasFilterInRange (Fir weights taps shift) = (taps ≤ 16) × (shift ≤ 31)
+HasFilterInRange (Fir weights taps shift) = (taps ≤ MAX_WEIGHTS) × (shift ≤ MAX_SHIFT)

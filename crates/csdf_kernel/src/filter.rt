@@ -1,15 +1,15 @@
 //! A filter, told token by token. A place of its inputs is called whole where there are sixteen taps,
 //! all with small weights, and each finds a token.
 ghost use Rattle.std.specs.Prelude.{◌≡◌, ◌<◌, ◌≤◌, ◌+◌, ℕ, IsTrue, length, unsigned_abs};
-ghost use Rattle.csdf_kernel.specs.Filter.{IsInRange, IsNarrow, IsWhole, IsWindow};
+ghost use Rattle.csdf_kernel.specs.Filter.{AreNarrow, AreTapsAt, IsInRange, IsNarrow, IsPadded, IsWhole, IsWindow};
 ghost use Rattle.csdf_kernel.specs.Value.{filter_token, places, token_at};
 
-use crate::numbers::{clamped, products_at, shifted};
+use crate::numbers::{clamped, full_taps, products_at, shifted};
 use crate::small::{
     are_narrow, eight_narrow_tokens_at, greatest_size, is_small, narrow_shifted,
-    sixteen_narrow_products_at, sixteen_products_at, small_clamped, small_products_at,
-    small_shifted,
+    sixteen_narrow_products_at, small_clamped, small_products_at, small_shifted, small_sum_at,
 };
+use csdf_model::{MAX_SHIFT, MAX_WEIGHTS};
 
 /// A filter: the first `taps` weights count, and each sum of products is divided by two to the power
 /// of `shift`.
@@ -27,8 +27,8 @@ pub(crate) struct Filter<'a> {
 impl<'a> Filter<'a> {
     /// The filter of these weights, which are gone through once.
     pub(crate) fn new(weights: &'a [i32], taps: u32, shift: u32) -> Filter<'a>
-        requires taps { taps ≤ 16 }
-        requires shift { shift ≤ 31 }
+        requires taps { taps ≤ MAX_WEIGHTS }
+        requires shift { shift ≤ MAX_SHIFT }
         ensures weights { result.weights.now ≡ weights.now }
         ensures taps { result.taps ≡ taps }
         ensures shift { result.shift ≡ shift }
@@ -66,15 +66,44 @@ impl<'a> Filter<'a> {
         }
     }
 
+    /// Whether each product of a weight with one of these tokens is narrow.
+    pub(crate) fn has_narrow_products(&self, inputs: &[i32]) -> bool
+        requires { (j : ℕ) → unsigned_abs (token_at self.now.weights.now j) ≤ self.now.greatest }
+        ensures { IsTrue result → AreNarrow self.now.weights.now inputs.now }
+    {
+        are_narrow(self.weights, self.greatest, inputs)
+    }
+
     /// Whether there are sixteen taps, and each product of a weight with one of these tokens is narrow.
     pub(crate) fn is_narrow(&self, inputs: &[i32]) -> bool
         requires { (j : ℕ) → unsigned_abs (token_at self.now.weights.now j) ≤ self.now.greatest }
         ensures { IsTrue result → IsNarrow self.now.weights.now self.now.taps self.now.small inputs.now }
     {
         if self.is_sixteen() {
-            return are_narrow(self.weights, self.greatest, inputs);
+            return self.has_narrow_products(inputs);
         }
         false
+    }
+
+    /// How many taps have a weight, and find a token at this place of a firing that reads so many.
+    pub(crate) fn taps_at(&self, need: usize, place: usize) -> usize
+        ensures taps { AreTapsAt self.now.weights.now self.now.taps need place result }
+        ensures weights { result ≤ length self.now.weights.now }
+    {
+        full_taps(self.weights, self.taps as usize, need, place)
+    }
+
+    /// The first so many weights, and zeros after them.
+    pub(crate) fn padded(&self, have: usize) -> [i32; MAX_WEIGHTS]
+        requires few { have ≤ MAX_WEIGHTS }
+        requires there { have ≤ length self.now.weights.now }
+        ensures { IsPadded self.now.weights.now have result }
+    {
+        let mut padded = [0; MAX_WEIGHTS];
+        for tap in 0..have {
+            padded[tap] = self.weights[tap];
+        }
+        padded
     }
 
     /// The token at a whole place, where the products are narrow.
@@ -126,7 +155,7 @@ impl<'a> Filter<'a> {
         requires whole { IsWhole self.now.weights.now self.now.taps self.now.small inputs.now place }
         ensures { result ≡ filter_token self.now.weights.now self.now.taps self.now.shift inputs.now place }
     {
-        let sum = sixteen_products_at(self.weights, inputs, place);
+        let sum = small_sum_at::<16>(self.weights, inputs, place);
         small_clamped(small_shifted(sum, self.shift))
     }
 

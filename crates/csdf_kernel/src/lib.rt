@@ -1,22 +1,23 @@
 //! Jobs and their values: what the kernel of an actor gives for the tokens that one firing read.
 #![tactic(auto)]
 
-ghost use Rattle.std.specs.Prelude.{◌≡◌, ◌≤◌, ◌*◌, [], length, sum, replicate, pos, All, IsOk, IfOk, OnOk, OnErr, IfErr};
+ghost use Rattle.std.specs.Prelude.{◌≡◌, ◌≤◌, [], length, sum, replicate, pos, All, IsOk, IfOk, OnOk, OnErr, IfErr};
 ghost use Rattle.csdf_model.specs.declared.parts.Kernel.TheVariants.{Sink};
-ghost use Rattle.csdf_kernel.specs.Value.{value_of, values_of, HasFilterInRange};
+ghost use Rattle.csdf_kernel.specs.Value.{value_of, HasFilterInRange};
 
 mod channels;
 mod filter;
+mod light;
 mod looping;
 mod numbers;
 mod outputs;
 mod small;
 
 pub use channels::push_same;
-use csdf_model::Kernel;
+use csdf_model::{Kernel, MAX_CHANNELS, MAX_TOKENS_PER_FIRING};
 pub use looping::eval_loop;
-use outputs::{outputs_into, values_into};
-pub use outputs::{Outputs, push_value};
+use outputs::outputs_into;
+pub use outputs::{Outputs, eval_block, push_value};
 use smallvec::SmallVec;
 use std::alloc::{AllocError, Global};
 use std::marker::Model;
@@ -108,8 +109,8 @@ impl Done {
 /// An error says that memory ran out; then the outputs hold what they held.
 #[tactic(auto, using(crate::proofs::ValueLemmas::length_of_value, crate::proofs::ValueLemmas::value_of_none))]
 pub fn eval_into(job: &Job, outputs: &mut Outputs) -> Result<(), AllocError>
-    requires few_counts { length job.now.counts.items ≤ 128 }
-    requires small_counts { All (λ count. count ≤ 64) job.now.counts.items }
+    requires few_counts { length job.now.counts.items ≤ MAX_CHANNELS }
+    requires small_counts { All (λ count. count ≤ MAX_TOKENS_PER_FIRING) job.now.counts.items }
     requires few_inputs { length job.now.inputs.items ≤ 8192 }
     requires filter_in_range { HasFilterInRange job.now.kernel }
     ensures value { OnOk result
@@ -128,37 +129,11 @@ pub fn eval_into(job: &Job, outputs: &mut Outputs) -> Result<(), AllocError>
     )
 }
 
-/// The kernel's values of a block of firings with the same counts, end to end, in the place of what
-/// the outputs hold. Each firing has the next `need` of the inputs, and its value is what `eval` gives
-/// for these. It allocates once at most, before the first firing, and not at all where the outputs
-/// have room for all values.
-///
-/// An error says that memory ran out; then the outputs hold what they held.
-pub fn eval_block(
-    kernel: &Kernel,
-    counts: &[u32],
-    need: usize,
-    firings: u32,
-    inputs: &[i32],
-    outputs: &mut Outputs,
-) -> Result<(), AllocError>
-    requires few_counts { length counts.now ≤ 128 }
-    requires small_counts { All (λ count. count ≤ 64) counts.now }
-    requires few_inputs { need ≤ 8192 }
-    requires filter_in_range { HasFilterInRange kernel.now }
-    requires whole { firings * need ≤ length inputs.now }
-    ensures values { OnOk result (outputs.new.items ≡ values_of kernel.now counts.now need firings inputs.now) }
-    ensures unchanged { OnErr result (outputs.new ≡ outputs.old) }
-    ensures room { firings * sum counts.now ≤ outputs.old.capacity → IsOk result }
-{
-    values_into(kernel, counts, need, firings, inputs, outputs)
-}
-
 /// Does a job. It allocates once at most, and not at all for 16 outputs or fewer. Where there is no
 /// memory for the outputs it hands the job back.
 pub fn eval(alloc: Global, job: Job) -> Result<Done, (Job, AllocError)>
-    requires few_counts { length job.counts.items ≤ 128 }
-    requires small_counts { All (λ count. count ≤ 64) job.counts.items }
+    requires few_counts { length job.counts.items ≤ MAX_CHANNELS }
+    requires small_counts { All (λ count. count ≤ MAX_TOKENS_PER_FIRING) job.counts.items }
     requires few_inputs { length job.inputs.items ≤ 8192 }
     requires filter_in_range { HasFilterInRange job.kernel }
 

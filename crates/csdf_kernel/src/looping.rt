@@ -5,7 +5,7 @@ ghost use Rattle.csdf_kernel.specs.Loop.{beside, latest_of, loop_values};
 ghost use Rattle.csdf_kernel.specs.Value.{HasFilterInRange};
 
 use crate::outputs::{Outputs, filter_of, make_room, push_value_by, total_of};
-use csdf_model::Kernel;
+use csdf_model::{Kernel, MAX_CHANNELS, MAX_TOKENS_PER_FIRING};
 use std::alloc::AllocError;
 
 /// Lays the state and the other tokens beside each other.
@@ -52,8 +52,8 @@ pub fn eval_loop(
     window: &mut [i32],
     outputs: &mut Outputs,
 ) -> Result<(), AllocError>
-    requires few_counts { length counts.now ≤ 128 }
-    requires small_counts { All (λ count. count ≤ 64) counts.now }
+    requires few_counts { length counts.now ≤ MAX_CHANNELS }
+    requires small_counts { All (λ count. count ≤ MAX_TOKENS_PER_FIRING) counts.now }
     requires few_inputs { length window.old ≤ 8192 }
     requires filter_in_range { HasFilterInRange kernel.now }
     requires window { length state.now ≤ length window.old }

@@ -2,6 +2,8 @@
 ghost use Rattle.std.specs.Prelude.{◌≡◌, ◌⊎◌, ◌+◌, ◌*◌, ◌^◌, ◌≤◌, length, pos, ◌+ℤ◌, ◌*ℤ◌, ◌≤ℤ◌, ◌<ℤ◌, unsigned_abs};
 ghost use Rattle.csdf_kernel.specs.Value.{token_at, total, clamp, floor, convolution};
 
+use csdf_model::{MAX_SHIFT, MAX_WEIGHTS};
+
 /// Token `place` of the inputs, or 0 past their end.
 pub(crate) fn token(inputs: &[i32], place: usize) -> i32
     ensures { result ≡ token_at inputs.now place }
@@ -40,26 +42,25 @@ fn product(a: i32, b: i32) -> i128
     i128::from(i64::from(a) * i64::from(b))
 }
 
-/// How many of the taps have a weight and a token from `place` on.
-pub(crate) fn full_taps(weights: &[i32], taps: usize, inputs: &[i32], place: usize) -> usize
+/// How many of the taps have a weight, and a token from `place` on among so many.
+pub(crate) fn full_taps(weights: &[i32], taps: usize, tokens: usize, place: usize) -> usize
     ensures taps { result ≤ taps }
     ensures weights { result ≤ length weights.now }
-    ensures tokens { result + place ≤ length inputs.now ⊎ result ≡ 0 }
-    ensures all { result ≡ taps ⊎ length weights.now ≤ result ⊎ length inputs.now ≤ place + result }
+    ensures tokens { place + result ≤ tokens ⊎ result ≡ 0 }
+    ensures all { result ≡ taps ⊎ length weights.now ≤ result ⊎ tokens ≤ place + result }
 {
-    taps.min(weights.len())
-        .min(inputs.len().saturating_sub(place))
+    taps.min(weights.len()).min(tokens.saturating_sub(place))
 }
 
 /// The sum of the products of the first `taps` weights with the tokens from `place` on.
 pub(crate) fn products_at(weights: &[i32], taps: usize, inputs: &[i32], place: usize) -> i128
-    requires taps { taps ≤ 16 }
+    requires taps { taps ≤ MAX_WEIGHTS }
     requires place { place ≤ 8192 }
     ensures value { result ≡ convolution weights.now taps inputs.now place }
     ensures bound { unsigned_abs result ≤ taps * 2 ^ 62 }
 {
     let mut sum = 0;
-    for tap in 0..full_taps(weights, taps, inputs, place) {
+    for tap in 0..full_taps(weights, taps, inputs.len(), place) {
         sum += product(weights[tap], inputs[place + tap]);
     }
     sum
@@ -68,7 +69,7 @@ pub(crate) fn products_at(weights: &[i32], taps: usize, inputs: &[i32], place: u
 /// A number divided by two to the power of `shift`, rounded down.
 #[tactic(auto, using(crate::proofs::NumberLemmas::shr_is))]
 pub(crate) fn shifted(value: i128, shift: u32) -> i128
-    requires { shift ≤ 31 }
+    requires { shift ≤ MAX_SHIFT }
     ensures value { result ≡ floor value (2 ^ shift) }
 
     // Times that power it is at most the value, and one more would be too great.

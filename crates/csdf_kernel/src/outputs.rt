@@ -6,8 +6,9 @@ ghost use Rattle.csdf_kernel.specs.Value.{token_at, value_of, values_of, GivesAs
 
 use crate::channels::{push_copies, push_filtered, push_same, push_source};
 use crate::filter::Filter;
+use crate::light::{are_light, light_values_into};
 use crate::numbers::{clamped, sum_of};
-use csdf_model::Kernel;
+use csdf_model::{Kernel, MAX_CHANNELS, MAX_TOKENS_PER_FIRING};
 use smallvec::SmallVec;
 use std::alloc::AllocError;
 
@@ -50,8 +51,8 @@ pub(crate) fn push_value_by(
     counts: &[u32],
     inputs: &[i32],
 )
-    requires few_counts { length counts.now ≤ 128 }
-    requires small_counts { All (λ count. count ≤ 64) counts.now }
+    requires few_counts { length counts.now ≤ MAX_CHANNELS }
+    requires small_counts { All (λ count. count ≤ MAX_TOKENS_PER_FIRING) counts.now }
     requires few_inputs { length inputs.now ≤ 8192 }
     requires filter { IsFilterOf kernel.now filter.now.weights.now filter.now.taps filter.now.shift }
     requires in_range { IsInRange filter.now.weights.now filter.now.taps filter.now.shift filter.now.small }
@@ -72,8 +73,8 @@ pub(crate) fn push_value_by(
 
 /// The kernel's value of one firing, at the end of a list that has room for it.
 pub fn push_value(outputs: &mut Outputs, kernel: &Kernel, counts: &[u32], inputs: &[i32])
-    requires few_counts { length counts.now ≤ 128 }
-    requires small_counts { All (λ count. count ≤ 64) counts.now }
+    requires few_counts { length counts.now ≤ MAX_CHANNELS }
+    requires small_counts { All (λ count. count ≤ MAX_TOKENS_PER_FIRING) counts.now }
     requires few_inputs { length inputs.now ≤ 8192 }
     requires filter_in_range { HasFilterInRange kernel.now }
     requires room { HasRoomFor outputs.old (sum counts.now) }
@@ -109,8 +110,8 @@ pub(crate) fn outputs_into(
     inputs: &[i32],
     outputs: &mut Outputs,
 ) -> Result<(), AllocError>
-    requires few_counts { length counts.now ≤ 128 }
-    requires small_counts { All (λ count. count ≤ 64) counts.now }
+    requires few_counts { length counts.now ≤ MAX_CHANNELS }
+    requires small_counts { All (λ count. count ≤ MAX_TOKENS_PER_FIRING) counts.now }
     requires few_inputs { length inputs.now ≤ 8192 }
     requires filter_in_range { HasFilterInRange kernel.now }
     ensures value { OnOk result (outputs.new.items ≡ value_of kernel.now counts.now inputs.now) }
@@ -158,32 +159,34 @@ fn push_all(outputs: &mut Outputs, tokens: &[i32])
 }
 
 /// The kernel's values of so many firings of the same counts, end to end, at the end of a list that has
-/// room for them. Each firing has the next `need` of the inputs. A filter's weights, and whether its
-/// products are narrow, are looked at once for all of them.
+/// room for them. Each firing has the next `need` of the inputs. Whether a filter's products are narrow is
+/// looked at once for all of them.
 fn push_values(
     outputs: &mut Outputs,
     kernel: &Kernel,
+    filter: &Filter<'_>,
     counts: &[u32],
     need: usize,
     firings: u32,
     inputs: &[i32],
 )
-    requires few_counts { length counts.now ≤ 128 }
-    requires small_counts { All (λ count. count ≤ 64) counts.now }
+    requires few_counts { length counts.now ≤ MAX_CHANNELS }
+    requires small_counts { All (λ count. count ≤ MAX_TOKENS_PER_FIRING) counts.now }
     requires few_inputs { need ≤ 8192 }
-    requires filter_in_range { HasFilterInRange kernel.now }
+    requires filter { IsFilterOf kernel.now filter.now.weights.now filter.now.taps filter.now.shift }
+    requires in_range { IsInRange filter.now.weights.now filter.now.taps filter.now.shift filter.now.small }
+    requires greatest { (j : ℕ) → unsigned_abs (token_at filter.now.weights.now j) ≤ filter.now.greatest }
     requires whole { firings * need ≤ length inputs.now }
     requires room { HasRoomFor outputs.old (firings * sum counts.now) }
     ensures { outputs.new.items ≡ outputs.old.items ++ values_of kernel.now counts.now need firings inputs.now }
 {
-    let filter = filter_of(kernel);
     let narrow = filter.is_narrow(inputs);
     let mut at = 0;
     for _firing in 0..firings {
         push_value_by(
             outputs,
             kernel,
-            &filter,
+            filter,
             narrow,
             counts,
             &inputs[at..at + need],
@@ -192,11 +195,13 @@ fn push_values(
     }
 }
 
-/// The kernel's values of so many firings of the same counts, end to end, in the place of what the
-/// list holds. Each firing has the next `need` of the inputs.
+/// The kernel's values of a block of firings with the same counts, end to end, in the place of what
+/// the outputs hold. Each firing has the next `need` of the inputs, and its value is what `eval` gives
+/// for these. It allocates once at most, before the first firing, and not at all where the outputs
+/// have room for all values.
 ///
-/// An error says that memory ran out; then the list is as it was.
-pub(crate) fn values_into(
+/// An error says that memory ran out; then the outputs hold what they held.
+pub fn eval_block(
     kernel: &Kernel,
     counts: &[u32],
     need: usize,
@@ -204,8 +209,8 @@ pub(crate) fn values_into(
     inputs: &[i32],
     outputs: &mut Outputs,
 ) -> Result<(), AllocError>
-    requires few_counts { length counts.now ≤ 128 }
-    requires small_counts { All (λ count. count ≤ 64) counts.now }
+    requires few_counts { length counts.now ≤ MAX_CHANNELS }
+    requires small_counts { All (λ count. count ≤ MAX_TOKENS_PER_FIRING) counts.now }
     requires few_inputs { need ≤ 8192 }
     requires filter_in_range { HasFilterInRange kernel.now }
     requires whole { firings * need ≤ length inputs.now }
@@ -213,6 +218,10 @@ pub(crate) fn values_into(
     ensures unchanged { OnErr result (outputs.new ≡ outputs.old) }
     ensures room { firings * sum counts.now ≤ outputs.old.capacity → IsOk result }
 {
+    let filter = filter_of(kernel);
+    if are_light(kernel, &filter, counts, firings) {
+        return light_values_into(&filter, counts[0], need, firings, inputs, outputs);
+    }
     make_room(outputs, firings as usize * total_of(counts))?;
     if counts.is_empty() {
         return Ok(());
@@ -220,7 +229,7 @@ pub(crate) fn values_into(
     if gives_as_read(kernel, counts, need) {
         push_all(outputs, &inputs[..firings as usize * need]);
     } else {
-        push_values(outputs, kernel, counts, need, firings, inputs);
+        push_values(outputs, kernel, &filter, counts, need, firings, inputs);
     }
     Ok(())
 }

@@ -4,6 +4,7 @@ ghost use Rattle.csdf_kernel.specs.Filter.{AreNarrow, AreSmall, IsWindow};
 ghost use Rattle.csdf_kernel.specs.Value.{clamp, convolution, filter_token, floor, places, token_at};
 
 use crate::numbers::full_taps;
+use csdf_model::{MAX_SHIFT, MAX_WEIGHTS};
 
 /// The greatest size of a small weight: sixteen products with tokens of 32 bits stay within 2^62.
 const GREATEST_SMALL: u32 = 1 << 27;
@@ -48,24 +49,24 @@ fn narrow_product(weight: i32, token: i32) -> i32
     weight * token
 }
 
-/// The sum of the products of sixteen weights with the tokens from `place` on, which are all there, where
-/// each product is narrow.
+/// The sum of the products of `N` weights with the tokens from `place` on, which are all there, where each
+/// product is narrow. Its loop has a constant length, so that the compiler makes vectors of it.
 #[inline]
-fn narrow_sum_at(weights: &[i32], inputs: &[i32], place: usize) -> i32
-    requires weights { 16 ≤ length weights.now }
-    requires tokens { place + 16 ≤ length inputs.now }
+pub(crate) fn narrow_sum_at<const N: usize>(weights: &[i32], inputs: &[i32], place: usize) -> i32
+    requires few { N ≤ MAX_WEIGHTS }
+    requires weights { N ≤ length weights.now }
+    requires tokens { place + N ≤ length inputs.now }
     requires narrow { AreNarrow weights.now inputs.now }
-    ensures { result ≡ convolution weights.now 16 inputs.now place }
+    ensures { result ≡ convolution weights.now N inputs.now place }
 {
     let mut sum = 0;
-    for tap in 0..16 {
+    for tap in 0..N {
         sum += narrow_product(weights[tap], inputs[place + tap]);
     }
     sum
 }
 
-/// The same sum. Its loop has a constant length, and it stands by itself, so that the compiler makes
-/// vectors of it.
+/// The same sum for sixteen weights. It stands by itself, so that the compiler makes vectors of it.
 #[inline(never)]
 pub(crate) fn sixteen_narrow_products_at(weights: &[i32], inputs: &[i32], place: usize) -> i32
     requires weights { 16 ≤ length weights.now }
@@ -73,13 +74,13 @@ pub(crate) fn sixteen_narrow_products_at(weights: &[i32], inputs: &[i32], place:
     requires narrow { AreNarrow weights.now inputs.now }
     ensures { result ≡ convolution weights.now 16 inputs.now place }
 {
-    narrow_sum_at(weights, inputs, place)
+    narrow_sum_at::<16>(weights, inputs, place)
 }
 
 /// A narrow sum divided by two to the power of `shift`, rounded down: no size grows, so nothing is clamped.
 #[tactic(auto, using(crate::proofs::NumberLemmas::shr_clamped))]
 pub(crate) fn narrow_shifted(sum: i32, shift: u32) -> i32
-    requires { shift ≤ 31 }
+    requires { shift ≤ MAX_SHIFT }
     ensures { result ≡ clamp (floor sum (2 ^ shift)) }
 {
     sum >> shift
@@ -92,10 +93,10 @@ fn narrow_token_at(weights: &[i32], inputs: &[i32], place: usize, shift: u32) ->
     requires weights { 16 ≤ length weights.now }
     requires tokens { place + 16 ≤ length inputs.now }
     requires narrow { AreNarrow weights.now inputs.now }
-    requires shift { shift ≤ 31 }
+    requires shift { shift ≤ MAX_SHIFT }
     ensures { result ≡ filter_token weights.now 16 shift inputs.now place }
 {
-    narrow_shifted(narrow_sum_at(weights, inputs, place), shift)
+    narrow_shifted(narrow_sum_at::<16>(weights, inputs, place), shift)
 }
 
 /// The tokens at eight places in a row, whose taps all find one, where each product is narrow. It stands by
@@ -110,7 +111,7 @@ pub(crate) fn eight_narrow_tokens_at(
     requires weights { 16 ≤ length weights.now }
     requires tokens { place + 23 ≤ length inputs.now }
     requires narrow { AreNarrow weights.now inputs.now }
-    requires shift { shift ≤ 31 }
+    requires shift { shift ≤ MAX_SHIFT }
     ensures { result ≡ places (λ i. filter_token weights.now 16 shift inputs.now (place + i)) 8 }
 {
     [
@@ -147,16 +148,17 @@ fn small_product(weight: i32, token: i32) -> i64
     i64::from(weight) * i64::from(token)
 }
 
-/// The sum of the products of sixteen weights with the tokens from `place` on, which are all there.
+/// The sum of the products of `N` small weights with the tokens from `place` on, which are all there.
 /// Its loop has a constant length, so that the compiler unrolls it.
-pub(crate) fn sixteen_products_at(weights: &[i32], inputs: &[i32], place: usize) -> i64
-    requires weights { 16 ≤ length weights.now }
-    requires tokens { place + 16 ≤ length inputs.now }
-    requires small { AreSmall weights.now 16 }
-    ensures { result ≡ convolution weights.now 16 inputs.now place }
+pub(crate) fn small_sum_at<const N: usize>(weights: &[i32], inputs: &[i32], place: usize) -> i64
+    requires few { N ≤ MAX_WEIGHTS }
+    requires weights { N ≤ length weights.now }
+    requires tokens { place + N ≤ length inputs.now }
+    requires small { AreSmall weights.now N }
+    ensures { result ≡ convolution weights.now N inputs.now place }
 {
     let mut sum = 0;
-    for next in 0..16 {
+    for next in 0..N {
         sum += small_product(weights[next], inputs[place + next]);
     }
     sum
@@ -164,13 +166,13 @@ pub(crate) fn sixteen_products_at(weights: &[i32], inputs: &[i32], place: usize)
 
 /// The sum of the products of the first `taps` weights with the tokens from `place` on.
 pub(crate) fn small_products_at(weights: &[i32], taps: usize, inputs: &[i32], place: usize) -> i64
-    requires taps { taps ≤ 16 }
+    requires taps { taps ≤ MAX_WEIGHTS }
     requires place { place ≤ 8192 }
     requires small { AreSmall weights.now taps }
     ensures { result ≡ convolution weights.now taps inputs.now place }
 {
     let mut sum = 0;
-    for tap in 0..full_taps(weights, taps, inputs, place) {
+    for tap in 0..full_taps(weights, taps, inputs.len(), place) {
         sum += small_product(weights[tap], inputs[place + tap]);
     }
     sum
@@ -179,7 +181,7 @@ pub(crate) fn small_products_at(weights: &[i32], taps: usize, inputs: &[i32], pl
 /// A sum divided by two to the power of `shift`, rounded down.
 #[tactic(auto, using(crate::proofs::NumberLemmas::shr_is))]
 pub(crate) fn small_shifted(sum: i64, shift: u32) -> i64
-    requires { shift ≤ 31 }
+    requires { shift ≤ MAX_SHIFT }
     ensures { result ≡ floor sum (2 ^ shift) }
 {
     sum >> shift

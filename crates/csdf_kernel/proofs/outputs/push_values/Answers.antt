@@ -23,11 +23,11 @@ loop-firing-preserved c =
 
 pub push_value_by-requires-clause-narrow : goal.push_value_by-requires-clause-narrow
 push_value_by-requires-clause-narrow c = λ yes.
-    let all : IsNarrow c.filter_of-filter.result.weights.now c.filter_of-filter.result.taps c.filter_of-filter.result.small c.args.inputs.now =
+    let all : IsNarrow c.args.filter.now.weights.now c.args.filter.now.taps c.args.filter.now.small c.args.inputs.now =
     c.is_narrow-narrow.ensures yes in
     record {
       marked = all.marked;
       sixteen = all.sixteen;
       weighted = all.weighted;
-      narrow = narrow_part c.filter_of-filter.result.weights.now c.args.inputs.now c.loop-firing.at (c.loop-firing.at + c.args.need) all.narrow;
+      narrow = narrow_part c.args.filter.now.weights.now c.args.inputs.now c.loop-firing.at (c.loop-firing.at + c.args.need) all.narrow;
     }

@@ -3,5 +3,5 @@ use Rattle.csdf_kernel.specs.Value.{convolution}
 use Rattle.csdf_kernel.proofs.small.narrow_sum_at.Given as goal
 
 abbrev pub invariant-loop-tap : goal.invariant-loop-tap
-invariant-loop-tap l =
+invariant-loop-tap g l =
     (l.sum ≡ convolution l.weights l.tap l.inputs l.place) × (unsigned_abs l.sum ≤ l.tap * 2 ^ 26)

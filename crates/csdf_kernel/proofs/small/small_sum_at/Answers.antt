@@ -1,10 +1,10 @@
 use Rattle.std.proofs.Common.{arith, sym}
 use Rattle.std.proofs.lemmas.Int.{ints, to_z-of_z}
 use Rattle.csdf_kernel.proofs.NumberLemmas.{convolution_none, convolution_more}
-use Rattle.csdf_kernel.proofs.small.sixteen_products_at.Goals as goal
+use Rattle.csdf_kernel.proofs.small.small_sum_at.Goals as goal
 
 pub loop-next-init : goal.loop-next-init
-loop-next-init c = (sym (convolution_none _ _ _), omega arith)
+loop-next-init g c = (sym (convolution_none _ _ _), omega arith)
 
 pub loop-next-preserved : goal.loop-next-preserved
-loop-next-preserved c = (grind (arith, ints, to_z-of_z, convolution_more), omega (arith, ints))
+loop-next-preserved g c = (grind (arith, ints, to_z-of_z, convolution_more), omega (arith, ints))

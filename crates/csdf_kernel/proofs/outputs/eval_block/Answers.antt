@@ -1,10 +1,14 @@
-use Rattle.std.proofs.Common.{◌*◌, ◌++◌, take, ap, refl, subst, sym, ◌∙◌, arith}
+use Rattle.std.proofs.Common.{◌≡◌, ◌≤◌, ◌*◌, ◌∷◌, ◌++◌, [], ℕ, List, slice_index, take, ap, refl, subst, sym, ◌∙◌, arith, ℤ}
+use Rattle.std.specs.Prelude.{OnOk}
+use Rattle.csdf_model.specs.declared.parts.Kernel.{Kernel}
+use Rattle.csdf_model.specs.declared.parts.Kernel.TheVariants.{Fir}
+use Rattle.csdf_kernel.specs.Value.{values_of}
 use Rattle.smallvec.specs.SmallVec.{HasRoomFor}
 use Rattle.std.proofs.lemmas.List.{length-take-le}
-use Rattle.csdf_kernel.proofs.ValueLemmas.{no_counts, values_as_read, values_unwritten}
+use Rattle.csdf_kernel.proofs.ValueLemmas.{no_counts, one_sum, values_as_read, values_unwritten}
 use Rattle.std.proofs.lemmas.List.Sums.{sum_by-le}
 use Rattle.std.proofs.lemmas.Nat.{mul-le}
-use Rattle.csdf_kernel.proofs.outputs.values_into.Goals as goal
+use Rattle.csdf_kernel.proofs.outputs.eval_block.Goals as goal
 
 pub total_of-requires : goal.total_of-requires
 total_of-requires c = omega (arith, sum_by-le (λ x. x) 64 c.args.counts.now c.requires.small_counts, c.requires.few_counts)
@@ -35,3 +39,18 @@ pub returns-then-gives_as_read-clause-values : goal.returns-then-gives_as_read-c
 returns-then-gives_as_read-clause-values c =
     c.push_all.ensures ∙ ap (λ xs. xs ++ take (c.args.firings * c.args.need) c.args.inputs.now) c.in_ok-make_room.ensures.items
     ∙ sym (values_as_read c.args.kernel.now c.args.counts.now c.args.need c.args.firings c.args.inputs.now (c.if-gives_as_read.ensures.as_read refl) c.requires.whole)
+
+pub returns-then-are_light-clause-values : goal.returns-then-are_light-clause-values
+returns-then-are_light-clause-values c =
+    let result = c.light_values_into.result in
+    let values : List ℤ = c.light_values_into.new.outputs.items in
+    let filter : Kernel = Fir c.filter_of-filter.result.weights.now c.filter_of-filter.result.taps c.filter_of-filter.result.shift in
+    let alone : List ℕ = slice_index c.args.counts.now 0 ∷ [] in
+    subst (λ (k : Kernel). OnOk result (values ≡ values_of k c.args.counts.now c.args.need c.args.firings c.args.inputs.now)) (sym (c.if-are_light.ensures.kernel refl))
+    (subst (λ (cs : List ℕ). OnOk result (values ≡ values_of filter cs c.args.need c.args.firings c.args.inputs.now)) (sym (c.if-are_light.ensures.alone refl))
+    c.light_values_into.ensures.values)
+
+pub returns-then-are_light-clause-room : goal.returns-then-are_light-clause-room
+returns-then-are_light-clause-room c enough =
+    let one = one_sum c.args.counts.now (slice_index c.args.counts.now 0) (c.if-are_light.ensures.alone refl) in
+    c.light_values_into.ensures.room (subst (λ (k : ℕ). c.args.firings * k ≤ c.args.outputs.now.capacity) one enough)
