@@ -10,15 +10,16 @@ use Rattle.std.proofs.lemmas.Option.{slice_get_within}
 use Rattle.csdf_model.specs.Graph.{Actor, Channel, Graph, phases_of}
 use Rattle.csdf_model.specs.Rates.{produced, consumption, total}
 use Rattle.csdf_model.proofs.RateLemmas.{total_cycles}
-use Rattle.csdf_model.specs.WellFormed.{IsChannel, IsCapacity}
+use Rattle.csdf_model.specs.WellFormed.{IsChannel, IsCapacity, IsWellFormed}
 use Rattle.csdf_model.proofs.CapacityLemmas.{bare, uncapped, well_formed_alike, is_capped, get_at}
 use Rattle.csdf_analysis.specs.declared.fault.AcceptFault.{AcceptFault}
 use Rattle.csdf_analysis.specs.declared.fault.AcceptFault.TheVariants as fault
 use Rattle.csdf_analysis.specs.Repetition.{IsBalanced, IsLeastRepetition, AreFirings, IsRepetition, full_capacity, HaveRoom}
-use Rattle.csdf_analysis.specs.Period.{held, held_after, CanFire, IsSchedule, fired, no_firings, CompletesPeriod}
+use Rattle.csdf_analysis.specs.Period.{HoldInitial, held, held_after, CanFire, IsSchedule, fired, no_firings, CompletesPeriod}
 use Rattle.csdf_analysis.specs.Capacities.{Agrees, AreLeastCapacities, IsTooTight, full_capacities}
 use Rattle.csdf_analysis.specs.Acceptance.{Accepted, IsAccepted, IsNotAccepted}
 use Rattle.csdf_analysis.specs.Laws.{IsWithinAll}
+use Rattle.csdf_analysis.specs.declared.room.Refused.{Refused}
 use Rattle.csdf_analysis.specs.declared.room.Room.TheVariants as room
 use Rattle.csdf_analysis.specs.Room.{IsAutoRoom, IsWithRoom, room_for, capacity_with_room, capacities_with_room, channel_with_room, with_room, accepted_with_room, RoomIsAccepted, RoomIsRefused, RoomHoldsPeriods}
 use Rattle.csdf_analysis.proofs.CountLemmas.{same_or_not, less_or_not, total_mono}
@@ -26,7 +27,7 @@ use Rattle.csdf_analysis.proofs.FitLemmas.{at}
 use Rattle.csdf_analysis.proofs.RoomLemmas.{enough_complete}
 use Rattle.csdf_analysis.proofs.SearchLemmas.{fit_of}
 use Rattle.csdf_analysis.proofs.LowerLemmas.{bound_at}
-use Rattle.csdf_analysis.proofs.GrantLemmas.{is_capacity}
+use Rattle.csdf_analysis.proofs.GrantLemmas.{granted, is_capacity}
 
 -- ---- the channels with room, one by one
 
@@ -126,14 +127,6 @@ agrees_room q m cs i c is =
     subst (λ (d : Channel). IfSome d.capacity (λ given. get_or (capacities_with_room q m cs) i 0 ≡ given)) f.is
     (bound_at (capacity_with_room q m) cs i f.channel f.place)
 
-least_with_room : (cs : List Channel) (q bounds : List ℕ) (m : ℕ) → 1 ≤ m → HaveRoom q cs → AreLeastCapacities cs q bounds
-    → AreLeastCapacities (Roomed q m cs) q (capacities_with_room q m cs)
-least_with_room cs q bounds m some room least = record {
-  completes = completes_room q m cs q (capacities_with_room q m cs) (completes_with_room cs q bounds m some room least.completes least.agrees);
-  agrees = agrees_room q m cs;
-  least = λ w done agrees. inl (given_are q w m cs (done.each_channel ∙ length-map cs (channel_with_room q m)) agrees);
-}
-
 -- a least capacity that was not given is no more than the full one
 least_within_full : (cs : List Channel) (q bounds : List ℕ) (i : ℕ) (c : Channel) → AreLeastCapacities cs q bounds → slice_get cs i ≡ Some c
     → c.capacity ≡ None → get_or bounds i 0 ≤ full_capacity q c
@@ -225,22 +218,39 @@ one_firings actors r s p q same one two =
 
 -- ---- accepted
 
+-- the room holds the initial tokens
+pub room_initial : (g : Graph) (r q : List ℕ) (m : ℕ) → IsWellFormed g → IsRepetition g.actors g.channels r q → 1 ≤ m
+    → HoldInitial g.channels (capacities_with_room q m g.channels)
+room_initial g r q m whole is some i c here =
+    subst (λ b. length c.initial ≤ b) (sym (bound_at (capacity_with_room q m) g.channels i c here)) (granted g r q m i c whole is some here).fits
+
+-- a graph whose period completes under its room is accepted with it
+pub accepted_in_room : (g : Graph) (r q : List ℕ) (m : ℕ) → IsWellFormed g → IsRepetition g.actors g.channels r q → 1 ≤ m
+    → CompletesPeriod g.channels q (capacities_with_room q m g.channels)
+    → IsAccepted (record { graph = with_room q m g; r = r; q = q; capacities = capacities_with_room q m g.channels })
+accepted_in_room g r q m whole is some done =
+    let cs : List Channel = g.channels in
+    let put = (fit_of g r q whole is).some_put in
+    let capacity : (i : ℕ) (d : Channel) → i < length cs → IsCapacity (get_or cs i d) (capacity_with_room q m (get_or cs i d)) = λ i d lt.
+    is_capacity g.actors q m (get_or cs i d) (whole.fitting.channels i d lt) some (put i d lt) in
+    record {
+      well_formed = well_formed_alike g (Roomed q m cs) (bare_room q m cs)
+          (All-map (IsChannel g.actors) (channel_with_room q m) cs (λ i d lt.
+          is_capped g.actors (get_or cs i d) (capacity_with_room q m (get_or cs i d)) (whole.fitting.channels i d lt) (capacity i d lt)))
+          whole;
+      repetition = repetition_room g.actors cs r q q m is;
+      least = record {
+        completes = completes_room q m cs q (capacities_with_room q m cs) done;
+        agrees = agrees_room q m cs;
+        least = λ w other agrees. inl (given_are q w m cs (other.each_channel ∙ length-map cs (channel_with_room q m)) agrees);
+      };
+      small = All-map (λ b. b ≤ 65535) (capacity_with_room q m) cs (λ i d lt. (capacity i d lt).within);
+    }
+
 is_accepted : (a : Accepted) (m : ℕ) → IsAccepted a → 1 ≤ m → IsAccepted (accepted_with_room m a)
 is_accepted a m ok some =
-    let g : Graph = a.graph in
-    let cs : List Channel = g.channels in
-    let put = (fit_of g a.r a.q ok.well_formed ok.repetition).some_put in
-    let capacity : (i : ℕ) (d : Channel) → i < length cs → IsCapacity (get_or cs i d) (capacity_with_room a.q m (get_or cs i d)) = λ i d lt.
-    is_capacity g.actors a.q m (get_or cs i d) (ok.well_formed.fitting.channels i d lt) some (put i d lt) in
-    record {
-      well_formed = well_formed_alike g (Roomed a.q m cs) (bare_room a.q m cs)
-          (All-map (IsChannel g.actors) (channel_with_room a.q m) cs (λ i d lt.
-          is_capped g.actors (get_or cs i d) (capacity_with_room a.q m (get_or cs i d)) (ok.well_formed.fitting.channels i d lt) (capacity i d lt)))
-          ok.well_formed;
-      repetition = repetition_room g.actors cs a.r a.q a.q m ok.repetition;
-      least = least_with_room cs a.q a.capacities m some ok.repetition.room ok.least;
-      small = All-map (λ b. b ≤ 65535) (capacity_with_room a.q m) cs (λ i d lt. (capacity i d lt).within);
-    }
+    accepted_in_room a.graph a.r a.q m ok.well_formed ok.repetition some
+    (completes_with_room a.graph.channels a.q a.capacities m some ok.repetition.room ok.least.completes ok.least.agrees)
 
 -- an accepted graph is refused for want of memory alone
 not_refused : (a : Accepted) (why : AcceptFault) → IsAccepted a → IsNotAccepted a.graph why → why ≡ fault.Memory
@@ -370,11 +380,21 @@ room_refused g r q m fault.TooTight is some told =
     }
 room_refused g r q m fault.Memory is some told = tt
 
--- ---- a graph that is accepted with room
+-- ---- why a graph is not accepted with room
 
-pub own_firings : (g : Graph) (r q : List ℕ) (m : ℕ) (b : Accepted) → IsRepetition g.actors g.channels r q → IsAccepted b → b.graph ≡ with_room q m g → b.q ≡ q
-own_firings g r q m b is ok same =
-    same_firings g r q b.q b.r m is (subst (λ (h : Graph). IsRepetition h.actors h.channels b.r b.q) same ok.repetition)
+pub deadlocked : (g : Graph) (r q : List ℕ) → IsRepetition g.actors g.channels r q
+    → (CompletesPeriod g.channels q (full_capacities q g.channels) → ⊥) → IsNotAccepted g fault.Deadlock
+deadlocked g r q is none = record { r = r; q = q; repetition = is; holds = none }
+
+pub tight_in_room : (g : Graph) (r q : List ℕ) (m : ℕ) → IsRepetition g.actors g.channels r q → 1 ≤ m
+    → CompletesPeriod g.channels q (full_capacities q g.channels) → (CompletesPeriod g.channels q (capacities_with_room q m g.channels) → ⊥)
+    → IsNotAccepted g fault.TooTight
+tight_in_room g r q m is some full none = record {
+  r = r;
+  q = q;
+  repetition = is;
+  holds = record { full = full; none = λ w done agrees. none (completes_with_room g.channels q w m some is.room done agrees) };
+}
 
 -- ---- the periods that the room is for
 
@@ -410,7 +430,7 @@ auto_roomy : (g h : Graph) (p q : List ℕ) (periods : ℕ) → p ≡ q → IsAu
 auto_roomy g h p q periods same auto roomy =
     (periods, subst (λ (ks : List ℕ). IsAutoRoom ks g.channels periods) (sym same) auto, roomy ∙ ap (λ (ks : List ℕ). with_room ks periods g) (sym same))
 
-pub auto_roomy_where : (g : Graph) (q : List ℕ) (periods : ℕ) (r : Result Accepted AcceptFault) → IsAutoRoom q g.channels periods
+pub auto_roomy_where : (g : Graph) (q : List ℕ) (periods : ℕ) (r : Result Accepted Refused) → IsAutoRoom q g.channels periods
     → IfOk r (λ a. a.graph ≡ with_room q periods g) → IfOk r (λ a. a.q ≡ q) → IfOk r (λ a. IsWithRoom room.Auto a.q g a.graph)
 auto_roomy_where g q periods (Ok a) auto roomy same = auto_roomy g a.graph a.q q periods same auto roomy
 auto_roomy_where g q periods (Err why) auto roomy same = tt

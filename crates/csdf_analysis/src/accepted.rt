@@ -93,12 +93,38 @@ fn copy_of(alloc: Global, vector: &Vector) -> Result<Vector, AllocError>
 }
 
 impl Accepted {
+    /// The graph, accepted with this vector and these capacities.
+    pub(crate) fn new(graph: Graph, vector: Vector, capacities: Vec<u32>) -> Accepted
+        requires { IsAccepted (record { graph = graph; r = vector.r.items; q = vector.q.items; capacities = capacities.items }) }
+        ensures graph { result.graph ≡ graph }
+        ensures firings { result.q ≡ vector.q.items }
+        ensures accepted { IsAccepted result }
+    {
+        Accepted {
+            graph,
+            vector,
+            capacities,
+        }
+    }
+
     /// The graph that was accepted.
     pub fn graph(&self) -> &Graph
         ensures graph { result.now ≡ self.now.graph }
         ensures accepted { IsAccepted self.now }
     {
         &self.graph
+    }
+
+    /// The graph that was accepted, once nothing else is asked of it.
+    pub fn into_graph(self) -> Graph
+        ensures { result ≡ self.graph }
+    {
+        let Accepted {
+            graph: accepted,
+            vector: _,
+            capacities: _,
+        } = self;
+        accepted
     }
 
     /// How often each actor fires in a period.

@@ -35,6 +35,8 @@ pub use laws::{
 };
 pub use length::Length;
 pub use neighbours::{consumers_of, producers_of};
-pub use room::{Room, accept_in_room, accept_with_room, auto_room, give_room};
+pub use room::{
+    Refused, Room, accept_in_room, accept_or_hand_back, accept_with_room, auto_room, give_room,
+};
 pub use stall::{Bounds, Stall, Wait};
 pub use vector::Vector;

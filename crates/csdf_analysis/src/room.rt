@@ -4,14 +4,16 @@ ghost use Rattle.std.specs.Prelude.{◌≡◌, ◌≤◌, All, IfErr, IfOk, leng
 ghost use Rattle.csdf_model.specs.Graph.{channel_view};
 ghost use Rattle.csdf_analysis.specs.Acceptance.{IsAccepted, IsNotAccepted};
 ghost use Rattle.csdf_analysis.specs.Repetition.{HaveRoom, IsRepetition, IsWithin, full_capacity};
-ghost use Rattle.csdf_analysis.specs.Room.{HasSomePeriod, IsAutoRoom, IsWithRoom, capacity_with_room, carried, most_carried, room_for, with_room};
+ghost use Rattle.csdf_analysis.specs.Room.{HasSomePeriod, IsAutoRoom, IsWithRoom, capacities_with_room, capacity_with_room, carried, most_carried, room_for, with_room};
 
 use crate::accepted::{Accepted, accept};
+use crate::calls::capacities::full_capacities;
+use crate::calls::raise::completes;
 use crate::calls::repetition::repetition;
 use crate::fault::AcceptFault;
 use crate::vector::Vector;
 use csdf_model::{Channel, Graph, MAX_CAPACITY};
-use std::alloc::Global;
+use std::alloc::{AllocError, Global};
 
 /// The most tokens that a channel without a capacity of its own is to carry in the periods that
 /// [`auto_room`] answers.
@@ -68,61 +70,144 @@ pub enum Room {
     Auto,
 }
 
+/// A graph that is not accepted, as it was handed in, and why.
+#[derive(Drop)]
+pub struct Refused {
+    /// The graph, equal to the one that was handed in.
+    pub graph: Graph,
+    /// Why it is not accepted.
+    pub fault: AcceptFault,
+}
+
+/// The given capacity of each channel, or else its room for so many periods.
+fn capacities_with_room(
+    alloc: Global,
+    channels: &[Channel],
+    q: &[u32],
+    periods: u32,
+) -> Result<Vec<u32>, AllocError>
+    requires channels { All (IsWithin (length q.now)) (map channel_view channels.now) }
+    requires room { HaveRoom q.now (map channel_view channels.now) }
+    ensures { IfOk result (λ v. v.items ≡ capacities_with_room q.now periods (map channel_view channels.now)) }
+{
+    let mut capacities = Vec::new(alloc);
+    for channel in channels {
+        capacities.push(capacity_with_room(channel, q, periods))?;
+    }
+    Ok(capacities)
+}
+
+/// The capacities with which the graph, whose vector this is, is accepted once it has room for so many
+/// periods.
+fn capacities_in_room(
+    alloc: Global,
+    graph: &Graph,
+    vector: &Vector,
+    periods: u32,
+) -> Result<Vec<u32>, AcceptFault>
+    requires vector { IsRepetition graph.now.actors graph.now.channels vector.now.r.items vector.now.q.items }
+    requires some { 1 ≤ periods }
+    ensures accepted { IfOk result (λ v. IsAccepted (record {
+      graph = with_room vector.now.q.items periods graph.now;
+      r = vector.now.r.items;
+      q = vector.now.q.items;
+      capacities = v.items;
+    })) }
+    ensures refusal { IfErr result (IsNotAccepted graph.now) }
+{
+    let full = full_capacities(alloc, graph.channels(), &vector.q)?;
+    if !completes(alloc, graph, vector, &full)? {
+        return Err(AcceptFault::Deadlock);
+    }
+    let capacities = capacities_with_room(alloc, graph.channels(), &vector.q, periods)?;
+    if !completes(alloc, graph, vector, &capacities)? {
+        return Err(AcceptFault::TooTight);
+    }
+    Ok(capacities)
+}
+
 /// Accepts the graph, whose vector this is, with room for so many periods.
 fn accept_roomy(
     alloc: Global,
     graph: Graph,
-    vector: &Vector,
+    vector: Vector,
     periods: u32,
-) -> Result<Accepted, AcceptFault>
-    requires vector { IsRepetition graph.actors graph.channels vector.now.r.items vector.now.q.items }
+) -> Result<Accepted, Refused>
+    requires vector { IsRepetition graph.actors graph.channels vector.r.items vector.q.items }
     requires some { 1 ≤ periods }
-    ensures graph { IfOk result (λ accepted. accepted.graph ≡ with_room vector.now.q.items periods graph) }
-    ensures firings { IfOk result (λ accepted. accepted.q ≡ vector.now.q.items) }
+    ensures graph { IfOk result (λ accepted. accepted.graph ≡ with_room vector.q.items periods graph) }
+    ensures firings { IfOk result (λ accepted. accepted.q ≡ vector.q.items) }
     ensures accepted { IfOk result IsAccepted }
-    ensures refusal { IfErr result (IsNotAccepted graph) }
+    ensures unchanged { IfErr result (λ refused. refused.graph ≡ graph) }
+    ensures refusal { IfErr result (λ refused. IsNotAccepted graph refused.fault) }
 {
-    let mut roomy = graph;
-    give_room(&mut roomy, vector, periods);
-    match accept(alloc, roomy) {
-        Ok(accepted) => Ok(accepted),
-        Err((_, fault)) => Err(fault),
+    match capacities_in_room(alloc, &graph, &vector, periods) {
+        Ok(capacities) => {
+            let mut roomy = graph;
+            give_room(&mut roomy, &vector, periods);
+            Ok(Accepted::new(roomy, vector, capacities))
+        }
+        Err(fault) => Err(Refused { graph, fault }),
     }
 }
 
 /// Accepts the graph with room for so many periods, as [`give_room`] gives it.
-///
-/// An error is one that [`accept`] has for the graph itself.
-pub fn accept_with_room(alloc: Global, graph: Graph, periods: u32) -> Result<Accepted, AcceptFault>
+fn accept_for_periods(alloc: Global, graph: Graph, periods: u32) -> Result<Accepted, Refused>
     requires { 1 ≤ periods }
     ensures graph { IfOk result (λ accepted. accepted.graph ≡ with_room accepted.q periods graph) }
     ensures accepted { IfOk result IsAccepted }
-    ensures refusal { IfErr result (IsNotAccepted graph) }
+    ensures unchanged { IfErr result (λ refused. refused.graph ≡ graph) }
+    ensures refusal { IfErr result (λ refused. IsNotAccepted graph refused.fault) }
 {
-    let vector = repetition(alloc, &graph)?;
-    accept_roomy(alloc, graph, &vector, periods)
+    match repetition(alloc, &graph) {
+        Ok(vector) => accept_roomy(alloc, graph, vector, periods),
+        Err(fault) => Err(Refused { graph, fault }),
+    }
 }
 
 /// Accepts the graph with the room that [`auto_room`] answers.
-fn accept_with_auto_room(alloc: Global, graph: Graph) -> Result<Accepted, AcceptFault>
+fn accept_with_auto_room(alloc: Global, graph: Graph) -> Result<Accepted, Refused>
     ensures graph { IfOk result (λ accepted. IsWithRoom Room.Auto accepted.q graph accepted.graph) }
     ensures accepted { IfOk result IsAccepted }
-    ensures refusal { IfErr result (IsNotAccepted graph) }
+    ensures unchanged { IfErr result (λ refused. refused.graph ≡ graph) }
+    ensures refusal { IfErr result (λ refused. IsNotAccepted graph refused.fault) }
 {
-    let vector = repetition(alloc, &graph)?;
-    let periods = auto_room(&graph, &vector);
-    accept_roomy(alloc, graph, &vector, periods)
+    match repetition(alloc, &graph) {
+        Ok(vector) => {
+            let periods = auto_room(&graph, &vector);
+            accept_roomy(alloc, graph, vector, periods)
+        }
+        Err(fault) => Err(Refused { graph, fault }),
+    }
 }
 
 /// Accepts the graph with its least capacities.
-fn accept_least(alloc: Global, graph: Graph) -> Result<Accepted, AcceptFault>
+fn accept_least(alloc: Global, graph: Graph) -> Result<Accepted, Refused>
     ensures graph { IfOk result (λ accepted. accepted.graph ≡ graph) }
     ensures accepted { IfOk result IsAccepted }
-    ensures refusal { IfErr result (IsNotAccepted graph) }
+    ensures unchanged { IfErr result (λ refused. refused.graph ≡ graph) }
+    ensures refusal { IfErr result (λ refused. IsNotAccepted graph refused.fault) }
 {
     match accept(alloc, graph) {
         Ok(accepted) => Ok(accepted),
-        Err((_, fault)) => Err(fault),
+        Err((graph, fault)) => Err(Refused { graph, fault }),
+    }
+}
+
+/// Accepts the graph with this room, or hands it back as it was.
+///
+/// An error is one that [`accept`] has for the graph itself.
+pub fn accept_or_hand_back(alloc: Global, graph: Graph, room: Room) -> Result<Accepted, Refused>
+    requires { HasSomePeriod room }
+    ensures graph { IfOk result (λ accepted. IsWithRoom room accepted.q graph accepted.graph) }
+    ensures accepted { IfOk result IsAccepted }
+    ensures unchanged { IfErr result (λ refused. refused.graph ≡ graph) }
+    ensures refusal { IfErr result (λ refused. IsNotAccepted graph refused.fault) }
+{
+    match room {
+        Room::Least => accept_least(alloc, graph),
+        Room::Periods(periods) => accept_for_periods(alloc, graph, periods),
+        Room::Auto => accept_with_auto_room(alloc, graph),
     }
 }
 
@@ -135,11 +220,22 @@ pub fn accept_in_room(alloc: Global, graph: Graph, room: Room) -> Result<Accepte
     ensures accepted { IfOk result IsAccepted }
     ensures refusal { IfErr result (IsNotAccepted graph) }
 {
-    match room {
-        Room::Least => accept_least(alloc, graph),
-        Room::Periods(periods) => accept_with_room(alloc, graph, periods),
-        Room::Auto => accept_with_auto_room(alloc, graph),
+    match accept_or_hand_back(alloc, graph, room) {
+        Ok(accepted) => Ok(accepted),
+        Err(refused) => Err(refused.fault),
     }
+}
+
+/// Accepts the graph with room for so many periods, as [`give_room`] gives it.
+///
+/// An error is one that [`accept`] has for the graph itself.
+pub fn accept_with_room(alloc: Global, graph: Graph, periods: u32) -> Result<Accepted, AcceptFault>
+    requires { 1 ≤ periods }
+    ensures graph { IfOk result (λ accepted. accepted.graph ≡ with_room accepted.q periods graph) }
+    ensures accepted { IfOk result IsAccepted }
+    ensures refusal { IfErr result (IsNotAccepted graph) }
+{
+    accept_in_room(alloc, graph, Room::Periods(periods))
 }
 
 /// How many tokens a period puts into the channel, or 0 where it has a capacity of its own.

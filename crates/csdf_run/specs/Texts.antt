@@ -1,5 +1,5 @@
 -- A run from texts to texts: a graph file and the tokens for its sources, and what is told of the run.
-use Rattle.std.specs.Prelude.{ℕ, suc, ◌≡◌, ◌≢◌, ◌≤◌, if◌then◌else◌, List, [], ◌∷◌, ℤ, Option, Result, Ok, Err, count_by, drop, length, map, option_map, slice_index_or}
+use Rattle.std.specs.Prelude.{ℕ, suc, ◌≡◌, ◌≢◌, ◌⊎◌, ◌≤◌, if◌then◌else◌, List, [], ◌∷◌, ℤ, Option, Result, Ok, Err, count_by, drop, length, map, option_map, slice_index_or}
 use Rattle.std.specs.Global.{Vec}
 use Rattle.std.specs.Result.{result_map_both}
 use Rattle.csdf_graph.specs.declared.fault.GraphFault.TheVariants as graph
@@ -15,6 +15,7 @@ use Rattle.csdf_core.specs.Planned.{is_source_kernel}
 use Rattle.csdf_core.specs.Streams.{IsPrefix}
 use Rattle.csdf_floor.specs.declared.ending.Ending.{Ending}
 use Rattle.csdf_floor.specs.declared.ending.Ending.TheVariants.{Complete, Stopped, Starved, Dry}
+use Rattle.csdf_floor.specs.declared.fault.RunFault.{RunFault}
 use Rattle.csdf_floor.specs.declared.outcome.Outcome.{Outcome}
 use Rattle.csdf_run.specs.declared.texts.Texts.{Texts}
 use Rattle.csdf_run.specs.declared.texts.TextsFault.{TextsFault}
@@ -48,6 +49,10 @@ pub record IsInRoom (room : Room) (g : Graph) (a : Accepted) : Type 0 where
 -- the bytes are the file of a graph, and this is it as accepted with this room
 abbrev pub IsFileOf : Room → List ℕ → Accepted → Type 0
 IsFileOf room bytes a = IsFileWhere bytes (λ g. IsInRoom room g a)
+
+-- the graph that is handed back is the one that was handed in, or that as accepted with this room
+abbrev pub IsHandedBack : Room → Graph → Graph → Type 0
+IsHandedBack room g h = (h ≡ g) ⊎ ((a : Accepted) × IsInRoom room g a × (h ≡ a.graph))
 
 -- a run goes on for so many periods of the graph
 abbrev pub GoesOnFor : Length → Accepted → ℕ → Type 0
@@ -117,6 +122,10 @@ IsGraphRefusal room g texts (fault.Accept why) = IsNotAccepted g why
 IsGraphRefusal room g texts fault.FeedCount = (a : Accepted) × IsInRoom room g a × IsFeedFault a.graph.actors texts fault.FeedCount
 IsGraphRefusal room g texts (fault.Feed n why) = (a : Accepted) × IsInRoom room g a × IsFeedFault a.graph.actors texts (fault.Feed n why)
 IsGraphRefusal room g texts (fault.Run why) = (a : Accepted) × (feeds : List (List ℤ)) × AreTextsOf room g texts a feeds
+
+-- the run has no outcome
+abbrev pub IsRunFault : TextsFault → Type 0
+IsRunFault told = (why : RunFault) × (told ≡ fault.Run why)
 
 -- why there is no run: the file comes first, and then its graph
 abbrev pub IsRefusal : Room → List ℕ → List (List ℕ) → TextsFault → Type 0

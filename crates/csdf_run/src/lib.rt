@@ -19,4 +19,7 @@ mod worker;
 
 pub use gate::{Gate, Open};
 pub use running::run;
-pub use texts::{RunOptions, Texts, TextsFault, run_graph_with, run_texts, run_texts_with};
+pub use texts::{
+    GraphRun, RunOptions, Texts, TextsFault, run_and_hand_back, run_graph_with, run_texts,
+    run_texts_with,
+};

@@ -5,7 +5,7 @@ ghost use Rattle.csdf_model.specs.Graph.{actor_view};
 ghost use Rattle.csdf_bytes.specs.TokenText.{token_line, token_text};
 ghost use Rattle.csdf_analysis.specs.Room.{HasSomePeriod};
 ghost use Rattle.csdf_core.specs.Planned.{is_source_kernel};
-ghost use Rattle.csdf_run.specs.Texts.{AreTextsOf, IsFeedFault, IsGraphRefusal, IsReadFault, IsRefusal, MayGoOn, MayGraphGoOn, TellOutcome};
+ghost use Rattle.csdf_run.specs.Texts.{AreTextsOf, IsFeedFault, IsGraphRefusal, IsHandedBack, IsReadFault, IsRefusal, IsRunFault, MayGoOn, MayGraphGoOn, TellOutcome};
 ghost use Rattle.csdf_run.specs.Texts.{TellGraphRun, TellGraphSameInAnyRoom, TellRun, TellSameInAnyRoom, TellSequentialGraphRun, TellSequentialRun};
 ghost use Rattle.csdf_run.specs.Texts.{feed_in, feeds_from, sink_texts, source_count, texts_in, work_for};
 ghost use Rattle.csdf_floor.specs.declared.outcome.Outcome.{Outcome as OutcomeCode};
@@ -19,7 +19,7 @@ use crate::periods::periods_of;
 use crate::request::Request;
 use crate::running::outcome_of;
 use crate::script::kept_script;
-use csdf_analysis::{AcceptFault, Accepted, Length, Room, accept_in_room};
+use csdf_analysis::{AcceptFault, Accepted, Length, Room, accept_or_hand_back};
 use csdf_bytes::{Slice, TokenFault, read_tokens};
 use csdf_floor::{ChannelReport, Ending, Outcome, RunFault, printed_report};
 use csdf_graph::{GraphFault, read_graph};
@@ -74,6 +74,16 @@ pub enum TextsFault {
     Feed(u32, TokenFault),
     /// The run has no outcome.
     Run(RunFault),
+}
+
+/// What came of a run of a graph, and the graph, which is handed back.
+#[derive(Drop)]
+pub struct GraphRun {
+    /// The graph that was handed in. Once it was accepted, its channels have their room as capacities;
+    /// nothing else of it changes.
+    pub graph: Graph,
+    /// What is told of the run, or why there is none.
+    pub texts: Result<Texts, TextsFault>,
 }
 
 fn is_source(actor: &Actor) -> bool
@@ -178,18 +188,36 @@ struct Fed {
     feeds: Vec<Vec<i32>>,
 }
 
+/// A graph that is handed back, and why there are no tokens for its actors.
+#[derive(Drop)]
+struct Unfed {
+    graph: Graph,
+    fault: TextsFault,
+}
+
 /// The graph, accepted with this room, and the tokens in the texts for its sources.
-fn fed_of(alloc: Global, graph: Graph, texts: &[Vec<u8>], room: Room) -> Result<Fed, TextsFault>
+fn fed_of(alloc: Global, graph: Graph, texts: &[Vec<u8>], room: Room) -> Result<Fed, Unfed>
     requires { HasSomePeriod room }
     ensures read { IfOk result (λ fed. AreTextsOf room graph (texts_in texts.now) fed.accepted (feeds_in fed.feeds.items)) }
-    ensures refused { IfErr result (IsGraphRefusal room graph (texts_in texts.now)) }
+    ensures graph { IfErr result (λ unfed. IsHandedBack room graph unfed.graph) }
+    ensures refused { IfErr result (λ unfed. IsGraphRefusal room graph (texts_in texts.now) unfed.fault) }
 {
-    let accepted = match accept_in_room(alloc, graph, room) {
+    let accepted = match accept_or_hand_back(alloc, graph, room) {
         Ok(accepted) => accepted,
-        Err(fault) => return Err(TextsFault::Accept(fault)),
+        Err(refused) => {
+            return Err(Unfed {
+                graph: refused.graph,
+                fault: TextsFault::Accept(refused.fault),
+            });
+        }
     };
-    let feeds = counted_feeds(alloc, accepted.graph(), texts)?;
-    Ok(Fed { accepted, feeds })
+    match counted_feeds(alloc, accepted.graph(), texts) {
+        Ok(feeds) => Ok(Fed { accepted, feeds }),
+        Err(fault) => Err(Unfed {
+            graph: accepted.into_graph(),
+            fault,
+        }),
+    }
 }
 
 /// Appends a token's line.
@@ -272,6 +300,24 @@ fn run_request<R: Threads + Wait + Sync, G: Gate>(
     let outcome = outcome_of(rt, alloc, request, gate, keeping)?;
     let texts = texts_of(alloc, request.graph(), &outcome)?;
     Ok(texts)
+}
+
+/// Runs what was read, and tells why there is no outcome as that of texts.
+fn told_of<R: Threads + Wait + Sync, G: Gate>(
+    rt: &R,
+    alloc: Global,
+    request: &Request<'_>,
+    gate: &G,
+    keeping: Keeping,
+) -> Result<Texts, TextsFault>
+    ensures told { IfOk result (λ texts. (outcome : OutcomeCode) × TellOutcome request.now outcome texts) }
+    ensures kept { IfOk result (λ texts. is_some texts.journal ≡ is_kept keeping) }
+    ensures failed { IfErr result IsRunFault }
+{
+    match run_request(rt, alloc, request, gate, keeping) {
+        Ok(texts) => Ok(texts),
+        Err(fault) => Err(TextsFault::Run(fault)),
+    }
 }
 
 /// Runs so many periods of the graph of a file by worker threads, over one text of tokens for each
@@ -362,12 +408,48 @@ pub fn run_graph_with<R: Threads + Wait + Sync, G: Gate>(
     ensures kept { IfOk result (λ texts. is_some texts.journal ≡ is_kept options.keeping) }
     ensures refused { IfErr result (IsGraphRefusal options.room graph (texts_in feeds.now)) }
 {
+    let GraphRun { graph: _, texts } = run_and_hand_back(rt, alloc, graph, feeds, options, gate);
+    texts
+}
+
+/// As [`run_graph_with`], and hands the graph back.
+///
+/// Names, kernels, rates and initial tokens of the graph that is handed back are those of the one that
+/// was handed in. Where that one is not accepted, it is equal to it.
+pub fn run_and_hand_back<R: Threads + Wait + Sync, G: Gate>(
+    rt: &R,
+    alloc: Global,
+    graph: Graph,
+    feeds: &[Vec<u8>],
+    options: RunOptions,
+    gate: &G,
+) -> GraphRun
+    requires some_worker { 1 ≤ options.workers }
+    requires few_workers { options.workers ≤ 8 }
+    requires some_room { HasSomePeriod options.room }
+    requires goes_on { MayGraphGoOn options.room graph options.how_long }
+    ensures graph { IsHandedBack options.room graph result.graph }
+    ensures run { IfOk result.texts (TellGraphRun options.room graph (texts_in feeds.now) options.how_long options.firings) }
+    ensures sequential { IfOk result.texts (TellSequentialGraphRun options.room graph (texts_in feeds.now) options.how_long options.firings) }
+    ensures rooms { IfOk result.texts (TellGraphSameInAnyRoom graph (texts_in feeds.now) options.how_long) }
+    ensures kept { IfOk result.texts (λ texts. is_some texts.journal ≡ is_kept options.keeping) }
+    ensures refused { IfErr result.texts (IsGraphRefusal options.room graph (texts_in feeds.now)) }
+{
     let (workers, firings) = (options.workers, options.firings);
-    let fed = fed_of(alloc, graph, feeds, options.room)?;
+    let fed = match fed_of(alloc, graph, feeds, options.room) {
+        Ok(fed) => fed,
+        Err(unfed) => {
+            return GraphRun {
+                graph: unfed.graph,
+                texts: Err(unfed.fault),
+            };
+        }
+    };
     let periods = periods_of(options.how_long, &fed.accepted);
     let request = Request::new(&fed.accepted, &fed.feeds, workers, periods, firings);
-    match run_request(rt, alloc, &request, gate, options.keeping) {
-        Ok(texts) => Ok(texts),
-        Err(fault) => Err(TextsFault::Run(fault)),
+    let texts = told_of(rt, alloc, &request, gate, options.keeping);
+    GraphRun {
+        graph: fed.accepted.into_graph(),
+        texts,
     }
 }

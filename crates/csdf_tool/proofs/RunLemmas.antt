@@ -1,9 +1,10 @@
 -- The files of a run, and the faults that are told of them.
 use Rattle.std.proofs.Common.{◌≡◌, ◌≢◌, ℕ, suc, zero, ◌+◌, ◌<◌, Bool, true, false, cond, List, [], ◌∷◌, ◌++◌, length, map, take, drop, get_or, refl, ap, sym}
 use Rattle.std.proofs.Common.{subst, ◌∙◌, arith, append_assoc, inl, inr, Ok, Err, Option, Some, None, Bor, option_map}
-use Rattle.std.specs.Prelude.{◌⊎◌, IfErr, IsErrAnd, Result, is_some}
+use Rattle.std.specs.Prelude.{◌⊎◌, IfErr, IfOk, IsErrAnd, Result, is_some}
 use Rattle.std.proofs.lemmas.List.{get_or-drop, map-append, take_more}
-use Rattle.csdf_model.specs.Graph.{Actor, Graph}
+use Rattle.std.specs.Global.{Vec}
+use Rattle.csdf_model.specs.Graph.{Actor, Channel, Graph}
 use Rattle.csdf_graph.specs.GraphText.{IsGraphOf}
 use Rattle.csdf_graph.specs.declared.fault.GraphFault.{GraphFault}
 use Rattle.csdf_graph.specs.declared.fault.GraphFault.TheVariants as graph
@@ -12,20 +13,30 @@ use Rattle.csdf_answers.specs.declared.fault.ToolFault.{ToolFault}
 use Rattle.csdf_answers.specs.declared.fault.ToolFault.TheVariants as fault
 use Rattle.csdf_answers.specs.declared.fault.Stream.TheVariants.{Output, File}
 use Rattle.csdf_analysis.specs.declared.room.Room.{Room}
+use Rattle.csdf_analysis.specs.declared.room.Room.TheVariants as rooms
+use Rattle.csdf_analysis.specs.Room.{IsWithRoom, channel_with_room, with_room}
 use Rattle.csdf_floor.proofs.Works.{few_in_thousand}
 use Rattle.csdf_analysis.specs.declared.length.Length.{Length}
 use Rattle.csdf_analysis.specs.declared.length.Length.TheVariants as lengths
 use Rattle.csdf_run.specs.declared.texts.TextsFault.{TextsFault}
 use Rattle.csdf_run.specs.declared.texts.TextsFault.TheVariants as texts
-use Rattle.csdf_run.specs.Texts.{IsGraphRefusal, IsRefusal, MayGraphGoOn}
+use Rattle.csdf_run.specs.declared.texts.Texts.{Texts}
+use Rattle.csdf_run.specs.Texts.{IsGraphRefusal, IsHandedBack, IsRefusal, MayGraphGoOn, TellGraphRun, TellSequentialGraphRun, texts_in}
 use Rattle.csdf_words.specs.CommandLine.{Order}
 use Rattle.csdf_words.specs.HowLong.{MayBeAsked}
 use Rattle.csdf_tool.specs.GraphFiles.{IsNamed}
-use Rattle.csdf_answers.specs.Faults.{fault_of}
+use Rattle.csdf_json.specs.Lines.{IsLineOf}
+use Rattle.csdf_answers.specs.declared.question.Form.{Form}
+use Rattle.csdf_answers.specs.declared.question.Form.TheVariants as forms
+use Rattle.csdf_answers.specs.Described.{actor_names}
+use Rattle.csdf_answers.specs.Faults.{accept_fault, fault_of}
+use Rattle.csdf_answers.specs.Printed.{name_at, names_of}
 use Rattle.csdf_tool.specs.Acts.{Act, Asks, Marks, OnlyReads, devices}
-use Rattle.csdf_tool.specs.Running.{EndsBeforeFiles, EndsOnFiles, IsCutShort, IsUnput, LacksFeed, RefusesGraphRun, RefusesRun, StopsRun, Written}
+use Rattle.csdf_tool.specs.Reports.{TellsReport, report_object}
+use Rattle.csdf_tool.specs.Running.{AreNamedAlike, EndsBeforeFiles, EndsOnFiles, IsCutShort, IsUnput, LacksFeed, RefusesGraphRun, RefusesRun, RunsOn, StopsRun, Written}
 use Rattle.csdf_tool.specs.GraphFiles.{graph_reads}
-use Rattle.csdf_tool.specs.Running.{feed_paths, feed_reads, out_file, put_fault, put_whole, run_reads, sink_files}
+use Rattle.csdf_tool.specs.Running.{feed_paths, feed_reads, files_of, journal_files, out_file, put_fault, put_whole, run_reads, sink_files, texts_fault, token_fault}
+use Rattle.csdf_tool.specs.declared.run_files.Ran.{Ran}
 use Rattle.csdf_tool.specs.declared.put_fault.PutFault.{PutFault}
 use Rattle.csdf_tool.specs.declared.put_fault.PutFault.TheVariants as put
 use Rattle.csdf_tool.proofs.CauseLemmas.{memory_or_not}
@@ -45,6 +56,48 @@ may_go_on room g lengths.UntilDry may = tt
 pub is_some-map : (word : Option (Bor (List ℕ))) → is_some (option_map (λ w. w.now) word) ≡ is_some word
 is_some-map None = refl
 is_some-map (Some w) = refl
+
+-- ---- a graph that a run hands back
+
+-- room changes no name
+names_room : (q : List ℕ) (m : ℕ) (cs : List Channel) → names_of (map (channel_with_room q m) cs) ≡ names_of cs
+names_room q m [] = refl
+names_room q m (c ∷ cs) = ap (λ (names : List (List ℕ)). c.name ∷ names) (names_room q m cs)
+
+roomy_alike : (q : List ℕ) (m : ℕ) (g h : Graph) → h ≡ with_room q m g → AreNamedAlike g h
+roomy_alike q m g h same = record {
+  actors = ap (λ (x : Graph). x.actors) same;
+  names = ap (λ (x : Graph). names_of x.channels) same ∙ names_room q m g.channels;
+}
+
+same_alike : (g h : Graph) → h ≡ g → AreNamedAlike g h
+same_alike g h same = record { actors = ap (λ (x : Graph). x.actors) same; names = ap (λ (x : Graph). names_of x.channels) same }
+
+alike_with : (room : Room) (q : List ℕ) (g h : Graph) → IsWithRoom room q g h → AreNamedAlike g h
+alike_with rooms.Least q g h same = same_alike g h same
+alike_with (rooms.Periods n) q g h same = roomy_alike q n g h same
+alike_with rooms.Auto q g h auto = roomy_alike q auto.0 g h auto.2
+
+pub handed_back : (room : Room) (g h : Graph) → IsHandedBack room g h → AreNamedAlike g h
+handed_back room g h (inl same) = same_alike g h same
+handed_back room g h (inr roomy) = alike_with room roomy.0.q g h (subst (λ (x : Graph). IsWithRoom room roomy.0.q g x) (sym roomy.2) roomy.1.roomy)
+
+-- what is told of a run is told by names alone
+pub fault_alike : (g h : Graph) (why : TextsFault) → AreNamedAlike g h → texts_fault h why ≡ texts_fault g why
+fault_alike g h (texts.Graph why) alike = refl
+fault_alike g h (texts.Accept why) alike = ap (λ names. accept_fault names why) alike.names
+fault_alike g h texts.FeedCount alike = refl
+fault_alike g h (texts.Feed a why) alike = ap (λ (actors : List Actor). token_fault (name_at (actor_names actors) a) why) alike.actors
+fault_alike g h (texts.Run why) alike = refl
+
+pub files_alike : (order : Order) (g h : Graph) (t : Texts) → AreNamedAlike g h → files_of order h t ≡ files_of order g t
+files_alike order g h t alike = ap (λ (actors : List Actor). sink_files order.sink_folder actors (texts_in t.sinks.items)
+    ++ journal_files order.journal (option_map (λ (text : Vec ℕ). text.items) t.journal)) alike.actors
+
+pub report_alike : (form : Form) (g h : Graph) (t : Texts) (text : List ℕ) → AreNamedAlike g h → TellsReport form h t text → TellsReport form g t text
+report_alike forms.Text g h t text alike told = told
+report_alike forms.Json g h t text alike told =
+    subst (λ names. IsLineOf (report_object names t.ending t.channels.items) text) alike.names told
 
 -- ---- sinks
 
@@ -227,6 +280,40 @@ module _ (order : Order) (left : Option (List ℕ)) (failed : Bool) (bytes seen 
                 }),
               ),
             )
+
+-- the run of a graph is that of its file
+pub ran_of_file : (order : Order) (left : Option (List ℕ)) (g : Graph) (bytes : List ℕ) (feeds : List (List ℕ)) (a b : Option (List Act)) (keeps : Bool)
+    (r : Result Ran ToolFault) → IsNamed order.graph left bytes → IsGraphOf bytes (Ok g) → Asks a b (run_reads order g bytes feeds) → is_some order.journal ≡ keeps
+    → IfOk r (λ ran. TellGraphRun order.room g feeds order.how_long order.firings ran.texts)
+    → IfOk r (λ ran. TellSequentialGraphRun order.room g feeds order.how_long order.firings ran.texts) → IfOk r (λ ran. is_some ran.texts.journal ≡ keeps)
+    → IfOk r (λ ran. AreNamedAlike g ran.graph)
+    → IfOk r (λ ran. (h : Graph) × (bs : List ℕ) × (fs : List (List ℕ)) × RunsOn order left h bs fs ran.texts × Asks a b (run_reads order h bs fs)
+    × AreNamedAlike h ran.graph)
+ran_of_file order left g bytes feeds a b keeps (Ok ran) named read asked word told sequential kept alike = (
+  g,
+  bytes,
+  feeds,
+  record {
+    named = named;
+    run = record {
+      graph = read;
+      told = record { graph = g; read = read; holds = told };
+      sequential = record { graph = g; read = read; holds = sequential };
+      kept = kept ∙ sym word;
+    };
+  },
+  asked,
+  alike,
+)
+ran_of_file order left g bytes feeds a b keeps (Err f) named read asked word told sequential kept alike = tt
+
+-- the files were put after all was read
+pub puts_alike : (a b c : Option (List Act)) (order : Order) (g h : Graph) (bytes : List ℕ) (feeds : List (List ℕ)) (t : Texts) → AreNamedAlike g h
+    → Asks a b (run_reads order g bytes feeds) → Asks b c (map put_whole (files_of order h t))
+    → Asks a c (run_reads order g bytes feeds ++ map put_whole (files_of order g t))
+puts_alike a b c order g h bytes feeds t alike read put =
+    asks_more a b c (run_reads order g bytes feeds) (map put_whole (files_of order g t)) read
+    (subst (λ (files : List Written). Asks b c (map put_whole files)) (files_alike order g h t alike) put)
 
 -- memory ran out before a file was put
 pub ends_for_memory : (r : Result (Unit {0}) ToolFault) (order : Order) (left : Option (List ℕ)) (a b : Option (List Act)) (m : Marks)

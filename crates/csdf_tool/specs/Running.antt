@@ -171,6 +171,11 @@ put_as came file = Put (path_join file.folder file.name) file.text came
 abbrev pub put_whole : Written → Act
 put_whole file = put_as (Ok tt) file
 
+-- the graphs have the same actors, and channels of the same names
+pub record AreNamedAlike (g h : Graph) : Type 0 where
+  pub actors : h.actors ≡ g.actors
+  pub names : names_of h.channels ≡ names_of g.channels
+
 -- the files of the sinks' texts, and then that of the moves
 abbrev pub files_of : Order → Graph → Texts → List Written
 files_of order g t =

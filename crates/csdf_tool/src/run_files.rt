@@ -1,7 +1,7 @@
 //! A run of a graph file over the token files of a folder.
 
 ghost use Rattle.std.specs.Prelude.{◌≡◌, ◌≢◌, ◌⊎◌, ℕ, List, [], true, Err, is_some, length, map, option_map, option_to_list, slice_index_or, IfErr, IfOk, OnErr, OnOk};
-ghost use Rattle.csdf_model.specs.Graph.{actor_view};
+ghost use Rattle.csdf_model.specs.Graph.{Graph as GraphModel, actor_view};
 ghost use Rattle.csdf_graph.specs.GraphText.{IsGraphOf};
 ghost use Rattle.csdf_core.specs.Planned.{is_source_kernel};
 ghost use Rattle.csdf_run.specs.Texts.{TellGraphRun, TellSequentialGraphRun, source_count, texts_in};
@@ -11,7 +11,7 @@ ghost use Rattle.csdf_words.specs.CommandLine.{order_view};
 ghost use Rattle.csdf_tool.specs.Acts.{Act, Asks, OnlyReads, devices, marks};
 ghost use Rattle.csdf_tool.specs.GraphFiles.{is_input};
 ghost use Rattle.csdf_tool.specs.Reports.{TellsReport};
-ghost use Rattle.csdf_tool.specs.Running.{EndsBeforeFiles, EndsOnFiles, IsCutShort, IsFeedMissing, IsReadAfter, LacksFeed, RefusesGraphRun, RunsOn, RunsOnFiles};
+ghost use Rattle.csdf_tool.specs.Running.{AreNamedAlike, EndsBeforeFiles, EndsOnFiles, IsCutShort, IsFeedMissing, IsReadAfter, LacksFeed, RefusesGraphRun, RunsOn, RunsOnFiles};
 ghost use Rattle.csdf_tool.specs.Running.{feed_paths, feed_reads, file_view, files_of, journal_files, put_whole, run_fault, run_reads, sink_files, texts_fault, token_fault};
 
 use crate::disk::Disk;
@@ -24,7 +24,7 @@ use csdf_floor::RunFault;
 use csdf_graph::read_graph;
 use csdf_journal::Keeping;
 use csdf_model::{Actor, Graph, Kernel};
-use csdf_run::{RunOptions, Texts, TextsFault, run_graph_with};
+use csdf_run::{GraphRun, RunOptions, Texts, TextsFault, run_and_hand_back};
 use csdf_words::RunOrder;
 use std::alloc::{AllocError, Global};
 use std::sync::Wait;
@@ -139,17 +139,25 @@ fn keeping_of(journal: Option<&str>) -> Keeping
     }
 }
 
+/// The graph of a run as it was handed back, and what is told of the run.
+#[derive(Drop)]
+struct Ran {
+    graph: Graph,
+    texts: Texts,
+}
+
 /// Runs a graph over the bytes of its sources' token files.
-fn texts_of<R: AllocGlobal + Eprint + Threads + Wait + Sync>(
+fn ran_over<R: AllocGlobal + Eprint + Threads + Wait + Sync>(
     rt: &R,
-    graph: &Graph,
+    graph: Graph,
     feeds: &[Vec<u8>],
     order: RunOrder<'_>,
-) -> Result<Texts, ToolFault>
-    ensures told { IfOk result (TellGraphRun order.entry.room graph.now (texts_in feeds.now) order.entry.how_long order.entry.firings) }
-    ensures sequential { IfOk result (TellSequentialGraphRun order.entry.room graph.now (texts_in feeds.now) order.entry.how_long order.entry.firings) }
-    ensures kept { IfOk result (λ texts. is_some texts.journal ≡ is_some order.entry.journal) }
-    ensures refused { IfErr result (λ fault. fault ≢ ToolFault.Memory → RefusesGraphRun order.entry.room graph.now (texts_in feeds.now) fault) }
+) -> Result<Ran, ToolFault>
+    ensures told { IfOk result (λ ran. TellGraphRun order.entry.room graph (texts_in feeds.now) order.entry.how_long order.entry.firings ran.texts) }
+    ensures sequential { IfOk result (λ ran. TellSequentialGraphRun order.entry.room graph (texts_in feeds.now) order.entry.how_long order.entry.firings ran.texts) }
+    ensures kept { IfOk result (λ ran. is_some ran.texts.journal ≡ is_some order.entry.journal) }
+    ensures alike { IfOk result (λ ran. AreNamedAlike graph ran.graph) }
+    ensures refused { IfErr result (λ fault. fault ≢ ToolFault.Memory → RefusesGraphRun order.entry.room graph (texts_in feeds.now) fault) }
 {
     let alloc = rt.alloc();
     let options = RunOptions {
@@ -159,21 +167,13 @@ fn texts_of<R: AllocGlobal + Eprint + Threads + Wait + Sync>(
         room: order.room,
         keeping: keeping_of(order.journal),
     };
-    let copy = graph.try_copy(alloc)?;
     let progress = Progress::new(rt, order.progress);
-    let texts = run_graph_with(rt, alloc, copy, feeds, options, &progress);
+    let GraphRun { graph, texts } = run_and_hand_back(rt, alloc, graph, feeds, options, &progress);
     progress.end();
     match texts {
-        Ok(texts) => Ok(texts),
-        Err(fault) => Err(texts_fault(alloc, graph, fault)?),
+        Ok(texts) => Ok(Ran { graph, texts }),
+        Err(fault) => Err(texts_fault(alloc, &graph, fault)?),
     }
-}
-
-/// A graph, and what is told of its run.
-#[derive(Drop)]
-struct Ran {
-    graph: Graph,
-    texts: Texts,
 }
 
 /// Reads the files of a run, and runs.
@@ -183,9 +183,10 @@ fn ran_by<R: AllocGlobal + Eprint + Threads + Wait + Sync, D: Disk, I: Intake>(
     order: RunOrder<'_>,
     reader: &mut I,
 ) -> Result<Ran, ToolFault>
-    ensures ran { IfOk result (λ ran. (bytes : List ℕ) × (feeds : List (List ℕ))
-        × RunsOn (order_view order.entry) (I.left reader.old) ran.graph bytes feeds ran.texts
-        × Asks (D.acts disk.old) (D.acts disk.new) (run_reads (order_view order.entry) ran.graph bytes feeds)) }
+    ensures ran { IfOk result (λ ran. (graph : GraphModel) × (bytes : List ℕ) × (feeds : List (List ℕ))
+        × RunsOn (order_view order.entry) (I.left reader.old) graph bytes feeds ran.texts
+        × Asks (D.acts disk.old) (D.acts disk.new) (run_reads (order_view order.entry) graph bytes feeds)
+        × AreNamedAlike graph ran.graph) }
     ensures stopped { IfErr result (EndsBeforeFiles (order_view order.entry) (devices (I.left reader.old) (D.acts disk.old) (D.acts disk.new))
         (I.failed reader.new)) }
     ensures input { is_input order.entry.graph.now ≡ true → I.failed reader.new ≡ true → result ≡ Err (ToolFault.Device Stream.Input) }
@@ -195,8 +196,7 @@ fn ran_by<R: AllocGlobal + Eprint + Threads + Wait + Sync, D: Disk, I: Intake>(
     let bytes = graph_bytes(alloc, disk, order.graph, reader)?;
     let graph = read_graph(alloc, &bytes)?;
     let feeds = feeds_in(alloc, disk, order.folder, graph.actors())?;
-    let texts = texts_of(rt, &graph, &feeds, order)?;
-    Ok(Ran { graph, texts })
+    ran_over(rt, graph, &feeds, order)
 }
 
 /// A file that is to be put: its folder, its name there and its text.

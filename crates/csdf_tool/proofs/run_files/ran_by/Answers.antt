@@ -1,4 +1,5 @@
 use Rattle.std.proofs.Common.{ap, map, refl, sym, subst, inl, ◌∙◌}
+use Rattle.std.proofs.lemmas.Result.{IfErr-weaker}
 use Rattle.csdf_model.specs.Graph.{actor_view}
 use Rattle.csdf_run.specs.Texts.{texts_in}
 use Rattle.csdf_words.specs.CommandLine.{order_view}
@@ -7,7 +8,7 @@ use Rattle.csdf_answers.specs.Faults.{fault_of}
 use Rattle.csdf_answers.specs.declared.fault.Stream.TheVariants.{Input}
 use Rattle.csdf_answers.specs.declared.fault.ToolFault.TheVariants.{Device}
 use Rattle.csdf_tool.proofs.CauseLemmas.{err_as}
-use Rattle.csdf_tool.proofs.RunLemmas.{is_some-map, run_asks, stops_by_feed, stops_by_graph, stops_by_texts}
+use Rattle.csdf_tool.proofs.RunLemmas.{is_some-map, ran_of_file, run_asks, stops_by_feed, stops_by_graph, stops_by_texts}
 use Rattle.csdf_answers.proofs.ToldLemmas.{if_err_fault}
 use Rattle.csdf_tool.proofs.run_files.ran_by.Goals as goal
 
@@ -38,15 +39,14 @@ returns-in_err-feeds-clause-stopped g c =
     _ _ _ c.in_ok-bytes.ensures.read c.in_ok-graph.graph c.in_ok-graph.ensures c.in_err-feeds.ensures.only (map actor_view c.actors.result.now)
     c.actors.ensures.value c.in_err-feeds.ensures.missing)
 
-pub returns-in_err-texts-clause-stopped : goal.returns-in_err-texts-clause-stopped
-returns-in_err-texts-clause-stopped g c =
-    let fault = c.in_err-texts.field-0.0 in
+pub returns-clause-stopped : goal.returns-clause-stopped
+returns-clause-stopped g c =
     let left = g.I.Intake.left c.args.reader.now in
-    if_err_fault _ fault _ c.from_residual-in_err-texts.ensures.1
-    (stops_by_texts (order_view c.args.order) left _ c.in_ok-bytes.bytes.items c.deref.result.now (sym c.deref.ensures.value) c.in_ok-bytes.ensures.named fault
+    IfErr-weaker c.ran_over.result _ _ (λ fault refused.
+    stops_by_texts (order_view c.args.order) left _ c.in_ok-bytes.bytes.items c.deref.result.now (sym c.deref.ensures.value) c.in_ok-bytes.ensures.named fault
     _ _ _ c.in_ok-bytes.ensures.read c.in_ok-graph.graph c.in_ok-graph.ensures (map actor_view c.actors.result.now) c.actors.ensures.value
     (texts_in c.in_ok-feeds.feeds.items) (texts_in c.deref-2.result.now) (ap texts_in (sym c.deref-2.ensures.value)) c.in_ok-feeds.ensures.read
-    c.in_ok-feeds.ensures.each c.in_err-texts.ensures.refused)
+    c.in_ok-feeds.ensures.each refused) c.ran_over.ensures.refused
 
 pub returns-clause-ran : goal.returns-clause-ran
 returns-clause-ran g c =
@@ -54,19 +54,9 @@ returns-clause-ran g c =
     let graph = c.in_ok-graph.graph in
     let read = c.in_ok-graph.ensures in
     let left = g.I.Intake.left c.args.reader.now in
-    let named = subst (λ bytes. IsNamed c.args.order.graph.now left bytes) (sym c.deref.ensures.value) c.in_ok-bytes.ensures.named in (
-      seen,
-      texts_in c.deref-2.result.now,
-      record {
-        named = named;
-        run = record {
-          graph = read;
-          told = record { graph = graph; read = read; holds = c.in_ok-texts.ensures.told };
-          sequential = record { graph = graph; read = read; holds = c.in_ok-texts.ensures.sequential };
-          kept = c.in_ok-texts.ensures.kept ∙ sym (is_some-map c.args.order.journal);
-        };
-      },
-      run_asks (order_view c.args.order) graph c.in_ok-bytes.bytes.items seen (map actor_view c.actors.result.now) (texts_in c.in_ok-feeds.feeds.items)
-          (texts_in c.deref-2.result.now) _ _ _ c.in_ok-bytes.ensures.read c.in_ok-feeds.ensures.read (sym c.deref.ensures.value) c.actors.ensures.value
-          (ap texts_in (sym c.deref-2.ensures.value)),
-    )
+    let named = subst (λ bytes. IsNamed c.args.order.graph.now left bytes) (sym c.deref.ensures.value) c.in_ok-bytes.ensures.named in
+    let asked = run_asks (order_view c.args.order) graph c.in_ok-bytes.bytes.items seen (map actor_view c.actors.result.now)
+    (texts_in c.in_ok-feeds.feeds.items) (texts_in c.deref-2.result.now) _ _ _ c.in_ok-bytes.ensures.read c.in_ok-feeds.ensures.read
+    (sym c.deref.ensures.value) c.actors.ensures.value (ap texts_in (sym c.deref-2.ensures.value)) in
+    ran_of_file (order_view c.args.order) left graph seen (texts_in c.deref-2.result.now) _ _ _ c.ran_over.result named read asked
+    (is_some-map c.args.order.journal) c.ran_over.ensures.told c.ran_over.ensures.sequential c.ran_over.ensures.kept c.ran_over.ensures.alike
