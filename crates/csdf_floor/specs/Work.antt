@@ -7,6 +7,7 @@ use Rattle.csdf_model.specs.declared.parts.Kernel.TheVariants as kernel
 use Rattle.csdf_model.specs.Graph.{Graph, Actor}
 use Rattle.csdf_analysis.specs.Acceptance.{Accepted, IsAccepted}
 use Rattle.csdf_core.specs.Planned.{is_source_kernel}
+use Rattle.csdf_floor.specs.declared.limits.TheConstants.{MAX_FEED_TOKENS}
 use Rattle.csdf_floor.specs.Journal.{Program, program_for}
 
 -- so many periods of an accepted graph over the contents of its sources' files, and a limit on all firings where there is one
@@ -33,13 +34,13 @@ is_source_of g a = slice_index_or (map (λ (actor : Actor). is_source_kernel act
 
 -- a list can be the feed of the actor
 pub record IsFeed (g : Graph) (a : ℕ) (feed : List ℤ) : Type 0 where
-  pub few : length feed ≤ 1000000
+  pub few : length feed ≤ MAX_FEED_TOKENS
   pub only_source : is_source_of g a ≡ false → feed ≡ []
 
 -- one list for each actor, of at most 1,000,000 tokens, and an empty one for an actor that is no source
 pub record AreFeeds (g : Graph) (feeds : List (List ℤ)) : Type 0 where
   pub each_actor : length feeds ≡ length g.actors
-  pub short : All (λ feed. length feed ≤ 1000000) feeds
+  pub short : All (λ feed. length feed ≤ MAX_FEED_TOKENS) feeds
   pub only_sources : (a : ℕ) → is_source_of g a ≡ false → feed_of feeds a ≡ []
 
 -- in so many periods no actor makes more than 16,384,000 firings

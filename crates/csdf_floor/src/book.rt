@@ -28,7 +28,7 @@ use crate::work::Work;
 use csdf_core::{Core, Stage};
 use csdf_journal::{Journal, Keeping};
 use csdf_kernel::{Counts, Inputs, Job};
-use csdf_model::Kernel;
+use csdf_model::{Kernel, MAX_CHANNELS, MAX_TOKENS_PER_FIRING};
 use std::alloc::{AllocError, Global};
 use std::marker::Model;
 
@@ -350,7 +350,7 @@ impl Book {
     pub(crate) fn output_count(&self, actor: u32) -> usize
         requires { actor < length self.now.shown.core.plan.sources }
         ensures value { result ≡ length (outputs_at self.now.shown.core.plan.channels actor) }
-        ensures few { result ≤ 128 }
+        ensures few { result ≤ MAX_CHANNELS }
     {
         self.work.outputs(actor).len()
     }
@@ -472,8 +472,8 @@ impl Book {
     pub(crate) fn counts_into(&self, actor: u32, counts: &mut Counts) -> Result<(), AllocError>
         requires { actor < length self.now.shown.core.plan.sources }
         ensures value { OnOk result (counts.new.items ≡ output_counts (program self.now.shown.work) actor (count self.now.shown.core.now actor)) }
-        ensures few { OnOk result (length counts.new.items ≤ 128) }
-        ensures small { OnOk result (All (λ n. n ≤ 64) counts.new.items) }
+        ensures few { OnOk result (length counts.new.items ≤ MAX_CHANNELS) }
+        ensures small { OnOk result (All (λ n. n ≤ MAX_TOKENS_PER_FIRING) counts.new.items) }
     {
         self.work.counts_into(actor, self.core.fired(actor), counts)
     }

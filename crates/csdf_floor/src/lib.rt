@@ -32,7 +32,7 @@ pub use laws::{
     quiet_is_exhausted, room_does_not_show, runs_honestly, sequential_is_honest, stay_in_step,
     stays_counted, stays_within,
 };
-pub use limits::{few_in_thousand, may_run, most_periods};
+pub use limits::{MAX_FEED_TOKENS, few_in_thousand, may_run, most_periods};
 pub use outcome::{ChannelReport, Outcome};
 pub use printed::{channel_name, ending_word, printed_report};
 pub use settling::settle;

@@ -1,10 +1,13 @@
-//! How many periods a run may have.
+//! How many tokens a source may have, and how many periods a run.
 
 ghost use Rattle.std.specs.Prelude.{◌≡◌, ◌↔◌, ◌*◌, ◌≤◌, ℕ, IsTrue};
 ghost use Rattle.csdf_floor.specs.Work.{FewInThousand, HasFewFirings, IsMostPeriods};
 
 use csdf_analysis::Accepted;
 use csdf_model::{MAX_FIRINGS_PER_ACTOR, MAX_PERIODS};
+
+/// The most tokens that a source may have: as many as a token file.
+pub const MAX_FEED_TOKENS: usize = 1_000_000;
 
 /// The most periods, of at most 16,384,000, in which an actor that fires so often in each makes no more
 /// firings than that.

@@ -17,7 +17,7 @@ use crate::book::Book;
 use crate::noting::note_firings;
 use csdf_core::{Core, Feedback};
 use csdf_kernel::{Counts, Outputs, eval_loop};
-use csdf_model::Kernel;
+use csdf_model::{Kernel, MAX_CHANNELS, MAX_TOKENS_PER_FIRING};
 use std::alloc::{AllocError, Global};
 
 /// The kernel's values of the actor's next n firings, in the place of what the outputs hold, worked out in the buffer.
@@ -33,8 +33,8 @@ fn own_values(
 ) -> Result<(), AllocError>
     requires feedback { IsFeedback core.now.plan actor feedback }
     requires can { CanGoOn core.now.plan core.now.now actor feedback.channel n }
-    requires few_counts { length counts.now ≤ 128 }
-    requires small_counts { All (λ count. count ≤ 64) counts.now }
+    requires few_counts { length counts.now ≤ MAX_CHANNELS }
+    requires small_counts { All (λ count. count ≤ MAX_TOKENS_PER_FIRING) counts.now }
     requires filter_in_range { HasFilterInRange kernel.now }
     requires part { feedback.before + feedback.taken ≤ sum counts.now }
     requires buffer { length buffer.old ≡ feedback.taken + need actor (count core.now.now actor) core.now.plan.channels + n * feedback.each }

@@ -19,6 +19,7 @@ use crate::book::Book;
 use crate::noting::note_firings;
 use csdf_core::Block;
 use csdf_kernel::{Counts, Outputs, eval_block};
+use csdf_model::{MAX_CHANNELS, MAX_TOKENS_PER_FIRING};
 use std::alloc::{AllocError, Global};
 
 impl Book {
@@ -273,8 +274,8 @@ impl Book {
     fn value_into(&self, actor: u32, counts: &Counts, outputs: &mut Outputs)
         requires exists { actor < length self.now.shown.core.plan.sources }
         requires counts { counts.now.items ≡ output_counts (program self.now.shown.work) actor (count self.now.shown.core.now actor) }
-        requires few_counts { length counts.now.items ≤ 128 }
-        requires small_counts { All (λ n. n ≤ 64) counts.now.items }
+        requires few_counts { length counts.now.items ≤ MAX_CHANNELS }
+        requires small_counts { All (λ n. n ≤ MAX_TOKENS_PER_FIRING) counts.now.items }
         requires few { length (slice_index_or self.now.reads actor []) ≤ 8192 }
         requires room { gift actor (count self.now.shown.core.now actor) self.now.shown.core.plan.channels ≤ outputs.old.capacity }
         ensures { outputs.new.items ≡ value (program self.now.shown.work) actor (count self.now.shown.core.now actor)
@@ -306,8 +307,8 @@ impl Book {
         ensures greater { self.old.room ≤ self.new.room }
         ensures width { OnOk result (gift actor (count self.old.shown.core.now actor) self.old.shown.core.plan.channels ≤ self.new.width) }
         ensures counts { OnOk result (counts.new.items ≡ output_counts (program self.old.shown.work) actor (count self.old.shown.core.now actor)) }
-        ensures few_counts { OnOk result (length counts.new.items ≤ 128) }
-        ensures small_counts { OnOk result (All (λ n. n ≤ 64) counts.new.items) }
+        ensures few_counts { OnOk result (length counts.new.items ≤ MAX_CHANNELS) }
+        ensures small_counts { OnOk result (All (λ n. n ≤ MAX_TOKENS_PER_FIRING) counts.new.items) }
         ensures outputs { OnOk result (gift actor (count self.old.shown.core.now actor) self.old.shown.core.plan.channels ≤ outputs.new.capacity) }
     {
         self.counts_into(actor, counts)?;

@@ -10,6 +10,7 @@ ghost use Rattle.csdf_floor.specs.Making.{amount_of, amounts_of, made_value, pha
 ghost use Rattle.csdf_floor.specs.Work.{feed_of, program};
 
 use crate::book::Book;
+use crate::limits::MAX_FEED_TOKENS;
 use crate::work::Work;
 use csdf_core::Block;
 use csdf_kernel::{Counts, Outputs, push_value};
@@ -84,7 +85,7 @@ impl Book {
     /// for a source the next part of its file.
     fn block_inputs(&self, actor: u32, written: usize) -> &[i32]
         requires exists { actor < length self.now.shown.core.plan.sources }
-        requires small { is_source (program self.now.shown.work).plan actor ≡ true → written ≤ 1_000_000 }
+        requires small { is_source (program self.now.shown.work).plan actor ≡ true → written ≤ MAX_FEED_TOKENS }
         ensures read { is_source (program self.now.shown.work).plan actor ≡ false → result.now ≡ slice_index_or self.now.reads actor [] }
         ensures fed { is_source (program self.now.shown.work).plan actor ≡ true → result.now
             ≡ slice_range (feed_of self.now.shown.work.feeds actor)

@@ -18,11 +18,14 @@ ghost use Rattle.csdf_floor.specs.Inside.{AreFeedbacks};
 ghost use Rattle.csdf_floor.specs.Journal.{output_counts, program_for};
 ghost use Rattle.csdf_floor.specs.Work.{AreFeeds, HasFewFirings, IsFeed, IsWork, feeds_in, feed_of, is_sink_kernel, program};
 
+use crate::limits::MAX_FEED_TOKENS;
 use crate::same::{are_same_feeds, is_same_accepted, is_same_limit};
 use csdf_analysis::Accepted;
 use csdf_core::{Core, Feedback};
 use csdf_kernel::Counts;
-use csdf_model::{Actor, Channel, Graph, Kernel};
+use csdf_model::{
+    Actor, Channel, Graph, Kernel, MAX_CHANNELS, MAX_FIRINGS_PER_ACTOR, MAX_TOKENS_PER_FIRING,
+};
 use std::alloc::{AllocError, Global};
 use std::marker::Model;
 
@@ -75,7 +78,7 @@ fn part_of(feed: &[i32], from: usize, to: usize) -> &[i32]
 fn limits_of(alloc: Global, accepted: &Accepted, periods: u32) -> Result<Vec<u32>, AllocError>
     requires { HasFewFirings accepted.now periods }
     ensures value { IfOk result (λ limits. limits.items ≡ map (λ q. periods * q) accepted.now.q) }
-    ensures few { IfOk result (λ limits. All (λ n. n ≤ 16_384_000) limits.items) }
+    ensures few { IfOk result (λ limits. All (λ n. n ≤ MAX_FIRINGS_PER_ACTOR) limits.items) }
     ensures each_actor { length accepted.now.q ≡ length accepted.now.graph.actors }
 {
     let firings = accepted.vector().q.as_slice();
@@ -88,7 +91,7 @@ fn limits_of(alloc: Global, accepted: &Accepted, periods: u32) -> Result<Vec<u32
 
 /// How many tokens there are for each actor.
 fn supplies_of(alloc: Global, feeds: &[Vec<i32>]) -> Result<Vec<u32>, AllocError>
-    requires { All (λ feed. length feed ≤ 1_000_000) (feeds_in feeds.now) }
+    requires { All (λ feed. length feed ≤ MAX_FEED_TOKENS) (feeds_in feeds.now) }
     ensures { IfOk result (λ supply. supply.items ≡ map length (feeds_in feeds.now)) }
 {
     let mut supply = Vec::new(alloc);
@@ -219,7 +222,7 @@ impl Work {
         requires { actor < length self.now.accepted.graph.actors }
         ensures value { result.now ≡ outputs_at (program self.now).plan.channels actor }
         ensures within { All (λ c. c < length (program self.now).plan.channels) result.now }
-        ensures few { length result.now ≤ 128 }
+        ensures few { length result.now ≤ MAX_CHANNELS }
     {
         self.accepted.graph().outputs(actor)
     }
@@ -229,7 +232,7 @@ impl Work {
         requires { actor < length self.now.accepted.graph.actors }
         ensures value { result.now ≡ inputs_at (program self.now).plan.channels actor }
         ensures within { All (λ c. c < length (program self.now).plan.channels) result.now }
-        ensures few { length result.now ≤ 128 }
+        ensures few { length result.now ≤ MAX_CHANNELS }
     {
         self.accepted.graph().inputs(actor)
     }
@@ -239,8 +242,8 @@ impl Work {
         requires { channel < length (program self.now).plan.channels }
         ensures value { slice_get (program self.now).plan.channels channel
             ≡ Some (with_capacity (channel_view result.now, capacity_of (program self.now).plan channel)) }
-        ensures produce { All (λ n. n ≤ 64) result.now.produce.items }
-        ensures consume { All (λ n. n ≤ 64) result.now.consume.items }
+        ensures produce { All (λ n. n ≤ MAX_TOKENS_PER_FIRING) result.now.produce.items }
+        ensures consume { All (λ n. n ≤ MAX_TOKENS_PER_FIRING) result.now.consume.items }
     {
         &self.accepted.graph().channels()[channel as usize]
     }
@@ -264,7 +267,7 @@ impl Work {
     /// How many tokens so many firings of its producer put into the channel.
     pub(crate) fn produced(&self, channel: u32, firings: u32) -> u32
         requires exists { channel < length (program self.now).plan.channels }
-        requires few { firings ≤ 16_384_000 }
+        requires few { firings ≤ MAX_FIRINGS_PER_ACTOR }
         ensures { result ≡ total (produce_at (program self.now).plan.channels channel) firings }
     {
         self.channel(channel).produced(firings) as u32
@@ -273,7 +276,7 @@ impl Work {
     /// How many tokens so many firings of its consumer take out of the channel.
     pub(crate) fn consumed(&self, channel: u32, firings: u32) -> u32
         requires exists { channel < length (program self.now).plan.channels }
-        requires few { firings ≤ 16_384_000 }
+        requires few { firings ≤ MAX_FIRINGS_PER_ACTOR }
         ensures { result ≡ total (consume_at (program self.now).plan.channels channel) firings }
     {
         self.channel(channel).consumed(firings) as u32
@@ -283,7 +286,7 @@ impl Work {
     fn production(&self, channel: u32, firing: u32) -> u32
         requires { channel < length (program self.now).plan.channels }
         ensures value { result ≡ give_at (program self.now).plan.channels firing channel }
-        ensures small { result ≤ 64 }
+        ensures small { result ≤ MAX_TOKENS_PER_FIRING }
     {
         self.channel(channel).production(firing)
     }
@@ -292,7 +295,7 @@ impl Work {
     fn consumption(&self, channel: u32, firing: u32) -> u32
         requires { channel < length (program self.now).plan.channels }
         ensures value { result ≡ take_at (program self.now).plan.channels firing channel }
-        ensures small { result ≤ 64 }
+        ensures small { result ≤ MAX_TOKENS_PER_FIRING }
     {
         self.channel(channel).consumption(firing)
     }
@@ -341,8 +344,8 @@ impl Work {
     ) -> Result<(), AllocError>
         requires { actor < length self.now.accepted.graph.actors }
         ensures value { OnOk result (counts.new.items ≡ output_counts (program self.now) actor firing) }
-        ensures few { OnOk result (length counts.new.items ≤ 128) }
-        ensures small { OnOk result (All (λ n. n ≤ 64) counts.new.items) }
+        ensures few { OnOk result (length counts.new.items ≤ MAX_CHANNELS) }
+        ensures small { OnOk result (All (λ n. n ≤ MAX_TOKENS_PER_FIRING) counts.new.items) }
     {
         counts.clear();
         for channel in self.outputs(actor) {
@@ -403,10 +406,10 @@ fn is_feed(graph: &Graph, actor: u32, feed: &[i32]) -> bool
     ensures { IsTrue result ↔ IsFeed graph.now actor feed.now }
 {
     let kernel = &graph.actors()[actor as usize].kernel;
-    feed.len() <= 1_000_000 && (feed.is_empty() || is_source(kernel))
+    feed.len() <= MAX_FEED_TOKENS && (feed.is_empty() || is_source(kernel))
 }
 
-/// Whether the lists can be the feeds of a run of the graph: one for each actor, of at most 1,000,000
+/// Whether the lists can be the feeds of a run of the graph: one for each actor, of at most `MAX_FEED_TOKENS`
 /// tokens, and empty for an actor that is no source.
 pub fn are_feeds(graph: &Graph, feeds: &[Vec<i32>]) -> bool
     ensures { IsTrue result ↔ AreFeeds graph.now (feeds_in feeds.now) }

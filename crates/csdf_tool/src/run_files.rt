@@ -25,7 +25,7 @@ use csdf_graph::read_graph;
 use csdf_journal::Keeping;
 use csdf_model::{Actor, Graph, Kernel};
 use csdf_run::{GraphRun, RunOptions, Texts, TextsFault, run_and_hand_back};
-use csdf_words::RunOrder;
+use csdf_words::RunWords;
 use std::alloc::{AllocError, Global};
 use std::sync::Wait;
 use std::thread::Threads;
@@ -151,7 +151,7 @@ fn ran_over<R: AllocGlobal + Eprint + Threads + Wait + Sync>(
     rt: &R,
     graph: Graph,
     feeds: &[Vec<u8>],
-    order: RunOrder<'_>,
+    order: RunWords<'_>,
 ) -> Result<Ran, ToolFault>
     ensures told { IfOk result (λ ran. TellGraphRun order.entry.room graph (texts_in feeds.now) order.entry.how_long order.entry.firings ran.texts) }
     ensures sequential { IfOk result (λ ran. TellSequentialGraphRun order.entry.room graph (texts_in feeds.now) order.entry.how_long order.entry.firings ran.texts) }
@@ -180,7 +180,7 @@ fn ran_over<R: AllocGlobal + Eprint + Threads + Wait + Sync>(
 fn ran_by<R: AllocGlobal + Eprint + Threads + Wait + Sync, D: Disk, I: Intake>(
     rt: &R,
     disk: &mut D,
-    order: RunOrder<'_>,
+    order: RunWords<'_>,
     reader: &mut I,
 ) -> Result<Ran, ToolFault>
     ensures ran { IfOk result (λ ran. (graph : GraphModel) × (bytes : List ℕ) × (feeds : List (List ℕ))
@@ -220,7 +220,7 @@ fn text_at(texts: &[Vec<u8>], number: usize) -> &[u8]
 /// The file of each sink in the folder that is asked for, in file order.
 fn sink_files<'a>(
     alloc: Global,
-    order: RunOrder<'a>,
+    order: RunWords<'a>,
     actors: &[Actor],
     texts: &'a [Vec<u8>],
 ) -> Result<Vec<SinkFile<'a>>, AllocError>
@@ -267,7 +267,7 @@ fn journal_file<'a>(
 /// The files that a run writes: those of the sinks, and then that of its moves.
 fn files_of<'a>(
     alloc: Global,
-    order: RunOrder<'a>,
+    order: RunWords<'a>,
     ran: &'a Ran,
 ) -> Result<Vec<SinkFile<'a>>, AllocError>
     ensures { IfOk result (λ files. map file_view files.items
@@ -297,7 +297,7 @@ fn put_files<D: Disk>(alloc: Global, disk: &mut D, files: &[SinkFile<'_>]) -> Re
 fn put_sinks<D: Disk>(
     alloc: Global,
     disk: &mut D,
-    order: RunOrder<'_>,
+    order: RunWords<'_>,
     ran: &Ran,
 ) -> Result<(), ToolFault>
     ensures put { OnOk result (Asks (D.acts disk.old) (D.acts disk.new)
@@ -328,7 +328,7 @@ pub(crate) fn run_files<
     D: Disk,
     I: Intake,
     O: Outlet,
->(rt: &R, disk: &mut D, order: RunOrder<'_>, reader: &mut I, out: &mut O) -> Result<(), ToolFault>
+>(rt: &R, disk: &mut D, order: RunWords<'_>, reader: &mut I, out: &mut O) -> Result<(), ToolFault>
     ensures written { OnOk result (RunsOnFiles (order_view order.entry) (devices (I.left reader.old) (D.acts disk.old) (D.acts disk.new))
         (O.written out.old) (O.written out.new)) }
     ensures unwritten { IfErr result (λ fault. fault ≢ ToolFault.Device Stream.Output → out.new ≡ out.old) }
