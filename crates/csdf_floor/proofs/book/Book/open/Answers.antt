@@ -2,7 +2,7 @@ use Rattle.std.proofs.Common.{◌≡◌, ℕ, [], List, length, ap, sym, subst, 
 use Rattle.std.specs.Prelude.{replicate}
 use Rattle.std.proofs.lemmas.List.{length-map}
 use Rattle.csdf_core.specs.Moves.{Move}
-use Rattle.csdf_floor.specs.Work.{Work, program, feeds_in}
+use Rattle.csdf_floor.specs.Work.{Work, feeds_in}
 use Rattle.csdf_floor.specs.Inside.{IsBook}
 use Rattle.csdf_floor.proofs.Books.{book_opened, floor_of}
 use Rattle.csdf_floor.proofs.book.Book.open.Goals as goal
