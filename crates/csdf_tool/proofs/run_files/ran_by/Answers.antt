@@ -1,4 +1,4 @@
-use Rattle.std.proofs.Common.{ap, map, refl, sym, subst, inl, ◌∙◌}
+use Rattle.std.proofs.Common.{ap, map, refl, sym, subst, inl}
 use Rattle.std.proofs.lemmas.Result.{IfErr-weaker}
 use Rattle.csdf_model.specs.Graph.{actor_view}
 use Rattle.csdf_run.specs.Texts.{texts_in}
