@@ -181,8 +181,8 @@ impl Book {
     }
 
     /// How many of its next firings the actor can make at once, at most so many: 0 for an actor with a
-    /// channel to itself (see [`goes_on`](Book::goes_on)), and for one of several phases that can't make
-    /// two, whose block would take longer to find than to make.
+    /// channel to itself (see [`goes_on`](Book::goes_on)). With several phases it may be fewer than it
+    /// can make (see [`phased_block`](Book::phased_block)).
     pub(crate) fn block(&self, actor: u32, most: u32) -> Block
         requires { actor < length self.now.shown.core.plan.sources }
         ensures most { result.firings ≤ most }
@@ -192,14 +192,10 @@ impl Book {
         ensures given { 0 < result.firings → result.given
             ≡ gifts_of self.now.shown.core.plan.channels actor (count self.now.shown.core.now actor) result.firings }
     {
-        if !self.core.has_one_phase(actor) && !self.core.can_fire(actor, 2) {
-            return Block {
-                firings: 0,
-                needed: 0,
-                given: 0,
-            };
+        if self.core.has_one_phase(actor) {
+            return self.core.block(actor, most);
         }
-        self.core.block(actor, most)
+        self.phased_block(actor, most)
     }
 
     /// Makes room for the actor's next n firings, with a buffer for so many tokens, and the closing of its

@@ -1,5 +1,5 @@
-//! The values of the next firings of an actor of several phases, each with its own counts and its own part
-//! of the tokens.
+//! The next firings of an actor of several phases: how many are made at once, and their values, each with
+//! its own counts and its own part of the tokens.
 
 ghost use Rattle.std.specs.Prelude.{◌≡◌, ◌+◌, ◌++◌, ◌^◌, ◌<◌, ◌≤◌, [], false, true, IfOk, OnOk, length, slice_index_or, slice_range};
 ghost use Rattle.smallvec.specs.SmallVec.{HasRoomFor};
@@ -16,6 +16,9 @@ use csdf_core::Block;
 use csdf_kernel::{Counts, Outputs, push_value};
 use csdf_model::MAX_FIRINGS_PER_ACTOR;
 use std::alloc::AllocError;
+
+/// The least number of firings for which a block is looked for where there are several inputs or outputs.
+const LONG_BLOCK: u32 = 8;
 
 impl Work {
     /// How many tokens the firing computes from.
@@ -78,9 +81,126 @@ impl Work {
         }
         Ok(())
     }
+
+    /// How many firings of the actor, from this one on and at most so many, read no more than `held`
+    /// tokens in all and write no more than `room`, and what they move.
+    fn reach(&self, actor: u32, first: u32, most: u32, held: u64, room: u64) -> Block
+        requires exists { actor < length self.now.accepted.graph.actors }
+        requires few { first + most < 2 ^ 32 }
+        ensures most { result.firings ≤ most }
+        ensures needed { result.needed ≡ needs_of (program self.now).plan.channels actor first result.firings }
+        ensures given { result.given ≡ gifts_of (program self.now).plan.channels actor first result.firings }
+    {
+        let mut needed = 0;
+        let mut given = 0;
+        for firings in 0..most {
+            let reads = needed + self.need(actor, first + firings) as u64;
+            let writes = given + self.gift(actor, first + firings) as u64;
+            if reads > held || writes > room {
+                return Block {
+                    firings,
+                    needed,
+                    given,
+                };
+            }
+            needed = reads;
+            given = writes;
+        }
+        Block {
+            firings: most,
+            needed,
+            given,
+        }
+    }
 }
 
 impl Book {
+    /// How many tokens the actor's only input holds; without an input more than can be read, and 0 where
+    /// it has several.
+    fn held(&self, actor: u32) -> u64
+        requires { actor < length self.now.shown.core.plan.sources }
+    {
+        let inputs = self.work.inputs(actor);
+        match inputs.len() {
+            0 => u64::MAX,
+            1 => u64::from(self.core.len(inputs[0])),
+            _ => 0,
+        }
+    }
+
+    /// For how many tokens the actor's only output has room; without an output for more than can be
+    /// written, and for 0 where it has several.
+    fn room(&self, actor: u32) -> u64
+        requires { actor < length self.now.shown.core.plan.sources }
+    {
+        let outputs = self.work.outputs(actor);
+        match outputs.len() {
+            0 => u64::MAX,
+            1 => {
+                let capacity = self.work.capacity(outputs[0]);
+                u64::from(capacity.saturating_sub(self.core.len(outputs[0])))
+            }
+            _ => 0,
+        }
+    }
+
+    /// Of [`block`](Book::block) what is so of an actor of several phases with several inputs or outputs: 0
+    /// where it can't make [`LONG_BLOCK`], which take longer to find than to make.
+    fn wide_block(&self, actor: u32, most: u32) -> Block
+        requires { actor < length self.now.shown.core.plan.sources }
+        ensures most { result.firings ≤ most }
+        ensures can { 0 < result.firings → CanFire self.now.shown.core.plan self.now.shown.core.now actor result.firings }
+        ensures needed { 0 < result.firings → result.needed
+            ≡ needs_of self.now.shown.core.plan.channels actor (count self.now.shown.core.now actor) result.firings }
+        ensures given { 0 < result.firings → result.given
+            ≡ gifts_of self.now.shown.core.plan.channels actor (count self.now.shown.core.now actor) result.firings }
+    {
+        if !self.core.can_fire(actor, LONG_BLOCK) {
+            return Block {
+                firings: 0,
+                needed: 0,
+                given: 0,
+            };
+        }
+        self.core.block(actor, most)
+    }
+
+    /// Of [`block`](Book::block) what is so of an actor of several phases: 0 where it can't make two, and
+    /// where it has several inputs or outputs and can't make [`LONG_BLOCK`].
+    pub(crate) fn phased_block(&self, actor: u32, most: u32) -> Block
+        requires { actor < length self.now.shown.core.plan.sources }
+        ensures most { result.firings ≤ most }
+        ensures can { 0 < result.firings → CanFire self.now.shown.core.plan self.now.shown.core.now actor result.firings }
+        ensures needed { 0 < result.firings → result.needed
+            ≡ needs_of self.now.shown.core.plan.channels actor (count self.now.shown.core.now actor) result.firings }
+        ensures given { 0 < result.firings → result.given
+            ≡ gifts_of self.now.shown.core.plan.channels actor (count self.now.shown.core.now actor) result.firings }
+    {
+        let none = Block {
+            firings: 0,
+            needed: 0,
+            given: 0,
+        };
+        if self.work.inputs(actor).len() > 1 || self.work.outputs(actor).len() > 1 {
+            return self.wide_block(actor, most);
+        }
+        let held = self.held(actor);
+        if held < 2 * self.core.need(actor) as u64 {
+            return none;
+        }
+        let room = self.room(actor);
+        if room < 2 * self.core.gives(actor) as u64 {
+            return none;
+        }
+        let first = self.core.fired(actor);
+        let most = most.min(u32::MAX - first);
+        let block = self.work.reach(actor, first, most, held, room);
+        if block.firings < 2 || !self.core.can_fire(actor, block.firings) {
+            return none;
+        }
+        block
+    }
+
     /// What the actor's next firings compute from, which write so many tokens: what is in its buffer, or
     /// for a source the next part of its file.
     fn block_inputs(&self, actor: u32, written: usize) -> &[i32]

@@ -20,8 +20,7 @@ module _ (c : goal.In_ok-feedbacks) where
   given =
       let plan : Plan = (program_for c.args.accepted.now (feeds_in c.args.feeds.now) c.args.periods c.args.firings).plan in
       let all : AreFeedbacks plan (length plan.sources) c.in_ok-feedbacks.feedbacks.items =
-      subst (λ (p : Plan). AreFeedbacks p (length p.sources) c.in_ok-feedbacks.feedbacks.items) c.requires.core c.in_ok-feedbacks.ensures in
-      (
+      subst (λ (p : Plan). AreFeedbacks p (length p.sources) c.in_ok-feedbacks.feedbacks.items) c.requires.core c.in_ok-feedbacks.ensures in (
         record {
           accepted = c.graph-graph.ensures.accepted;
           fed = c.requires.fed;
