@@ -1,5 +1,5 @@
 //! The outputs of a job, in one list.
-ghost use Rattle.std.specs.Prelude.{◌≡◌, ◌≤◌, ◌<◌, ◌^◌, ◌*◌, ◌++◌, ◌∷◌, ℕ, [], length, sum, unsigned_abs, All, IsOk, IsTrue, OnOk, OnErr};
+ghost use Rattle.std.specs.Prelude.{◌≡◌, ◌≤◌, ◌<◌, ◌^◌, ◌*◌, ◌++◌, ◌∷◌, ℕ, [], length, sum, take, unsigned_abs, All, IsOk, IsTrue, OnOk, OnErr};
 ghost use Rattle.smallvec.specs.SmallVec.{HasRoomFor};
 ghost use Rattle.csdf_kernel.specs.Filter.{IsFilterOf, IsInRange, IsNarrow};
 ghost use Rattle.csdf_kernel.specs.Value.{token_at, value_of, values_of, GivesAsRead, HasFilterInRange};
@@ -195,6 +195,28 @@ fn push_values(
     }
 }
 
+/// Just what firings read, in the place of what the outputs hold: so many firings, each of which writes as
+/// many tokens as it reads.
+///
+/// An error says that memory ran out; then the outputs hold what they held.
+fn push_as_read(
+    need: usize,
+    firings: u32,
+    inputs: &[i32],
+    outputs: &mut Outputs,
+) -> Result<(), AllocError>
+    requires few_inputs { need ≤ 8192 }
+    requires whole { firings * need ≤ length inputs.now }
+    ensures values { OnOk result (outputs.new.items ≡ take (firings * need) inputs.now) }
+    ensures unchanged { OnErr result (outputs.new ≡ outputs.old) }
+    ensures room { firings * need ≤ outputs.old.capacity → IsOk result }
+{
+    let count = firings as usize * need;
+    make_room(outputs, count)?;
+    push_all(outputs, &inputs[..count]);
+    Ok(())
+}
+
 /// The kernel's values of a block of firings with the same counts, end to end, in the place of what
 /// the outputs hold. Each firing has the next `need` of the inputs, and its value is what `eval` gives
 /// for these. It allocates once at most, before the first firing, and not at all where the outputs
@@ -218,6 +240,9 @@ pub fn eval_block(
     ensures unchanged { OnErr result (outputs.new ≡ outputs.old) }
     ensures room { firings * sum counts.now ≤ outputs.old.capacity → IsOk result }
 {
+    if gives_as_read(kernel, counts, need) {
+        return push_as_read(need, firings, inputs, outputs);
+    }
     let filter = filter_of(kernel);
     if are_light(kernel, &filter, counts, firings) {
         return light_values_into(&filter, counts[0], need, firings, inputs, outputs);
@@ -226,10 +251,6 @@ pub fn eval_block(
     if counts.is_empty() {
         return Ok(());
     }
-    if gives_as_read(kernel, counts, need) {
-        push_all(outputs, &inputs[..firings as usize * need]);
-    } else {
-        push_values(outputs, kernel, &filter, counts, need, firings, inputs);
-    }
+    push_values(outputs, kernel, &filter, counts, need, firings, inputs);
     Ok(())
 }

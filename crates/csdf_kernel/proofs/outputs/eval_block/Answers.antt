@@ -27,18 +27,15 @@ returns-then-is_empty-clause-values c =
     let none = no_counts c.args.counts.now c.if-is_empty.ensures in
     c.in_ok-make_room.ensures.items ∙ sym (values_unwritten c.args.kernel.now c.args.counts.now c.args.need c.args.firings c.args.inputs.now none)
 
-pub push_all-requires : goal.push_all-requires
-push_all-requires c =
-    let n = c.args.firings * c.args.need in
-    let long = length-take-le n c.args.inputs.now c.requires.whole in
-    let many = ap (λ k. c.args.firings * k) (c.if-gives_as_read.ensures.many refl) in
-    let total = ap (λ k. c.args.firings * k) c.total_of.ensures in
-    subst (HasRoomFor c.make_room.new.outputs) (total ∙ many ∙ sym long) c.in_ok-make_room.ensures.room
-
 pub returns-then-gives_as_read-clause-values : goal.returns-then-gives_as_read-clause-values
 returns-then-gives_as_read-clause-values c =
-    c.push_all.ensures ∙ ap (λ xs. xs ++ take (c.args.firings * c.args.need) c.args.inputs.now) c.in_ok-make_room.ensures.items
-    ∙ sym (values_as_read c.args.kernel.now c.args.counts.now c.args.need c.args.firings c.args.inputs.now (c.if-gives_as_read.ensures.as_read refl) c.requires.whole)
+    subst (λ (xs : List ℤ). OnOk c.push_as_read.result (c.push_as_read.new.outputs.items ≡ xs))
+    (sym (values_as_read c.args.kernel.now c.args.counts.now c.args.need c.args.firings c.args.inputs.now (c.if-gives_as_read.ensures.as_read refl) c.requires.whole))
+    c.push_as_read.ensures.values
+
+pub returns-then-gives_as_read-clause-room : goal.returns-then-gives_as_read-clause-room
+returns-then-gives_as_read-clause-room c enough =
+    c.push_as_read.ensures.room (subst (λ (k : ℕ). c.args.firings * k ≤ c.args.outputs.now.capacity) (c.if-gives_as_read.ensures.many refl) enough)
 
 pub returns-then-are_light-clause-values : goal.returns-then-are_light-clause-values
 returns-then-are_light-clause-values c =
