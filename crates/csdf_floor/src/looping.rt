@@ -68,10 +68,10 @@ impl Book {
         ensures can { IfSome result (λ r. CanGoOn self.now.shown.core.plan self.now.shown.core.now actor r.0.channel r.1) }
         ensures other { IfSome result (λ r. is_sink_kernel (slice_index_or (program self.now.shown.work).kernels actor Sink) ≡ false) }
     {
+        let feedback = self.work.feedback(actor)?;
         if self.work.is_sink(actor) {
             return None;
         }
-        let feedback = self.work.feedback(actor)?;
         let n = self.core.goes_on(actor, feedback, most);
         if n == 0 {
             return None;
