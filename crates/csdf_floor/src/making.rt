@@ -192,7 +192,7 @@ impl Book {
         ensures given { 0 < result.firings → result.given
             ≡ gifts_of self.now.shown.core.plan.channels actor (count self.now.shown.core.now actor) result.firings }
     {
-        if self.core.has_one_phase(actor) {
+        if self.core.has_one_phase(actor) || self.is_wide_and_long(actor) {
             return self.core.block(actor, most);
         }
         self.phased_block(actor, most)

@@ -144,29 +144,19 @@ impl Book {
         }
     }
 
-    /// Of [`block`](Book::block) what is so of an actor of several phases with several inputs or outputs: 0
-    /// where it can't make [`LONG_BLOCK`], which take longer to find than to make.
-    fn wide_block(&self, actor: u32, most: u32) -> Block
+    /// Whether the actor has several inputs or outputs and can make [`LONG_BLOCK`]: fewer take longer to
+    /// find than to make.
+    pub(crate) fn is_wide_and_long(&self, actor: u32) -> bool
         requires { actor < length self.now.shown.core.plan.sources }
-        ensures most { result.firings ≤ most }
-        ensures can { 0 < result.firings → CanFire self.now.shown.core.plan self.now.shown.core.now actor result.firings }
-        ensures needed { 0 < result.firings → result.needed
-            ≡ needs_of self.now.shown.core.plan.channels actor (count self.now.shown.core.now actor) result.firings }
-        ensures given { 0 < result.firings → result.given
-            ≡ gifts_of self.now.shown.core.plan.channels actor (count self.now.shown.core.now actor) result.firings }
     {
-        if !self.core.can_fire(actor, LONG_BLOCK) {
-            return Block {
-                firings: 0,
-                needed: 0,
-                given: 0,
-            };
+        if self.work.inputs(actor).len() <= 1 && self.work.outputs(actor).len() <= 1 {
+            return false;
         }
-        self.core.block(actor, most)
+        self.core.can_fire(actor, LONG_BLOCK)
     }
 
     /// Of [`block`](Book::block) what is so of an actor of several phases: 0 where it can't make two, and
-    /// where it has several inputs or outputs and can't make [`LONG_BLOCK`].
+    /// where it has several inputs or outputs.
     pub(crate) fn phased_block(&self, actor: u32, most: u32) -> Block
         requires { actor < length self.now.shown.core.plan.sources }
         ensures most { result.firings ≤ most }
@@ -181,9 +171,6 @@ impl Book {
             needed: 0,
             given: 0,
         };
-        if self.work.inputs(actor).len() > 1 || self.work.outputs(actor).len() > 1 {
-            return self.wide_block(actor, most);
-        }
         let held = self.held(actor);
         if held < 2 * self.core.need(actor) as u64 {
             return none;
