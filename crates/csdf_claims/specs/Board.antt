@@ -5,6 +5,7 @@ use Rattle.std.specs.Prelude.{slice_index, slice_index_or, slice_set, if◌then�
 use Rattle.std.specs.List.{range_with_len}
 use mathlib.Core.Option.{some}
 use lib.ListN.{get_elem?}
+use Rattle.csdf_model.specs.declared.limits.TheConstants.{MAX_FIRINGS_PER_ACTOR}
 use Rattle.csdf_claims.specs.declared.rule.Track.{Track}
 use Rattle.csdf_claims.specs.declared.rule.View.{View}
 
@@ -56,7 +57,7 @@ word_of words a = slice_index words (a + 1)
 pub record IsLawful (actors : ℕ) (words : List ℕ) (places : List View) : Type 0 where
   pub count : length words ≡ actors + 1
   pub spare : slice_index words 0 ≡ 0
-  pub within : (a : ℕ) → a < actors → word_of words a ≤ 32768002
+  pub within : (a : ℕ) → a < actors → word_of words a ≤ 2 * (MAX_FIRINGS_PER_ACTOR + 1)
   pub each : (a : ℕ) → a < actors → IsLawfulAt places a (word_of words a / 2) (word_of words a % 2)
 
 -- the place v is one of the places of this lawful board

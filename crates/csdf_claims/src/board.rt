@@ -15,8 +15,12 @@ ghost use Rattle.csdf_claims.specs.declared.rule.View.{View};
 use crate::place::{Entry, Place, blank_entries};
 use crate::rule::{Beside, Claim, Finish, GiveUp, Law, Look, Stand, Together, View};
 use atomic_table::{Closed, Seat, Table};
+use csdf_model::{MAX_ACTORS, MAX_FIRINGS_PER_ACTOR};
 use std::alloc::{AllocError, Global};
 use std::marker::Model;
+
+// The words of a board of the most actors, with the spare one.
+const MOST_WORDS: usize = MAX_ACTORS + 1;
 
 /// The board: a word for each actor, and one spare word, number 0, which belongs to no actor and stays 0.
 ///
@@ -30,6 +34,7 @@ pub struct Board {
 
 impl Model for Board {
     ghost use Rattle.std.specs.Prelude.{◌≡◌, ◌+◌, ◌≤◌};
+    ghost use Rattle.csdf_model.specs.declared.limits.TheConstants.{MAX_ACTORS};
     ghost use Rattle.csdf_claims.specs.Face.{BoardFace};
 
     ghost Value = { BoardFace };
@@ -37,7 +42,7 @@ impl Model for Board {
     ghost view = { λ b. record { id = b.table.shared.table_id; actors = b.table.shared.key } };
 
     ghost invariant = { λ b. (b.table.shared.table_id.words ≡ b.table.shared.key + 1)
-        × (b.table.shared.table_id.slots ≡ 0) × (b.table.shared.key ≤ 64) × (b.actors ≡ b.table.shared.key) };
+        × (b.table.shared.table_id.slots ≡ 0) × (b.table.shared.key ≤ MAX_ACTORS) × (b.actors ≡ b.table.shared.key) };
 }
 
 /// Why a claim was lost.
@@ -57,14 +62,14 @@ impl Board {
     /// A board on which every actor is idle at firing 0, and its first place, which holds, has finished and has
     /// seen nothing. `AllocError` where memory runs out.
     pub fn new(alloc: Global, actors: u32) -> Result<(Board, Place), AllocError>
-        requires { actors ≤ 64 }
+        requires { actors ≤ MAX_ACTORS }
         ensures actors { IfOk result (λ r. r.0.actors ≡ actors) }
         ensures board { IfOk result (λ r. r.1.board ≡ r.0.id) }
         ensures view { IfOk result (λ r. r.1.view ≡ opening_view actors) }
         ensures words { IfOk result (λ r. IsNew r.1.view) }
     {
         let entries = blank_entries(alloc, actors as usize)?;
-        let zeros = [0; 65];
+        let zeros = [0; MOST_WORDS];
         let words = &zeros[..actors as usize + 1];
         let (table, seat) = open_table(alloc, words, actors)?;
         Ok((Board { table, actors }, Place { entries, seat }))
@@ -73,7 +78,7 @@ impl Board {
     /// How many actors the board has.
     pub fn actors(&self) -> u32
         ensures value { result ≡ self.now.actors }
-        ensures few { result ≤ 64 }
+        ensures few { result ≤ MAX_ACTORS }
     {
         self.actors
     }
@@ -83,7 +88,7 @@ impl Board {
     pub fn try_claim(&self, place: &mut Place, actor: u32, firing: u32) -> Result<(), Lost>
         requires place { place.old.board ≡ self.now.id }
         requires actor { actor < self.now.actors }
-        requires firing { firing ≤ 16384000 }
+        requires firing { firing ≤ MAX_FIRINGS_PER_ACTOR }
         ensures board { place.new.board ≡ place.old.board }
         ensures answer { MatchResult result (λ _. place.new.view.found ≡ 2 * firing) (LostBy firing place.new.view.found) }
         ensures won { IfOk result (λ _. place.new.view ≡ claimed place.old.view actor firing) }
@@ -128,7 +133,7 @@ impl Board {
         requires actor { actor < self.now.actors }
         requires held { IsHolding place.old.view actor }
         requires count { 1 ≤ count }
-        requires fits { (k : ℕ) → 1 < count → Holds place.old.view actor k → k + count ≤ 16384001 }
+        requires fits { (k : ℕ) → 1 < count → Holds place.old.view actor k → k + count ≤ MAX_FIRINGS_PER_ACTOR + 1 }
         ensures board { place.new.board ≡ place.old.board }
         ensures view { (k : ℕ) → Holds place.old.view actor k → place.new.view ≡ finished_block place.old.view actor k count }
         ensures left { (k : ℕ) → Holds place.old.view actor k → Finds place.new.view actor (2 * (k + count)) }
@@ -267,7 +272,7 @@ fn open_table(
 
 // What a word says that was found in place of an idle one.
 fn lost_by(found: u64) -> Lost
-    requires { found ≤ 32768002 }
+    requires { found ≤ 2 * (MAX_FIRINGS_PER_ACTOR + 1) }
     ensures { (k : ℕ) → found ≢ 2 * k → LostBy k found result }
 {
     let at = (found / 2) as u32;
@@ -299,8 +304,8 @@ fn add_entries(entries: &mut [Entry], others: &[Entry])
 fn first_missing(closed: &Closed<(), Global>, entries: &[Entry]) -> Option<Missing>
     requires full { IsFull closed.now.words }
     requires length { length entries.now + 1 ≡ slots_len closed.now.words }
-    requires actors { length entries.now ≤ 64 }
-    requires fits { (i : ℕ) → i < length entries.now → slice_index (slots_items closed.now.words) (i + 1) ≤ 32768002 }
+    requires actors { length entries.now ≤ MAX_ACTORS }
+    requires fits { (i : ℕ) → i < length entries.now → slice_index (slots_items closed.now.words) (i + 1) ≤ 2 * (MAX_FIRINGS_PER_ACTOR + 1) }
     ensures none { MatchOption result (CountsTo (length entries.now) entries.now (slots_items closed.now.words)) (λ _. Unit {0}) }
     ensures some { IfSome result (λ m. (m.0 < length entries.now) × (m.1 ≡ word_of (slots_items closed.now.words) m.0 / 2)
         × ((d : Entry) → (slice_index_or entries.now m.0 d).finished ≢ m.1)) }

@@ -27,6 +27,10 @@ pub const MAX_SHIFT: u32 = 31;
 /// The most tokens that a firing puts into a channel, or takes out of one.
 pub const MAX_TOKENS_PER_FIRING: u32 = 64;
 
+/// The most tokens that a firing takes out of all its inputs, or puts into all its outputs: those of
+/// a channel for each of the most channels.
+pub const MAX_TOTAL_PER_FIRING: usize = 8_192;
+
 /// The most tokens that a channel begins with.
 pub const MAX_INITIAL_TOKENS: usize = 256;
 
@@ -47,6 +51,10 @@ pub const MAX_SCRIPT_LINES: usize = 100_000;
 
 /// The most times that an actor goes through its phases in a period.
 pub const MAX_CYCLES_PER_PERIOD: u32 = 1_024;
+
+/// The most firings of all actors in a period: those of the most phases, as often as they may be
+/// gone through, for each of the most actors.
+pub const MAX_FIRINGS_PER_PERIOD: u32 = 1_048_576;
 
 /// The most firings of an actor in a run: those of the most phases, as often as they may be gone
 /// through, in each of the most periods.

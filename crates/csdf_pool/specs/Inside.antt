@@ -1,5 +1,6 @@
 -- What the tables of a pool show, and the facts that every pool keeps.
 use Rattle.std.specs.Prelude.{◌≡◌, ℕ, ◌<◌, ◌≤◌, ℤ, pos, List, length, map, slice_index_or}
+use Rattle.csdf_model.specs.declared.limits.TheConstants.{MAX_CELLS}
 use Rattle.csdf_pool.specs.declared.ends.Ends.{Ends}
 use Rattle.csdf_pool.specs.Chains.{cells_of, IsChain}
 use Rattle.csdf_pool.specs.Pool.{Held, Shared, IsPartition}
@@ -27,7 +28,7 @@ shared_of links tokens chains free = record {
 -- the tables are alike in length, each chain and the free list is one, and the cells are shared out
 pub record IsSound (links : List ℕ) (tokens : List ℤ) (chains : List Ends) (free : Ends) : Type 0 where
   pub same_size : length tokens ≡ length links
-  pub size_fits : length links ≤ 8388480
+  pub size_fits : length links ≤ MAX_CELLS
   pub each_chain : (i : ℕ) → i < length chains → IsChain links (slice_index_or chains i no_cells)
   pub free_chain : IsChain links free
   pub partition : IsPartition (shared_of links tokens chains free)

@@ -8,6 +8,7 @@ ghost use Rattle.csdf_pool.specs.Pool.{chain_of, held_cells, held_tokens, IsPart
 use crate::ends::{Ends, move_cells};
 use crate::fill::{copy_out, end_after, fill};
 use crate::iters::{Cells, Tokens};
+use csdf_model::{MAX_CELLS, MAX_CHANNELS};
 use std::alloc::{AllocError, Global};
 use std::marker::Model;
 
@@ -39,7 +40,7 @@ impl Model for Pool {
 
 // Links by which each cell is followed by the next higher one.
 fn ascending_links(alloc: Global, cells: u32) -> Result<Vec<u32>, AllocError>
-    requires { cells ≤ 8_388_480 }
+    requires { cells ≤ MAX_CELLS }
     ensures { IfOk result (λ links. links.items ≡ range_with_len 1 cells) }
 {
     let mut links = Vec::with_capacity(alloc, cells as usize)?;
@@ -53,8 +54,8 @@ impl Pool {
     /// A pool of so many cells, at most 8,388,480 and all of them free in ascending order, and of
     /// so many chains, at most 128 and all of them empty.
     pub fn new(alloc: Global, cells: u32, chains: u32) -> Result<Pool, AllocError>
-        requires few_cells { cells ≤ 8_388_480 }
-        requires few_chains { chains ≤ 128 }
+        requires few_cells { cells ≤ MAX_CELLS }
+        requires few_chains { chains ≤ MAX_CHANNELS }
         ensures size { IfOk result (λ pool. pool.size ≡ cells) }
         ensures chains { IfOk result (λ pool. pool.chains ≡ replicate chains []) }
         ensures free { IfOk result (λ pool. pool.free ≡ range_with_len 0 cells) }
