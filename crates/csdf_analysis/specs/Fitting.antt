@@ -1,6 +1,6 @@
 -- What a run plays: channels and the firings of a period, within the limits of a graph.
 use Rattle.std.specs.Prelude.{◌≡◌, ℕ, ◌<◌, ◌≤◌, List, length, All, sum, slice_index}
-use Rattle.csdf_model.specs.declared.limits.TheConstants.{MAX_ACTORS, MAX_CHANNELS, MAX_TOKENS_PER_FIRING}
+use Rattle.csdf_model.specs.declared.limits.TheConstants.{MAX_ACTORS, MAX_CHANNELS, MAX_FIRINGS_PER_PERIOD, MAX_TOKENS_PER_FIRING}
 use Rattle.csdf_model.specs.Graph.{Actor, Channel, phases_of}
 use Rattle.csdf_model.specs.Rates.{produced}
 use Rattle.csdf_analysis.specs.Repetition.{HaveRoom}
@@ -25,7 +25,7 @@ pub record IsFit (channels : List Channel) (q : List ℕ) : Type 0 where
   pub few_actors : length q ≤ MAX_ACTORS
   pub room : HaveRoom q channels
   pub some_put : All (λ c. 1 ≤ produced c (slice_index q c.from)) channels
-  pub total : sum q ≤ 1048576
+  pub total : sum q ≤ MAX_FIRINGS_PER_PERIOD
 
 -- each actor has a phase, and each channel a rate for each phase of its producer and of its consumer
 pub record IsPhased (actors : List Actor) (channels : List Channel) (q : List ℕ) : Type 0 where

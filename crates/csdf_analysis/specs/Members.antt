@@ -2,7 +2,7 @@
 use Rattle.std.specs.Prelude.{◌≡◌, ℕ, ◌*◌, ◌/◌, ◌<◌, ◌≤◌, ◌==◌, if◌then◌else◌, List, [], ◌∷◌, ◌++◌, length, map, All, Option, Some, None, slice_index}
 use Rattle.std.specs.Prelude.{slice_index_or}
 use Rattle.std.specs.List.{range_with_len}
-use Rattle.csdf_model.specs.declared.limits.TheConstants.{MAX_CYCLES_PER_PERIOD}
+use Rattle.csdf_model.specs.declared.limits.TheConstants.{MAX_CYCLES_PER_PERIOD, MAX_PHASES, MAX_TOKENS_PER_FIRING}
 use Rattle.csdf_model.specs.Graph.{Actor, Channel}
 use Rattle.csdf_analysis.specs.declared.members.Member.{Member}
 use Rattle.csdf_analysis.specs.declared.members.Merge.{Merge}
@@ -14,9 +14,9 @@ pub record IsLink (actors : List Actor) (c : Channel) : Type 0 where
   pub from : c.from < length actors
   pub to : c.to < length actors
   pub some_put : 1 ≤ cycle_produced actors c
-  pub few_put : cycle_produced actors c ≤ 1024
+  pub few_put : cycle_produced actors c ≤ MAX_PHASES * MAX_TOKENS_PER_FIRING
   pub some_taken : 1 ≤ cycle_consumed actors c
-  pub few_taken : cycle_consumed actors c ≤ 1024
+  pub few_taken : cycle_consumed actors c ≤ MAX_PHASES * MAX_TOKENS_PER_FIRING
 
 abbrev pub nobody : Member
 nobody = record { group = 0; entry = 0 }

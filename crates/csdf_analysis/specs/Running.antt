@@ -1,5 +1,6 @@
 -- Where a run of a period stands.
 use Rattle.std.specs.Prelude.{◌≡◌, ℕ, ◌<◌, ◌≤◌, ◌%◌, List, length, sum, slice_index, slice_set, slice_get, Some}
+use Rattle.csdf_model.specs.declared.limits.TheConstants.{MAX_FIRINGS_PER_PERIOD}
 use Rattle.csdf_model.specs.Graph.{Actor, Channel, phases_of}
 use Rattle.csdf_model.specs.Rates.{consumption}
 use Rattle.csdf_analysis.specs.declared.run.Run.{Run}
@@ -33,7 +34,7 @@ pub record IsAt (channels : List Channel) (q bounds counts lengths : List ℕ) (
   pub within : IsWithinAll counts q
   pub held : AreHeld channels counts lengths
   pub counted : firings ≡ sum counts
-  pub few : sum q ≤ 1048576
+  pub few : sum q ≤ MAX_FIRINGS_PER_PERIOD
 
 -- a list has the phase of each actor that has fired so often
 pub record AreInPhase (actors : List Actor) (counts phases : List ℕ) : Type 0 where

@@ -8,7 +8,9 @@ ghost use Rattle.csdf_analysis.specs.Members.{IsLink, AreEntries, AreMembers, Is
 use crate::fault::AcceptFault;
 use crate::gcd::gcd;
 use crate::members::{Member, Merge, alone, merged};
-use csdf_model::{Actor, Channel, MAX_CHANNELS};
+use csdf_model::{
+    Actor, Channel, MAX_CHANNELS, MAX_CYCLES_PER_PERIOD, MAX_PHASES, MAX_TOKENS_PER_FIRING,
+};
 use std::alloc::{AllocError, Global};
 
 /// How many phases an actor has, and none where there is no such actor.
@@ -42,9 +44,9 @@ pub(crate) fn taken_out(actors: &[Actor], channel: &Channel, cycles: u32) -> u64
 /// and take out so many tokens.
 fn merge_of(from: Member, to: Member, put: u64, taken: u64) -> Merge
     requires some_put { 1 ≤ put }
-    requires few_put { put ≤ 1048576 }
+    requires few_put { put ≤ MAX_CYCLES_PER_PERIOD * (MAX_PHASES * MAX_TOKENS_PER_FIRING) }
     requires some_taken { 1 ≤ taken }
-    requires few_taken { taken ≤ 1048576 }
+    requires few_taken { taken ≤ MAX_CYCLES_PER_PERIOD * (MAX_PHASES * MAX_TOKENS_PER_FIRING) }
     ensures { IsMergeOf from to put taken result }
 {
     let divisor = gcd(put, taken);

@@ -1,12 +1,14 @@
-//! Sets of up to 64 actors as the bits of one number.
+//! Sets of actors as the bits of one number, which has a bit for each actor that a graph may have.
 
 ghost use Rattle.std.specs.Prelude.{◌≡◌, ◌⊎◌, ◌<◌, ◌≤◌, ℕ, IfSome, MatchOption};
 ghost use Rattle.csdf_analysis.specs.Waking.{AreActors, IsIn, IsLowest};
 
+use csdf_model::MAX_ACTORS;
+
 /// The set with the actor.
 #[inline(always)]
 pub fn with_actor(mask: u64, actor: u32) -> u64
-    requires { actor < 64 }
+    requires { actor < MAX_ACTORS }
     ensures added { IsIn result actor }
     ensures kept { (a : ℕ) → IsIn mask a → IsIn result a }
     ensures others { (a : ℕ) → IsIn result a → (a ≡ actor) ⊎ IsIn mask a }
@@ -49,7 +51,7 @@ pub fn apart(mask: u64, other: u64) -> u64
 #[inline(always)]
 pub fn lowest(mask: u64) -> Option<u32>
     ensures answer { MatchOption result ((a : ℕ) → IsIn mask a → ⊥) (IsLowest mask) }
-    ensures few { IfSome result (λ actor. actor < 64) }
+    ensures few { IfSome result (λ actor. actor < MAX_ACTORS) }
 {
     if mask == 0 {
         None
@@ -60,7 +62,7 @@ pub fn lowest(mask: u64) -> Option<u32>
 
 /// The first so many actors.
 pub(crate) fn all(actors: usize) -> u64
-    requires { actors ≤ 64 }
+    requires { actors ≤ MAX_ACTORS }
     ensures all { (a : ℕ) → a < actors → IsIn result a }
     ensures actors { AreActors actors result }
 {

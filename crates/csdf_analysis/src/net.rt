@@ -8,7 +8,9 @@ ghost use Rattle.csdf_analysis.specs.Waking.{AreActors, AreWoken, IsIn};
 use crate::balance::phases_of;
 use crate::mask::joined;
 use crate::neighbours::neighbours;
-use csdf_model::{Channel, Graph, MAX_ACTORS, MAX_CHANNELS, MAX_TOKENS_PER_FIRING};
+use csdf_model::{
+    Channel, Graph, MAX_ACTORS, MAX_CHANNELS, MAX_FIRINGS_PER_PERIOD, MAX_TOKENS_PER_FIRING,
+};
 use std::alloc::{AllocError, Global};
 use std::marker::Model;
 
@@ -174,7 +176,7 @@ impl<'a> Net<'a> {
     /// The number of all firings of a period.
     pub(crate) fn total(&self) -> u32
         ensures total { result ≡ sum self.now.firings }
-        ensures few { result ≤ 1048576 }
+        ensures few { result ≤ MAX_FIRINGS_PER_PERIOD }
     {
         self.firings.iter().sum()
     }

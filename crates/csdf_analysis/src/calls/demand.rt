@@ -1,6 +1,6 @@
 //! What a channel asks of its two actors, and what the channels before it ask.
 
-ghost use Rattle.std.specs.Prelude.{All, ◌≡◌, ◌≤◌, ◌<◌, IfErr, IfOk, List, length, map, take};
+ghost use Rattle.std.specs.Prelude.{All, ◌≡◌, ◌*◌, ◌≤◌, ◌<◌, IfErr, IfOk, List, length, map, take};
 ghost use Rattle.csdf_model.specs.Graph.{Channel as ChannelModel, actor_view, channel_view};
 ghost use Rattle.csdf_analysis.specs.Demands.{AskBefore, Asks, IsDemand, IsLowestOf};
 ghost use Rattle.csdf_analysis.specs.Members.{AreEntries, AreMembers, IsLink};
@@ -11,15 +11,15 @@ use crate::demand::{Demand, Ratio};
 use crate::fault::AcceptFault;
 use crate::gcd::gcd;
 use crate::members::Member;
-use csdf_model::{Actor, Channel, Graph, MAX_CHANNELS};
+use csdf_model::{Actor, Channel, Graph, MAX_CHANNELS, MAX_PHASES, MAX_TOKENS_PER_FIRING};
 use std::alloc::Global;
 
 /// The ratio in lowest terms.
 fn lowest_terms(from: u64, to: u64) -> Ratio
     requires some_from { 1 ≤ from }
-    requires few_from { from ≤ 1024 }
+    requires few_from { from ≤ MAX_PHASES * MAX_TOKENS_PER_FIRING }
     requires some_to { 1 ≤ to }
-    requires few_to { to ≤ 1024 }
+    requires few_to { to ≤ MAX_PHASES * MAX_TOKENS_PER_FIRING }
     ensures { IsLowestOf from to result }
 {
     let divisor = gcd(from, to);
