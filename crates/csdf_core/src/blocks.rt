@@ -17,7 +17,7 @@ use crate::several::{fire_each, has_no_loop, have_room_each, hold_each};
 use crate::stage::Stage;
 use crate::transfer::{gift_of, need_of, raise_peaks};
 use crate::turn::{Turn, turn_ahead};
-use csdf_model::{MAX_FIRINGS_PER_ACTOR, MAX_PHASES};
+use csdf_model::{MAX_FIRINGS_PER_ACTOR, MAX_PHASES, MAX_TOTAL_PER_FIRING};
 use csdf_pool::Pool;
 
 /// What so many firings of an actor move in all, and the firing after them.
@@ -47,7 +47,7 @@ fn given_in_all(plan: &Plan, actor: u32, turn: Turn, n: u32) -> u64
     requires actor { actor < length plan.now.sources }
     requires few { turn.firing + n ≤ MAX_FIRINGS_PER_ACTOR }
     ensures value { result ≡ gifts_of plan.now.channels actor turn.firing n }
-    ensures small { result ≤ 8192 * n }
+    ensures small { result ≤ MAX_TOTAL_PER_FIRING * n }
 {
     plan.gives_few();
     let outputs = plan.outputs(actor);
@@ -70,7 +70,7 @@ pub(crate) fn look_ahead(plan: &Plan, actor: u32, turn: Turn, n: u32) -> Ahead
     ensures low { result.next.phase < MAX_PHASES }
     ensures needed { result.needed ≡ needs_of plan.now.channels actor turn.firing n }
     ensures given { result.given ≡ gifts_of plan.now.channels actor turn.firing n }
-    ensures small { result.given ≤ 8192 * n }
+    ensures small { result.given ≤ MAX_TOTAL_PER_FIRING * n }
 {
     Ahead {
         next: turn_ahead(plan, actor, turn, n),
@@ -396,7 +396,7 @@ impl Core {
     /// Whether the source's file has the tokens of its firings, which give so many from now on.
     fn has_supply(&self, actor: u32, more: u64) -> bool
         requires actor { actor < length self.now.plan.sources }
-        requires small { more ≤ 8192 * MAX_FIRINGS_PER_ACTOR }
+        requires small { more ≤ MAX_TOTAL_PER_FIRING * MAX_FIRINGS_PER_ACTOR }
         ensures { IsTrue result ↔ (is_source self.now.plan actor ≡ true
             → given self.now.plan actor (count self.now.now actor) + more ≤ slice_index self.now.plan.supplies actor) }
     {
@@ -420,7 +420,7 @@ impl Core {
 
     /// Whether so many cells are neither held nor reserved.
     pub(crate) fn has_cells(&self, given: u64) -> bool
-        requires { given ≤ 8192 * MAX_FIRINGS_PER_ACTOR }
+        requires { given ≤ MAX_TOTAL_PER_FIRING * MAX_FIRINGS_PER_ACTOR }
         ensures { IsTrue result ↔ held self.now.now + reserved self.now.plan self.now.now + given ≤ self.now.plan.cells }
     {
         if self.used() + given > u64::from(self.plan.cells()) {

@@ -201,7 +201,7 @@ fn copy_other(pool: &Pool, other: Option<u32>, into: &mut [i32])
 fn drop_other(plan: &Plan, pool: &mut Pool, actor: u32, other: Option<u32>, turn: Turn, n: u32)
     requires same { length pool.old.chains ≡ length plan.now.channels }
     requires in_phase { IsInPhase plan.now.channels actor turn.firing turn.phase }
-    requires few { n ≤ 16_384_000 }
+    requires few { n ≤ MAX_FIRINGS_PER_ACTOR }
     requires other { IfSome other (λ c. (c < length plan.now.channels) × (to_at plan.now.channels c ≡ actor)) }
     requires enough { IfSome other (λ c. n * take_at plan.now.channels turn.firing c ≤ length (tokens_at (tokens_in pool.old) c)) }
     requires partition { IsPartition pool.old }
@@ -233,7 +233,7 @@ fn move_on(
     requires actor { actor < length plan.now.sources }
     requires in_phase { IsInPhase plan.now.channels actor turn.firing turn.phase }
     requires same { length pool.old.chains ≡ length plan.now.channels }
-    requires few { n ≤ 16_384_000 }
+    requires few { n ≤ MAX_FIRINGS_PER_ACTOR }
     requires own { feedback.channel < length plan.now.channels }
     requires state { feedback.taken ≤ length (tokens_at (tokens_in pool.old) feedback.channel) }
     requires other { IfSome feedback.other (λ c. (c < length plan.now.channels) × (to_at plan.now.channels c ≡ actor)) }

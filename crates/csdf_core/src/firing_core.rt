@@ -3,7 +3,7 @@
 //! The readers that are marked so are inlined: each firing calls several of them, and a call costs more
 //! than the load that it makes.
 
-ghost use Rattle.std.specs.Prelude.{◌≡◌, ◌-◌, ◌*◌, ◌<◌, ◌≤◌, suc, length, map, sum, IfOk, All, slice_index};
+ghost use Rattle.std.specs.Prelude.{◌≡◌, ◌-◌, ◌*◌, ◌^◌, ◌<◌, ◌≤◌, suc, length, map, sum, IfOk, All, slice_index};
 ghost use Rattle.csdf_pool.specs.Pool.{chain_of, held_cells};
 
 use crate::filling::{blank_lists, filled_pool, first_gifts, first_needs, lengths_of};
@@ -11,7 +11,9 @@ use crate::plan::Plan;
 use crate::stage::Stage;
 use crate::turn::Turn;
 use csdf_analysis::Accepted;
-use csdf_model::{MAX_ACTORS, MAX_CHANNELS, MAX_FIRINGS_PER_ACTOR, MAX_PHASES};
+use csdf_model::{
+    MAX_ACTORS, MAX_CHANNELS, MAX_FIRINGS_PER_ACTOR, MAX_PHASES, MAX_TOTAL_PER_FIRING,
+};
 use csdf_pool::{Cells, Pool};
 use std::alloc::{AllocError, Global};
 use std::marker::Model;
@@ -203,7 +205,7 @@ impl Core {
     pub fn need(&self, actor: u32) -> usize
         ensures value { result ≡ need actor (count self.now.now actor) self.now.plan.channels }
         ensures unknown { length self.now.plan.sources ≤ actor → result ≡ 0 }
-        ensures small { result ≤ 8192 }
+        ensures small { result ≤ MAX_TOTAL_PER_FIRING }
     {
         if actor as usize >= self.needs.len() {
             return 0;
@@ -217,7 +219,7 @@ impl Core {
         ensures value { result ≡ given self.now.plan actor (suc (count self.now.now actor)) - given self.now.plan actor (count self.now.now actor) }
         ensures sum { result ≡ gift actor (count self.now.now actor) self.now.plan.channels }
         ensures unknown { length self.now.plan.sources ≤ actor → result ≡ 0 }
-        ensures small { result ≤ 8192 }
+        ensures small { result ≤ MAX_TOTAL_PER_FIRING }
     {
         if actor as usize >= self.gifts.len() {
             return 0;
@@ -231,7 +233,7 @@ impl Core {
     pub fn written(&self, actor: u32) -> u64
         requires { actor < length self.now.plan.sources }
         ensures value { result ≡ given self.now.plan actor (count self.now.now actor) }
-        ensures small { result ≤ 8192 * 4294967296 }
+        ensures small { result ≤ MAX_TOTAL_PER_FIRING * 2 ^ 32 }
     {
         self.sums[actor as usize]
     }

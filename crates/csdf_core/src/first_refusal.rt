@@ -11,7 +11,7 @@ use crate::readiness::{first_closed, first_full, first_short};
 use crate::refusal::Refusal;
 use crate::stage::Stage;
 use crate::turn::Turn;
-use csdf_model::MAX_CELLS;
+use csdf_model::{MAX_CELLS, MAX_TOTAL_PER_FIRING};
 
 /// Whether the stage is the wanted one.
 #[inline(always)]
@@ -32,7 +32,7 @@ fn is_at_work(stage: Stage) -> bool
 #[inline(always)]
 fn exceeds(cells: u64, used: u64, need: u64, gift: u64) -> bool
     requires used { used ≤ MAX_CELLS }
-    requires gift { gift ≤ 8192 }
+    requires gift { gift ≤ MAX_TOTAL_PER_FIRING }
     ensures { result ≡ exceeds cells used need gift }
 {
     need < gift && cells < used + (gift - need)

@@ -9,7 +9,7 @@ ghost use Rattle.csdf_core.specs.Ports.{inputs_at, take_at, tokens_at, tokens_in
 use crate::plan::Plan;
 use crate::transfer::need_of;
 use crate::turn::{Turn, turn_after};
-use csdf_model::{MAX_CHANNELS, MAX_FIRINGS_PER_ACTOR, MAX_PHASES};
+use csdf_model::{MAX_CHANNELS, MAX_FIRINGS_PER_ACTOR, MAX_PHASES, MAX_TOTAL_PER_FIRING};
 use csdf_pool::{Pool, Tokens};
 
 /// How many tokens the firing takes of these inputs.
@@ -79,7 +79,7 @@ fn slot_of(plan: &Plan, actor: u32, place: usize, turn: Turn) -> Slot
     requires place { place < length (inputs_at plan.now.channels actor) }
     requires in_phase { IsInPhase plan.now.channels actor turn.firing turn.phase }
     ensures slot { IsSlot plan.now.channels actor place turn.firing result.need result.from result.taken }
-    ensures small { result.need ≤ 8192 }
+    ensures small { result.need ≤ MAX_TOTAL_PER_FIRING }
 {
     let inputs = plan.inputs(actor);
     Slot {
@@ -95,10 +95,10 @@ fn slot_after(plan: &Plan, actor: u32, place: usize, other: Turn, slot: Slot, tu
     requires actor { actor < length plan.now.sources }
     requires place { place < length (inputs_at plan.now.channels actor) }
     requires slot { IsSlot plan.now.channels actor place other.firing slot.need slot.from slot.taken }
-    requires small { slot.need ≤ 8192 }
+    requires small { slot.need ≤ MAX_TOTAL_PER_FIRING }
     requires in_phase { IsInPhase plan.now.channels actor turn.firing turn.phase }
     ensures slot { IsSlot plan.now.channels actor place turn.firing result.need result.from result.taken }
-    ensures small { result.need ≤ 8192 }
+    ensures small { result.need ≤ MAX_TOTAL_PER_FIRING }
 {
     if plan.phases(actor) == 1 {
         return slot;

@@ -19,7 +19,7 @@ use crate::turn::Turn;
 use csdf_analysis::Accepted;
 use csdf_model::{
     Channel, Graph, Kernel, MAX_ACTORS, MAX_CHANNELS, MAX_FIRINGS_PER_ACTOR, MAX_PHASES,
-    MAX_TOKENS_PER_FIRING, rate, total,
+    MAX_TOKENS_PER_FIRING, MAX_TOTAL_PER_FIRING, rate, total,
 };
 use std::alloc::{AllocError, Global};
 use std::marker::Model;
@@ -165,7 +165,7 @@ impl Plan {
     /// No firing gives many tokens. The call does nothing.
     #[inline(always)]
     pub(crate) fn gives_few(&self)
-        ensures { (a k : ℕ) → gift a k self.now.channels ≤ 8192 }
+        ensures { (a k : ℕ) → gift a k self.now.channels ≤ MAX_TOTAL_PER_FIRING }
     {
         // Read for the prover: what every graph keeps.
         let _channels = self.graph.channels();

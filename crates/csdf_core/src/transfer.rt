@@ -10,6 +10,7 @@ ghost use Rattle.csdf_core.specs.Ports.{takes_over, taken_over, EnoughOver, puts
 
 use crate::plan::Plan;
 use crate::turn::Turn;
+use csdf_model::MAX_TOTAL_PER_FIRING;
 use csdf_pool::Pool;
 
 /// How many tokens the actor's firing takes.
@@ -17,7 +18,7 @@ pub(crate) fn need_of(plan: &Plan, actor: u32, turn: Turn) -> usize
     requires actor { actor < length plan.now.sources }
     requires in_phase { IsInPhase plan.now.channels actor turn.firing turn.phase }
     ensures value { result ≡ need actor turn.firing plan.now.channels }
-    ensures small { result ≤ 8192 }
+    ensures small { result ≤ MAX_TOTAL_PER_FIRING }
 {
     let inputs = plan.inputs(actor);
     let mut sum = 0;
@@ -32,7 +33,7 @@ pub(crate) fn gift_of(plan: &Plan, actor: u32, turn: Turn) -> usize
     requires actor { actor < length plan.now.sources }
     requires in_phase { IsInPhase plan.now.channels actor turn.firing turn.phase }
     ensures value { result ≡ gift actor turn.firing plan.now.channels }
-    ensures small { result ≤ 8192 }
+    ensures small { result ≤ MAX_TOTAL_PER_FIRING }
 {
     let outputs = plan.outputs(actor);
     let mut sum = 0;
