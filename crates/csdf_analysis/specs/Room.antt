@@ -6,6 +6,7 @@ use Rattle.csdf_model.specs.Rates.{produced}
 use Rattle.csdf_analysis.specs.declared.fault.AcceptFault.{AcceptFault}
 use Rattle.csdf_analysis.specs.declared.fault.AcceptFault.TheVariants as fault
 use Rattle.csdf_analysis.specs.declared.room.Room.{Room}
+use Rattle.csdf_analysis.specs.declared.room.TheConstants.{MOST_CARRIED}
 use Rattle.csdf_analysis.specs.declared.room.Room.TheVariants as room
 use Rattle.csdf_analysis.specs.Acceptance.{Accepted, IsAccepted, IsNotAccepted}
 use Rattle.csdf_analysis.specs.Repetition.{IsRepetition}
@@ -70,12 +71,12 @@ IsGiven c = c.capacity ≢ None
 
 -- in so many periods a channel that was given no capacity carries at most 4,096 tokens
 abbrev pub CarriesFew : List ℕ → ℕ → Channel → Type 0
-CarriesFew q periods c = c.capacity ≡ None → periods * produced c (slice_index q c.from) ≤ 4096
+CarriesFew q periods c = c.capacity ≡ None → periods * produced c (slice_index q c.from) ≤ MOST_CARRIED
 
 -- the greatest number of periods in which no such channel carries more, and at least 1; it is 1 where each channel was given a capacity
 pub record IsAutoRoom (q : List ℕ) (channels : List Channel) (periods : ℕ) : Type 0 where
   pub some : 1 ≤ periods
-  pub within : periods ≤ 4096
+  pub within : periods ≤ MOST_CARRIED
   pub few : (periods ≡ 1) ⊎ All (CarriesFew q periods) channels
   pub greatest : (more : ℕ) → periods < more → All (CarriesFew q more) channels → All IsGiven channels
   pub given : All IsGiven channels → periods ≡ 1
