@@ -1,5 +1,6 @@
 -- Where each actor stands in its lists of rates.
 use Rattle.std.specs.Prelude.{ℕ, ◌≡◌, ◌<◌, ◌%◌, List, length, slice_index}
+use Rattle.csdf_model.specs.declared.limits.TheConstants.{MAX_PHASES}
 use Rattle.csdf_core.specs.Plan.{Channel, Plan, from_at, to_at, produce_at, consume_at}
 
 -- the phase of firing number k in a list of rates
@@ -21,4 +22,4 @@ pub record HasPhases (channels : List Channel) (a n : ℕ) : Type 0 where
 pub record AreInPhase (plan : Plan) (counts phases : List ℕ) : Type 0 where
   pub phased : length phases ≡ length plan.sources
   pub each : (a : ℕ) → a < length plan.sources → IsInPhase plan.channels a (slice_index counts a) (slice_index phases a)
-  pub low : (a : ℕ) → a < length plan.sources → slice_index phases a < 16
+  pub low : (a : ℕ) → a < length plan.sources → slice_index phases a < MAX_PHASES
