@@ -3,7 +3,12 @@ use Rattle.std.specs.Prelude.{ℕ, ◌≡◌, ◌+◌, ◌<◌, ◌≤◌, ◌^�
 use Rattle.csdf_model.specs.declared.parts.Kernel.{Kernel}
 use Rattle.csdf_model.specs.declared.parts.Kernel.TheVariants.{Source, Sink, Copy, Sum, Fir}
 use Rattle.csdf_model.specs.declared.limits.TheConstants.{MAX_SHIFT, MAX_WEIGHTS}
-use Rattle.csdf_kernel.specs.Value.{token_at}
+use Rattle.csdf_kernel.specs.declared.filter.Filter.{Filter}
+use Rattle.csdf_kernel.specs.Value.{filter_token, token_at}
+
+-- the token that a filter tells at a place of a firing that reads these
+abbrev pub filtered : Filter → List ℤ → ℕ → ℤ
+filtered f xs place = filter_token f.weights.now f.taps f.shift xs place
 
 -- each of the first n weights is at most 2^27 in size, so that its product with a token is at most 2^58, and sixteen add up to 2^62 at most
 abbrev pub AreSmall : List ℤ → ℕ → Type 0
@@ -31,29 +36,33 @@ pub record IsPadded (weights : List ℤ) (have : ℕ) (padded : List ℤ) : Type
   pub zeros : (j : ℕ) → have ≤ j → token_at padded j ≡ pos 0
 
 -- taps and a shift within their limits, and weights that are small where they are marked so
-pub record IsInRange (weights : List ℤ) (taps shift : ℕ) (small : Bool) : Type 0 where
-  pub few_taps : taps ≤ MAX_WEIGHTS
-  pub low_shift : shift ≤ MAX_SHIFT
-  pub are_small : IsTrue small → AreSmall weights taps
+pub record IsInRange (f : Filter) : Type 0 where
+  pub few_taps : f.taps ≤ MAX_WEIGHTS
+  pub low_shift : f.shift ≤ MAX_SHIFT
+  pub are_small : IsTrue f.small → AreSmall f.weights.now f.taps
+
+-- no weight is greater in size than it is marked
+abbrev pub HasGreatest : Filter → Type 0
+HasGreatest f = (j : ℕ) → unsigned_abs (token_at f.weights.now j) ≤ f.greatest
 
 -- sixteen taps with small weights, each of which has a token from this place on
-pub record IsWhole (weights : List ℤ) (taps : ℕ) (small : Bool) (xs : List ℤ) (place : ℕ) : Type 0 where
-  pub marked : IsTrue small
-  pub sixteen : taps ≡ 16
-  pub weighted : 16 ≤ length weights
+pub record IsWhole (f : Filter) (xs : List ℤ) (place : ℕ) : Type 0 where
+  pub marked : IsTrue f.small
+  pub sixteen : f.taps ≡ 16
+  pub weighted : 16 ≤ length f.weights.now
   pub there : place + 16 ≤ length xs
 
 -- sixteen taps with small weights, whose products with these tokens are narrow
-pub record IsNarrow (weights : List ℤ) (taps : ℕ) (small : Bool) (xs : List ℤ) : Type 0 where
-  pub marked : IsTrue small
-  pub sixteen : taps ≡ 16
-  pub weighted : 16 ≤ length weights
-  pub narrow : AreNarrow weights xs
+pub record IsNarrow (f : Filter) (xs : List ℤ) : Type 0 where
+  pub marked : IsTrue f.small
+  pub sixteen : f.taps ≡ 16
+  pub weighted : 16 ≤ length f.weights.now
+  pub narrow : AreNarrow f.weights.now xs
 
 -- these are the weights, the taps and the shift of the kernel, where it is a filter
-abbrev pub IsFilterOf : Kernel → List ℤ → ℕ → ℕ → Type 0
-IsFilterOf (Fir ws n by) weights taps shift = (weights ≡ ws) × (taps ≡ n) × (shift ≡ by)
-IsFilterOf Source weights taps shift = Unit {0}
-IsFilterOf Sink weights taps shift = Unit {0}
-IsFilterOf Copy weights taps shift = Unit {0}
-IsFilterOf Sum weights taps shift = Unit {0}
+abbrev pub IsFilterOf : Kernel → Filter → Type 0
+IsFilterOf (Fir ws n by) f = (f.weights.now ≡ ws) × (f.taps ≡ n) × (f.shift ≡ by)
+IsFilterOf Source f = Unit {0}
+IsFilterOf Sink f = Unit {0}
+IsFilterOf Copy f = Unit {0}
+IsFilterOf Sum f = Unit {0}

@@ -1,13 +1,14 @@
 //! What each kernel adds to a list of outputs that has room for it.
 ghost use Rattle.std.specs.Prelude.{ℕ, ◌≡◌, ◌+◌, ◌*◌, ◌%◌, ◌<◌, ◌≤◌, ◌++◌, IsTrue, length, sum, flat_map, replicate};
 ghost use Rattle.smallvec.specs.SmallVec.{HasRoomFor};
-ghost use Rattle.csdf_kernel.specs.Filter.{IsInRange, IsNarrow, IsWhole, IsWindow};
-ghost use Rattle.csdf_kernel.specs.Value.{places, token_at, copy_token, filter_token};
+ghost use Rattle.csdf_kernel.specs.Filter.{filtered, IsInRange, IsNarrow, IsWhole, IsWindow};
+ghost use Rattle.csdf_kernel.specs.Value.{places, token_at, copy_token};
 
 use crate::filter::Filter;
 use crate::numbers::token;
 use crate::outputs::Outputs;
 use crate::small::window_from;
+use csdf_model::MAX_TOTAL_PER_FIRING;
 
 /// The first tokens of the inputs.
 #[tactic(auto, using(crate::proofs::PlaceLemmas::one_place))]
@@ -21,8 +22,8 @@ pub(crate) fn push_source(outputs: &mut Outputs, count: usize, inputs: &[i32])
     }
 }
 
-/// Adds one token over and over to a list that has room for so many.
-pub fn push_same(outputs: &mut Outputs, count: usize, same: i32)
+/// One token over and over.
+pub(crate) fn push_same(outputs: &mut Outputs, count: usize, same: i32)
     requires { HasRoomFor outputs.old count }
     ensures items { outputs.new.items ≡ outputs.old.items ++ replicate count same }
     ensures capacity { outputs.new.capacity ≡ outputs.old.capacity }
@@ -83,11 +84,10 @@ pub(crate) fn push_filtered(
     inputs: &[i32],
 )
     requires room { HasRoomFor outputs.old (sum counts.now) }
-    requires few { sum counts.now ≤ 8192 }
-    requires in_range { IsInRange filter.now.weights.now filter.now.taps filter.now.shift filter.now.small }
-    requires narrow { IsTrue narrow → IsNarrow filter.now.weights.now filter.now.taps filter.now.small inputs.now }
-    ensures items { outputs.new.items ≡ outputs.old.items
-        ++ flat_map (places (filter_token filter.now.weights.now filter.now.taps filter.now.shift inputs.now)) counts.now }
+    requires few { sum counts.now ≤ MAX_TOTAL_PER_FIRING }
+    requires in_range { IsInRange filter.now }
+    requires narrow { IsTrue narrow → IsNarrow filter.now inputs.now }
+    ensures items { outputs.new.items ≡ outputs.old.items ++ flat_map (places (filtered filter.now inputs.now)) counts.now }
     ensures capacity { outputs.new.capacity ≡ outputs.old.capacity }
 {
     for count in counts {
@@ -104,11 +104,10 @@ fn push_filter(
     inputs: &[i32],
 )
     requires room { HasRoomFor outputs.old count }
-    requires few { count ≤ 8192 }
-    requires in_range { IsInRange filter.now.weights.now filter.now.taps filter.now.shift filter.now.small }
-    requires narrow { IsTrue narrow → IsNarrow filter.now.weights.now filter.now.taps filter.now.small inputs.now }
-    ensures items { outputs.new.items ≡ outputs.old.items
-        ++ places (filter_token filter.now.weights.now filter.now.taps filter.now.shift inputs.now) count }
+    requires few { count ≤ MAX_TOTAL_PER_FIRING }
+    requires in_range { IsInRange filter.now }
+    requires narrow { IsTrue narrow → IsNarrow filter.now inputs.now }
+    ensures items { outputs.new.items ≡ outputs.old.items ++ places (filtered filter.now inputs.now) count }
     ensures capacity { outputs.new.capacity ≡ outputs.old.capacity }
 {
     if narrow {
@@ -124,10 +123,9 @@ fn push_filter(
 #[tactic(auto, using(crate::proofs::PlaceLemmas::one_place))]
 fn push_wide(outputs: &mut Outputs, count: usize, filter: &Filter<'_>, inputs: &[i32])
     requires room { HasRoomFor outputs.old count }
-    requires few { count ≤ 8192 }
-    requires in_range { IsInRange filter.now.weights.now filter.now.taps filter.now.shift filter.now.small }
-    ensures items { outputs.new.items ≡ outputs.old.items
-        ++ places (filter_token filter.now.weights.now filter.now.taps filter.now.shift inputs.now) count }
+    requires few { count ≤ MAX_TOTAL_PER_FIRING }
+    requires in_range { IsInRange filter.now }
+    ensures items { outputs.new.items ≡ outputs.old.items ++ places (filtered filter.now inputs.now) count }
     ensures capacity { outputs.new.capacity ≡ outputs.old.capacity }
 {
     for place in 0..count {
@@ -139,11 +137,10 @@ fn push_wide(outputs: &mut Outputs, count: usize, filter: &Filter<'_>, inputs: &
 #[tactic(auto, using(crate::proofs::PlaceLemmas::one_place))]
 fn push_small(outputs: &mut Outputs, count: usize, filter: &Filter<'_>, inputs: &[i32])
     requires room { HasRoomFor outputs.old count }
-    requires few { count ≤ 8192 }
-    requires in_range { IsInRange filter.now.weights.now filter.now.taps filter.now.shift filter.now.small }
+    requires few { count ≤ MAX_TOTAL_PER_FIRING }
+    requires in_range { IsInRange filter.now }
     requires small { IsTrue filter.now.small }
-    ensures items { outputs.new.items ≡ outputs.old.items
-        ++ places (filter_token filter.now.weights.now filter.now.taps filter.now.shift inputs.now) count }
+    ensures items { outputs.new.items ≡ outputs.old.items ++ places (filtered filter.now inputs.now) count }
     ensures capacity { outputs.new.capacity ≡ outputs.old.capacity }
 {
     let whole = filter.whole_places(inputs).min(count);
@@ -157,11 +154,10 @@ fn push_small(outputs: &mut Outputs, count: usize, filter: &Filter<'_>, inputs: 
 #[tactic(auto, using(crate::proofs::PlaceLemmas::one_place))]
 fn push_narrow(outputs: &mut Outputs, count: usize, filter: &Filter<'_>, inputs: &[i32])
     requires room { HasRoomFor outputs.old count }
-    requires few { count ≤ 8192 }
-    requires in_range { IsInRange filter.now.weights.now filter.now.taps filter.now.shift filter.now.small }
-    requires narrow { IsNarrow filter.now.weights.now filter.now.taps filter.now.small inputs.now }
-    ensures items { outputs.new.items ≡ outputs.old.items
-        ++ places (filter_token filter.now.weights.now filter.now.taps filter.now.shift inputs.now) count }
+    requires few { count ≤ MAX_TOTAL_PER_FIRING }
+    requires in_range { IsInRange filter.now }
+    requires narrow { IsNarrow filter.now inputs.now }
+    ensures items { outputs.new.items ≡ outputs.old.items ++ places (filtered filter.now inputs.now) count }
     ensures capacity { outputs.new.capacity ≡ outputs.old.capacity }
 {
     let whole = filter.whole_places(inputs).min(count);
@@ -201,12 +197,12 @@ fn push_late(
 )
     requires room { HasRoomFor outputs.old count }
     requires few { count ≤ 8 }
-    requires in_range { IsInRange filter.now.weights.now filter.now.taps filter.now.shift filter.now.small }
-    requires narrow { IsNarrow filter.now.weights.now filter.now.taps filter.now.small inputs.now }
+    requires in_range { IsInRange filter.now }
+    requires narrow { IsNarrow filter.now inputs.now }
     requires window { IsWindow inputs.now base window.now }
     requires near { (base ≤ place) × (place ≤ base + 8) }
     ensures items { outputs.new.items ≡ outputs.old.items
-        ++ places (λ i. filter_token filter.now.weights.now filter.now.taps filter.now.shift inputs.now (place + i)) count }
+        ++ places (λ i. filtered filter.now inputs.now (place + i)) count }
     ensures capacity { outputs.new.capacity ≡ outputs.old.capacity }
 {
     if count == 0 {
@@ -221,10 +217,9 @@ fn push_late(
 #[tactic(auto, using(crate::proofs::PlaceLemmas::one_place))]
 fn push_whole(outputs: &mut Outputs, count: usize, filter: &Filter<'_>, inputs: &[i32])
     requires room { HasRoomFor outputs.old count }
-    requires in_range { IsInRange filter.now.weights.now filter.now.taps filter.now.shift filter.now.small }
-    requires whole { (i : ℕ) → i < count → IsWhole filter.now.weights.now filter.now.taps filter.now.small inputs.now i }
-    ensures items { outputs.new.items ≡ outputs.old.items
-        ++ places (filter_token filter.now.weights.now filter.now.taps filter.now.shift inputs.now) count }
+    requires in_range { IsInRange filter.now }
+    requires whole { (i : ℕ) → i < count → IsWhole filter.now inputs.now i }
+    ensures items { outputs.new.items ≡ outputs.old.items ++ places (filtered filter.now inputs.now) count }
     ensures capacity { outputs.new.capacity ≡ outputs.old.capacity }
 {
     for next in 0..count {
@@ -237,11 +232,10 @@ fn push_whole(outputs: &mut Outputs, count: usize, filter: &Filter<'_>, inputs: 
 #[tactic(auto, using(crate::proofs::PlaceLemmas::one_place))]
 fn push_narrow_whole(outputs: &mut Outputs, count: usize, filter: &Filter<'_>, inputs: &[i32])
     requires room { HasRoomFor outputs.old count }
-    requires in_range { IsInRange filter.now.weights.now filter.now.taps filter.now.shift filter.now.small }
-    requires whole { (i : ℕ) → i < count → IsWhole filter.now.weights.now filter.now.taps filter.now.small inputs.now i }
-    requires narrow { IsNarrow filter.now.weights.now filter.now.taps filter.now.small inputs.now }
-    ensures items { outputs.new.items ≡ outputs.old.items
-        ++ places (filter_token filter.now.weights.now filter.now.taps filter.now.shift inputs.now) count }
+    requires in_range { IsInRange filter.now }
+    requires whole { (i : ℕ) → i < count → IsWhole filter.now inputs.now i }
+    requires narrow { IsNarrow filter.now inputs.now }
+    ensures items { outputs.new.items ≡ outputs.old.items ++ places (filtered filter.now inputs.now) count }
     ensures capacity { outputs.new.capacity ≡ outputs.old.capacity }
 {
     let eights = count / 8;
@@ -255,11 +249,10 @@ fn push_narrow_whole(outputs: &mut Outputs, count: usize, filter: &Filter<'_>, i
 #[tactic(auto, using(crate::proofs::PlaceLemmas::one_place))]
 fn push_narrow_eights(outputs: &mut Outputs, eights: usize, filter: &Filter<'_>, inputs: &[i32])
     requires room { HasRoomFor outputs.old (eights * 8) }
-    requires in_range { IsInRange filter.now.weights.now filter.now.taps filter.now.shift filter.now.small }
-    requires whole { (i : ℕ) → i < eights * 8 → IsWhole filter.now.weights.now filter.now.taps filter.now.small inputs.now i }
-    requires narrow { IsNarrow filter.now.weights.now filter.now.taps filter.now.small inputs.now }
-    ensures items { outputs.new.items ≡ outputs.old.items
-        ++ places (filter_token filter.now.weights.now filter.now.taps filter.now.shift inputs.now) (eights * 8) }
+    requires in_range { IsInRange filter.now }
+    requires whole { (i : ℕ) → i < eights * 8 → IsWhole filter.now inputs.now i }
+    requires narrow { IsNarrow filter.now inputs.now }
+    ensures items { outputs.new.items ≡ outputs.old.items ++ places (filtered filter.now inputs.now) (eights * 8) }
     ensures capacity { outputs.new.capacity ≡ outputs.old.capacity }
 {
     for eight in 0..eights {

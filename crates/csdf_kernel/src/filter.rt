@@ -1,15 +1,15 @@
 //! A filter, told token by token. A place of its inputs is called whole where there are sixteen taps,
 //! all with small weights, and each finds a token.
-ghost use Rattle.std.specs.Prelude.{◌≡◌, ◌<◌, ◌≤◌, ◌+◌, ℕ, IsTrue, length, unsigned_abs};
-ghost use Rattle.csdf_kernel.specs.Filter.{AreNarrow, AreTapsAt, IsInRange, IsNarrow, IsPadded, IsWhole, IsWindow};
-ghost use Rattle.csdf_kernel.specs.Value.{filter_token, places, token_at};
+ghost use Rattle.std.specs.Prelude.{◌≡◌, ◌<◌, ◌≤◌, ◌+◌, ℕ, IsTrue, length};
+ghost use Rattle.csdf_kernel.specs.Filter.{filtered, AreNarrow, AreTapsAt, HasGreatest, IsInRange, IsNarrow, IsPadded, IsWhole, IsWindow};
+ghost use Rattle.csdf_kernel.specs.Value.{places};
 
 use crate::numbers::{clamped, full_taps, products_at, shifted};
 use crate::small::{
     are_narrow, eight_narrow_tokens_at, greatest_size, is_small, narrow_shifted,
     sixteen_narrow_products_at, small_clamped, small_products_at, small_shifted, small_sum_at,
 };
-use csdf_model::{MAX_SHIFT, MAX_WEIGHTS};
+use csdf_model::{MAX_SHIFT, MAX_TOTAL_PER_FIRING, MAX_WEIGHTS};
 
 /// A filter: the first `taps` weights count, and each sum of products is divided by two to the power
 /// of `shift`.
@@ -32,8 +32,8 @@ impl<'a> Filter<'a> {
         ensures weights { result.weights.now ≡ weights.now }
         ensures taps { result.taps ≡ taps }
         ensures shift { result.shift ≡ shift }
-        ensures in_range { IsInRange result.weights.now result.taps result.shift result.small }
-        ensures greatest { (j : ℕ) → unsigned_abs (token_at result.weights.now j) ≤ result.greatest }
+        ensures in_range { IsInRange result }
+        ensures greatest { HasGreatest result }
     {
         let greatest = greatest_size(weights);
         Filter {
@@ -56,7 +56,7 @@ impl<'a> Filter<'a> {
 
     /// How many places are whole: those from the first on, as many as this.
     pub(crate) fn whole_places(&self, inputs: &[i32]) -> usize
-        ensures whole { (i : ℕ) → i < result → IsWhole self.now.weights.now self.now.taps self.now.small inputs.now i }
+        ensures whole { (i : ℕ) → i < result → IsWhole self.now inputs.now i }
         ensures within { result ≤ length inputs.now }
     {
         if self.is_sixteen() {
@@ -68,7 +68,7 @@ impl<'a> Filter<'a> {
 
     /// Whether each product of a weight with one of these tokens is narrow.
     pub(crate) fn has_narrow_products(&self, inputs: &[i32]) -> bool
-        requires { (j : ℕ) → unsigned_abs (token_at self.now.weights.now j) ≤ self.now.greatest }
+        requires { HasGreatest self.now }
         ensures { IsTrue result → AreNarrow self.now.weights.now inputs.now }
     {
         are_narrow(self.weights, self.greatest, inputs)
@@ -76,8 +76,8 @@ impl<'a> Filter<'a> {
 
     /// Whether there are sixteen taps, and each product of a weight with one of these tokens is narrow.
     pub(crate) fn is_narrow(&self, inputs: &[i32]) -> bool
-        requires { (j : ℕ) → unsigned_abs (token_at self.now.weights.now j) ≤ self.now.greatest }
-        ensures { IsTrue result → IsNarrow self.now.weights.now self.now.taps self.now.small inputs.now }
+        requires { HasGreatest self.now }
+        ensures { IsTrue result → IsNarrow self.now inputs.now }
     {
         if self.is_sixteen() {
             return self.has_narrow_products(inputs);
@@ -109,10 +109,10 @@ impl<'a> Filter<'a> {
     /// The token at a whole place, where the products are narrow.
     #[tactic(auto, unfolding(crate::specs::Value::filter_token))]
     pub(crate) fn narrow_token(&self, inputs: &[i32], place: usize) -> i32
-        requires in_range { IsInRange self.now.weights.now self.now.taps self.now.shift self.now.small }
-        requires whole { IsWhole self.now.weights.now self.now.taps self.now.small inputs.now place }
-        requires narrow { IsNarrow self.now.weights.now self.now.taps self.now.small inputs.now }
-        ensures { result ≡ filter_token self.now.weights.now self.now.taps self.now.shift inputs.now place }
+        requires in_range { IsInRange self.now }
+        requires whole { IsWhole self.now inputs.now place }
+        requires narrow { IsNarrow self.now inputs.now }
+        ensures { result ≡ filtered self.now inputs.now place }
     {
         let sum = sixteen_narrow_products_at(self.weights, inputs, place);
         narrow_shifted(sum, self.shift)
@@ -120,10 +120,10 @@ impl<'a> Filter<'a> {
 
     /// The tokens at eight whole places, the first of them `place`, where the products are narrow.
     pub(crate) fn eight_narrow_tokens(&self, inputs: &[i32], place: usize) -> [i32; 8]
-        requires in_range { IsInRange self.now.weights.now self.now.taps self.now.shift self.now.small }
-        requires whole { IsWhole self.now.weights.now self.now.taps self.now.small inputs.now (place + 7) }
-        requires narrow { IsNarrow self.now.weights.now self.now.taps self.now.small inputs.now }
-        ensures { result ≡ places (λ i. filter_token self.now.weights.now self.now.taps self.now.shift inputs.now (place + i)) 8 }
+        requires in_range { IsInRange self.now }
+        requires whole { IsWhole self.now inputs.now (place + 7) }
+        requires narrow { IsNarrow self.now inputs.now }
+        ensures { result ≡ places (λ i. filtered self.now inputs.now (place + i)) 8 }
     {
         eight_narrow_tokens_at(self.weights, inputs, place, self.shift)
     }
@@ -137,11 +137,11 @@ impl<'a> Filter<'a> {
         inputs: &[i32],
         place: usize,
     ) -> [i32; 8]
-        requires in_range { IsInRange self.now.weights.now self.now.taps self.now.shift self.now.small }
-        requires narrow { IsNarrow self.now.weights.now self.now.taps self.now.small inputs.now }
+        requires in_range { IsInRange self.now }
+        requires narrow { IsNarrow self.now inputs.now }
         requires window { IsWindow inputs.now base window.now }
         requires near { (base ≤ place) × (place ≤ base + 8) }
-        ensures { result ≡ places (λ i. filter_token self.now.weights.now self.now.taps self.now.shift inputs.now (place + i)) 8 }
+        ensures { result ≡ places (λ i. filtered self.now inputs.now (place + i)) 8 }
     {
         // `inputs` is there for the contract alone.
         let _ = inputs;
@@ -151,9 +151,9 @@ impl<'a> Filter<'a> {
     /// The token at a whole place.
     #[tactic(auto, unfolding(crate::specs::Value::filter_token))]
     pub(crate) fn whole_token(&self, inputs: &[i32], place: usize) -> i32
-        requires in_range { IsInRange self.now.weights.now self.now.taps self.now.shift self.now.small }
-        requires whole { IsWhole self.now.weights.now self.now.taps self.now.small inputs.now place }
-        ensures { result ≡ filter_token self.now.weights.now self.now.taps self.now.shift inputs.now place }
+        requires in_range { IsInRange self.now }
+        requires whole { IsWhole self.now inputs.now place }
+        ensures { result ≡ filtered self.now inputs.now place }
     {
         let sum = small_sum_at::<16>(self.weights, inputs, place);
         small_clamped(small_shifted(sum, self.shift))
@@ -162,10 +162,10 @@ impl<'a> Filter<'a> {
     /// The token at this place, where the weights are small.
     #[tactic(auto, unfolding(crate::specs::Value::filter_token))]
     pub(crate) fn small_token(&self, inputs: &[i32], place: usize) -> i32
-        requires in_range { IsInRange self.now.weights.now self.now.taps self.now.shift self.now.small }
+        requires in_range { IsInRange self.now }
         requires small { IsTrue self.now.small }
-        requires place { place ≤ 8192 }
-        ensures { result ≡ filter_token self.now.weights.now self.now.taps self.now.shift inputs.now place }
+        requires place { place ≤ MAX_TOTAL_PER_FIRING }
+        ensures { result ≡ filtered self.now inputs.now place }
     {
         let sum = small_products_at(self.weights, self.taps as usize, inputs, place);
         small_clamped(small_shifted(sum, self.shift))
@@ -174,9 +174,9 @@ impl<'a> Filter<'a> {
     /// The token at this place, whatever the weights.
     #[tactic(auto, unfolding(crate::specs::Value::filter_token))]
     pub(crate) fn wide_token(&self, inputs: &[i32], place: usize) -> i32
-        requires in_range { IsInRange self.now.weights.now self.now.taps self.now.shift self.now.small }
-        requires place { place ≤ 8192 }
-        ensures { result ≡ filter_token self.now.weights.now self.now.taps self.now.shift inputs.now place }
+        requires in_range { IsInRange self.now }
+        requires place { place ≤ MAX_TOTAL_PER_FIRING }
+        ensures { result ≡ filtered self.now inputs.now place }
     {
         let sum = products_at(self.weights, self.taps as usize, inputs, place);
         clamped(shifted(sum, self.shift))

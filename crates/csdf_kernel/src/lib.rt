@@ -13,8 +13,7 @@ mod numbers;
 mod outputs;
 mod small;
 
-pub use channels::push_same;
-use csdf_model::{Kernel, MAX_CHANNELS, MAX_TOKENS_PER_FIRING};
+use csdf_model::{Kernel, MAX_CHANNELS, MAX_TOKENS_PER_FIRING, MAX_TOTAL_PER_FIRING};
 pub use looping::eval_loop;
 use outputs::outputs_into;
 pub use outputs::{Outputs, eval_block, push_value};
@@ -111,7 +110,7 @@ impl Done {
 pub fn eval_into(job: &Job, outputs: &mut Outputs) -> Result<(), AllocError>
     requires few_counts { length job.now.counts.items ≤ MAX_CHANNELS }
     requires small_counts { All (λ count. count ≤ MAX_TOKENS_PER_FIRING) job.now.counts.items }
-    requires few_inputs { length job.now.inputs.items ≤ 8192 }
+    requires few_inputs { length job.now.inputs.items ≤ MAX_TOTAL_PER_FIRING }
     requires filter_in_range { HasFilterInRange job.now.kernel }
     ensures value { OnOk result
         (outputs.new.items ≡ value_of job.now.kernel job.now.counts.items job.now.inputs.items) }
@@ -134,7 +133,7 @@ pub fn eval_into(job: &Job, outputs: &mut Outputs) -> Result<(), AllocError>
 pub fn eval(alloc: Global, job: Job) -> Result<Done, (Job, AllocError)>
     requires few_counts { length job.counts.items ≤ MAX_CHANNELS }
     requires small_counts { All (λ count. count ≤ MAX_TOKENS_PER_FIRING) job.counts.items }
-    requires few_inputs { length job.inputs.items ≤ 8192 }
+    requires few_inputs { length job.inputs.items ≤ MAX_TOTAL_PER_FIRING }
     requires filter_in_range { HasFilterInRange job.kernel }
 
     // A `Done` is seen as its job, and its outputs are the value of that job.

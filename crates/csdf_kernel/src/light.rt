@@ -1,15 +1,15 @@
 //! The values of many firings of a light filter: one with small weights that gives few tokens a firing, to one
 //! channel. The same place of all firings is told in one loop, whose body has a constant length.
-ghost use Rattle.std.specs.Prelude.{◌≡◌, ◌≢◌, ◌≤◌, ◌<◌, ◌+◌, ◌*◌, ◌^◌, ◌∷◌, ℕ, [], length, slice_index, slice_range, unsigned_abs, IsOk, IsTrue, OnOk, OnErr};
+ghost use Rattle.std.specs.Prelude.{◌≡◌, ◌≢◌, ◌≤◌, ◌<◌, ◌+◌, ◌*◌, ◌^◌, ◌∷◌, ℕ, [], length, slice_index, slice_range, IsOk, IsTrue, OnOk, OnErr};
 ghost use Rattle.csdf_model.specs.declared.parts.Kernel.TheVariants.{Fir};
-ghost use Rattle.csdf_kernel.specs.Filter.{AreNarrow, AreSmall, AreTapsAt, IsFilterOf, IsInRange, IsPadded};
+ghost use Rattle.csdf_kernel.specs.Filter.{AreNarrow, AreSmall, AreTapsAt, HasGreatest, IsFilterOf, IsInRange, IsPadded};
 ghost use Rattle.csdf_kernel.specs.Light.{HoldsPlace, IsLight, KeepsOthers, firing_token};
-ghost use Rattle.csdf_kernel.specs.Value.{filter_token, token_at, values_of};
+ghost use Rattle.csdf_kernel.specs.Value.{filter_token, values_of};
 
 use crate::filter::Filter;
 use crate::outputs::Outputs;
 use crate::small::{narrow_shifted, narrow_sum_at, small_clamped, small_shifted, small_sum_at};
-use csdf_model::{Kernel, MAX_SHIFT, MAX_WEIGHTS};
+use csdf_model::{Kernel, MAX_SHIFT, MAX_TOTAL_PER_FIRING, MAX_WEIGHTS};
 use std::alloc::AllocError;
 
 /// The most tokens that a firing of a light filter gives.
@@ -32,7 +32,7 @@ fn is_low(counts: &[u32]) -> bool
 
 /// Whether these are firings of a light filter, and enough of them.
 pub(crate) fn are_light(kernel: &Kernel, filter: &Filter<'_>, counts: &[u32], firings: u32) -> bool
-    requires { IsFilterOf kernel.now filter.now.weights.now filter.now.taps filter.now.shift }
+    requires { IsFilterOf kernel.now filter.now }
     ensures kernel { IsTrue result → kernel.now ≡ Fir filter.now.weights.now filter.now.taps filter.now.shift }
     ensures small { IsTrue result → IsTrue filter.now.small }
     ensures alone { IsTrue result → counts.now ≡ slice_index counts.now 0 ∷ [] }
@@ -75,11 +75,11 @@ pub(crate) fn light_values_into(
     inputs: &[i32],
     outputs: &mut Outputs,
 ) -> Result<(), AllocError>
-    requires in_range { IsInRange filter.now.weights.now filter.now.taps filter.now.shift filter.now.small }
-    requires greatest { (j : ℕ) → unsigned_abs (token_at filter.now.weights.now j) ≤ filter.now.greatest }
+    requires in_range { IsInRange filter.now }
+    requires greatest { HasGreatest filter.now }
     requires small { IsTrue filter.now.small }
     requires low { each ≤ MOST_GIVEN }
-    requires few_needed { need ≤ 8192 }
+    requires few_needed { need ≤ MAX_TOTAL_PER_FIRING }
     requires whole { firings * need ≤ length inputs.now }
     ensures values { OnOk result (outputs.new.items
         ≡ values_of (Fir filter.now.weights.now filter.now.taps filter.now.shift) (each ∷ []) need firings inputs.now) }
@@ -243,7 +243,7 @@ fn fill_front<const N: usize, const NARROW: bool>(
     requires narrow { IsTrue NARROW → AreNarrow weights.now inputs.now }
     requires shift { shift ≤ MAX_SHIFT }
     requires low { each ≤ MOST_GIVEN }
-    requires few_needed { need ≤ 8192 }
+    requires few_needed { need ≤ MAX_TOTAL_PER_FIRING }
     requires place { place < each }
     requires there { (f : ℕ) → f < front → f * need + place + N ≤ length inputs.now }
     requires long { front * each ≤ length values.old }

@@ -5,7 +5,7 @@ ghost use Rattle.csdf_kernel.specs.Loop.{beside, latest_of, loop_values};
 ghost use Rattle.csdf_kernel.specs.Value.{HasFilterInRange};
 
 use crate::outputs::{Outputs, filter_of, make_room, push_value_by, total_of};
-use csdf_model::{Kernel, MAX_CHANNELS, MAX_TOKENS_PER_FIRING};
+use csdf_model::{Kernel, MAX_CHANNELS, MAX_TOKENS_PER_FIRING, MAX_TOTAL_PER_FIRING};
 use std::alloc::AllocError;
 
 /// Lays the state and the other tokens beside each other.
@@ -54,7 +54,7 @@ pub fn eval_loop(
 ) -> Result<(), AllocError>
     requires few_counts { length counts.now ≤ MAX_CHANNELS }
     requires small_counts { All (λ count. count ≤ MAX_TOKENS_PER_FIRING) counts.now }
-    requires few_inputs { length window.old ≤ 8192 }
+    requires few_inputs { length window.old ≤ MAX_TOTAL_PER_FIRING }
     requires filter_in_range { HasFilterInRange kernel.now }
     requires window { length state.now ≤ length window.old }
     requires whole { firings * (length window.old - length state.now) ≤ length others.now }

@@ -2,7 +2,7 @@
 ghost use Rattle.std.specs.Prelude.{◌≡◌, ◌⊎◌, ◌+◌, ◌*◌, ◌^◌, ◌≤◌, length, pos, ◌+ℤ◌, ◌*ℤ◌, ◌≤ℤ◌, ◌<ℤ◌, unsigned_abs};
 ghost use Rattle.csdf_kernel.specs.Value.{token_at, total, clamp, floor, convolution};
 
-use csdf_model::{MAX_SHIFT, MAX_WEIGHTS};
+use csdf_model::{MAX_SHIFT, MAX_TOTAL_PER_FIRING, MAX_WEIGHTS};
 
 /// Token `place` of the inputs, or 0 past their end.
 pub(crate) fn token(inputs: &[i32], place: usize) -> i32
@@ -24,7 +24,7 @@ pub(crate) fn clamped(value: i128) -> i32
 
 /// The sum of the tokens.
 pub(crate) fn sum_of(inputs: &[i32]) -> i128
-    requires { length inputs.now ≤ 8192 }
+    requires { length inputs.now ≤ MAX_TOTAL_PER_FIRING }
     ensures { result ≡ total inputs.now }
 {
     let mut sum = 0;
@@ -55,7 +55,7 @@ pub(crate) fn full_taps(weights: &[i32], taps: usize, tokens: usize, place: usiz
 /// The sum of the products of the first `taps` weights with the tokens from `place` on.
 pub(crate) fn products_at(weights: &[i32], taps: usize, inputs: &[i32], place: usize) -> i128
     requires taps { taps ≤ MAX_WEIGHTS }
-    requires place { place ≤ 8192 }
+    requires place { place ≤ MAX_TOTAL_PER_FIRING }
     ensures value { result ≡ convolution weights.now taps inputs.now place }
     ensures bound { unsigned_abs result ≤ taps * 2 ^ 62 }
 {

@@ -1,14 +1,14 @@
 //! The outputs of a job, in one list.
-ghost use Rattle.std.specs.Prelude.{◌≡◌, ◌≤◌, ◌<◌, ◌^◌, ◌*◌, ◌++◌, ◌∷◌, ℕ, [], length, sum, take, unsigned_abs, All, IsOk, IsTrue, OnOk, OnErr};
+ghost use Rattle.std.specs.Prelude.{◌≡◌, ◌≤◌, ◌<◌, ◌^◌, ◌*◌, ◌++◌, ◌∷◌, ℕ, [], length, sum, take, All, IsOk, IsTrue, OnOk, OnErr};
 ghost use Rattle.smallvec.specs.SmallVec.{HasRoomFor};
-ghost use Rattle.csdf_kernel.specs.Filter.{IsFilterOf, IsInRange, IsNarrow};
-ghost use Rattle.csdf_kernel.specs.Value.{token_at, value_of, values_of, GivesAsRead, HasFilterInRange};
+ghost use Rattle.csdf_kernel.specs.Filter.{HasGreatest, IsFilterOf, IsInRange, IsNarrow};
+ghost use Rattle.csdf_kernel.specs.Value.{value_of, values_of, GivesAsRead, HasFilterInRange};
 
 use crate::channels::{push_copies, push_filtered, push_same, push_source};
 use crate::filter::Filter;
 use crate::light::{are_light, light_values_into};
 use crate::numbers::{clamped, sum_of};
-use csdf_model::{Kernel, MAX_CHANNELS, MAX_TOKENS_PER_FIRING};
+use csdf_model::{Kernel, MAX_CHANNELS, MAX_TOKENS_PER_FIRING, MAX_TOTAL_PER_FIRING};
 use smallvec::SmallVec;
 use std::alloc::AllocError;
 
@@ -26,9 +26,9 @@ pub(crate) fn total_of(counts: &[u32]) -> usize
 /// The filter of the kernel, with its weights gone through once; where it is none, one that nobody asks.
 pub(crate) fn filter_of(kernel: &Kernel) -> Filter<'_>
     requires { HasFilterInRange kernel.now }
-    ensures filter { IsFilterOf kernel.now result.weights.now result.taps result.shift }
-    ensures in_range { IsInRange result.weights.now result.taps result.shift result.small }
-    ensures greatest { (j : ℕ) → unsigned_abs (token_at result.weights.now j) ≤ result.greatest }
+    ensures filter { IsFilterOf kernel.now result }
+    ensures in_range { IsInRange result }
+    ensures greatest { HasGreatest result }
 {
     match kernel {
         Kernel::Fir {
@@ -53,10 +53,10 @@ pub(crate) fn push_value_by(
 )
     requires few_counts { length counts.now ≤ MAX_CHANNELS }
     requires small_counts { All (λ count. count ≤ MAX_TOKENS_PER_FIRING) counts.now }
-    requires few_inputs { length inputs.now ≤ 8192 }
-    requires filter { IsFilterOf kernel.now filter.now.weights.now filter.now.taps filter.now.shift }
-    requires in_range { IsInRange filter.now.weights.now filter.now.taps filter.now.shift filter.now.small }
-    requires narrow { IsTrue narrow → IsNarrow filter.now.weights.now filter.now.taps filter.now.small inputs.now }
+    requires few_inputs { length inputs.now ≤ MAX_TOTAL_PER_FIRING }
+    requires filter { IsFilterOf kernel.now filter.now }
+    requires in_range { IsInRange filter.now }
+    requires narrow { IsTrue narrow → IsNarrow filter.now inputs.now }
     requires room { HasRoomFor outputs.old (sum counts.now) }
     ensures items { outputs.new.items ≡ outputs.old.items ++ value_of kernel.now counts.now inputs.now }
     ensures capacity { outputs.new.capacity ≡ outputs.old.capacity }
@@ -75,7 +75,7 @@ pub(crate) fn push_value_by(
 pub fn push_value(outputs: &mut Outputs, kernel: &Kernel, counts: &[u32], inputs: &[i32])
     requires few_counts { length counts.now ≤ MAX_CHANNELS }
     requires small_counts { All (λ count. count ≤ MAX_TOKENS_PER_FIRING) counts.now }
-    requires few_inputs { length inputs.now ≤ 8192 }
+    requires few_inputs { length inputs.now ≤ MAX_TOTAL_PER_FIRING }
     requires filter_in_range { HasFilterInRange kernel.now }
     requires room { HasRoomFor outputs.old (sum counts.now) }
     ensures items { outputs.new.items ≡ outputs.old.items ++ value_of kernel.now counts.now inputs.now }
@@ -112,7 +112,7 @@ pub(crate) fn outputs_into(
 ) -> Result<(), AllocError>
     requires few_counts { length counts.now ≤ MAX_CHANNELS }
     requires small_counts { All (λ count. count ≤ MAX_TOKENS_PER_FIRING) counts.now }
-    requires few_inputs { length inputs.now ≤ 8192 }
+    requires few_inputs { length inputs.now ≤ MAX_TOTAL_PER_FIRING }
     requires filter_in_range { HasFilterInRange kernel.now }
     ensures value { OnOk result (outputs.new.items ≡ value_of kernel.now counts.now inputs.now) }
     ensures unchanged { OnErr result (outputs.new ≡ outputs.old) }
@@ -172,10 +172,10 @@ fn push_values(
 )
     requires few_counts { length counts.now ≤ MAX_CHANNELS }
     requires small_counts { All (λ count. count ≤ MAX_TOKENS_PER_FIRING) counts.now }
-    requires few_inputs { need ≤ 8192 }
-    requires filter { IsFilterOf kernel.now filter.now.weights.now filter.now.taps filter.now.shift }
-    requires in_range { IsInRange filter.now.weights.now filter.now.taps filter.now.shift filter.now.small }
-    requires greatest { (j : ℕ) → unsigned_abs (token_at filter.now.weights.now j) ≤ filter.now.greatest }
+    requires few_inputs { need ≤ MAX_TOTAL_PER_FIRING }
+    requires filter { IsFilterOf kernel.now filter.now }
+    requires in_range { IsInRange filter.now }
+    requires greatest { HasGreatest filter.now }
     requires whole { firings * need ≤ length inputs.now }
     requires room { HasRoomFor outputs.old (firings * sum counts.now) }
     ensures { outputs.new.items ≡ outputs.old.items ++ values_of kernel.now counts.now need firings inputs.now }
@@ -205,7 +205,7 @@ fn push_as_read(
     inputs: &[i32],
     outputs: &mut Outputs,
 ) -> Result<(), AllocError>
-    requires few_inputs { need ≤ 8192 }
+    requires few_inputs { need ≤ MAX_TOTAL_PER_FIRING }
     requires whole { firings * need ≤ length inputs.now }
     ensures values { OnOk result (outputs.new.items ≡ take (firings * need) inputs.now) }
     ensures unchanged { OnErr result (outputs.new ≡ outputs.old) }
@@ -233,7 +233,7 @@ pub fn eval_block(
 ) -> Result<(), AllocError>
     requires few_counts { length counts.now ≤ MAX_CHANNELS }
     requires small_counts { All (λ count. count ≤ MAX_TOKENS_PER_FIRING) counts.now }
-    requires few_inputs { need ≤ 8192 }
+    requires few_inputs { need ≤ MAX_TOTAL_PER_FIRING }
     requires filter_in_range { HasFilterInRange kernel.now }
     requires whole { firings * need ≤ length inputs.now }
     ensures values { OnOk result (outputs.new.items ≡ values_of kernel.now counts.now need firings inputs.now) }

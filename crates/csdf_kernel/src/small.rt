@@ -4,7 +4,7 @@ ghost use Rattle.csdf_kernel.specs.Filter.{AreNarrow, AreSmall, IsWindow};
 ghost use Rattle.csdf_kernel.specs.Value.{clamp, convolution, filter_token, floor, places, token_at};
 
 use crate::numbers::full_taps;
-use csdf_model::{MAX_SHIFT, MAX_WEIGHTS};
+use csdf_model::{MAX_SHIFT, MAX_TOTAL_PER_FIRING, MAX_WEIGHTS};
 
 /// The greatest size of a small weight: sixteen products with tokens of 32 bits stay within 2^62.
 const GREATEST_SMALL: u32 = 1 << 27;
@@ -167,7 +167,7 @@ pub(crate) fn small_sum_at<const N: usize>(weights: &[i32], inputs: &[i32], plac
 /// The sum of the products of the first `taps` weights with the tokens from `place` on.
 pub(crate) fn small_products_at(weights: &[i32], taps: usize, inputs: &[i32], place: usize) -> i64
     requires taps { taps ≤ MAX_WEIGHTS }
-    requires place { place ≤ 8192 }
+    requires place { place ≤ MAX_TOTAL_PER_FIRING }
     requires small { AreSmall weights.now taps }
     ensures { result ≡ convolution weights.now taps inputs.now place }
 {

@@ -23,7 +23,7 @@ loop-firing-preserved c =
 
 pub push_value_by-requires-clause-narrow : goal.push_value_by-requires-clause-narrow
 push_value_by-requires-clause-narrow c = λ yes.
-    let all : IsNarrow c.args.filter.now.weights.now c.args.filter.now.taps c.args.filter.now.small c.args.inputs.now =
+    let all : IsNarrow c.args.filter.now c.args.inputs.now =
     c.is_narrow-narrow.ensures yes in
     record {
       marked = all.marked;
