@@ -1,6 +1,6 @@
 -- Firings that are evaluated before they are made.
 use Rattle.std.specs.Prelude.{ℕ, ◌≡◌, ◌*◌, ◌≤◌, Bool, false, List, ℤ, All, length, slice_index_or}
-use Rattle.csdf_model.specs.declared.limits.TheConstants.{MAX_CHANNELS, MAX_TOKENS_PER_FIRING}
+use Rattle.csdf_model.specs.declared.limits.TheConstants.{MAX_CHANNELS, MAX_TOKENS_PER_FIRING, MAX_TOTAL_PER_FIRING}
 use Rattle.csdf_model.specs.declared.parts.Kernel.{Kernel}
 use Rattle.csdf_model.specs.declared.parts.Kernel.TheVariants.{Source, Sink, Copy, Sum, Fir}
 use Rattle.csdf_kernel.specs.Value.{HasFilterInRange}
@@ -25,7 +25,7 @@ pub record DraftView : Type 0 where
 pub record IsSound (kernel : Kernel) (counts : List ℕ) (need firings : ℕ) (inputs : List ℤ) : Type 0 where
   pub few_counts : length counts ≤ MAX_CHANNELS
   pub small_counts : All (λ n. n ≤ MAX_TOKENS_PER_FIRING) counts
-  pub few_inputs : need ≤ 8192
+  pub few_inputs : need ≤ MAX_TOTAL_PER_FIRING
   pub filter_in_range : HasFilterInRange kernel
   pub whole : firings * need ≤ length inputs
 

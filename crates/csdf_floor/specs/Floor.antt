@@ -2,7 +2,7 @@
 use Rattle.std.specs.Prelude.{ℕ, ◌≡◌, ◌==◌, ◌<◌, ◌≤◌, ◌&&◌, ◌⊎◌, not, Bool, if◌then◌else◌, List, [], ◌∷◌, ◌++◌, ℤ, Option, Some, None}
 use Rattle.std.specs.Prelude.{Result, Ok, Err, All, length, map, filter, slice_index, slice_index_or, option_map}
 use Rattle.std.specs.List.{range_with_len}
-use Rattle.csdf_model.specs.declared.limits.TheConstants.{MAX_CHANNELS, MAX_TOKENS_PER_FIRING}
+use Rattle.csdf_model.specs.declared.limits.TheConstants.{MAX_CHANNELS, MAX_TOKENS_PER_FIRING, MAX_TOTAL_PER_FIRING}
 use Rattle.csdf_model.specs.declared.parts.Kernel.{Kernel}
 use Rattle.csdf_model.specs.declared.parts.Kernel.TheVariants.{Sink}
 use Rattle.csdf_kernel.specs.declared.Job.{Job}
@@ -130,5 +130,5 @@ IsDeliverAnswer f task (Err fault.Memory) = IsUnderWay f task
 pub record IsReady (job : Job) : Type 0 where
   pub few_counts : length job.counts.items ≤ MAX_CHANNELS
   pub small_counts : All (λ n. n ≤ MAX_TOKENS_PER_FIRING) job.counts.items
-  pub few_inputs : length job.inputs.items ≤ 8192
+  pub few_inputs : length job.inputs.items ≤ MAX_TOTAL_PER_FIRING
   pub filter_in_range : HasFilterInRange job.kernel

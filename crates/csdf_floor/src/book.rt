@@ -28,7 +28,7 @@ use crate::work::Work;
 use csdf_core::{Core, Stage};
 use csdf_journal::{Journal, Keeping};
 use csdf_kernel::{Counts, Inputs, Job};
-use csdf_model::{Kernel, MAX_CHANNELS, MAX_TOKENS_PER_FIRING};
+use csdf_model::{Kernel, MAX_CHANNELS, MAX_TOKENS_PER_FIRING, MAX_TOTAL_PER_FIRING};
 use std::alloc::{AllocError, Global};
 use std::marker::Model;
 
@@ -506,7 +506,7 @@ impl Book {
             (given (program self.now.shown.work).plan actor (count self.now.shown.core.now actor))
             (given (program self.now.shown.work).plan actor (suc (count self.now.shown.core.now actor))) }
         ensures part { length result.now ≤ gift actor (count self.now.shown.core.now actor) self.now.shown.core.plan.channels }
-        ensures few { length result.now ≤ 8192 }
+        ensures few { length result.now ≤ MAX_TOTAL_PER_FIRING }
     {
         let used = self.core.written(actor) as usize;
         self.work.part(actor, used, self.core.gives(actor))
@@ -520,7 +520,7 @@ impl Book {
         requires room { amount_of (program self.now.shown.work) actor (count self.now.shown.core.now actor) ≤ into.old.capacity }
         ensures value { into.new.items
             ≡ inputs (program self.now.shown.work) actor (count self.now.shown.core.now actor) (slice_index_or self.now.reads actor []) }
-        ensures few { length into.new.items ≤ 8192 }
+        ensures few { length into.new.items ≤ MAX_TOTAL_PER_FIRING }
     {
         // Read for the prover: no firing needs more than 8,192 tokens.
         let _need = self.core.need(actor);

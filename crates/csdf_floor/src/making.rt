@@ -19,7 +19,7 @@ use crate::book::Book;
 use crate::noting::note_firings;
 use csdf_core::Block;
 use csdf_kernel::{Counts, Outputs, eval_block};
-use csdf_model::{MAX_CHANNELS, MAX_TOKENS_PER_FIRING};
+use csdf_model::{MAX_CHANNELS, MAX_TOKENS_PER_FIRING, MAX_TOTAL_PER_FIRING};
 use std::alloc::{AllocError, Global};
 
 impl Book {
@@ -252,12 +252,12 @@ impl Book {
     /// What the actor's present firing computes from.
     pub(crate) fn firing_inputs(&self, actor: u32) -> &[i32]
         requires exists { actor < length self.now.shown.core.plan.sources }
-        requires few { length (slice_index_or self.now.reads actor []) ≤ 8192 }
+        requires few { length (slice_index_or self.now.reads actor []) ≤ MAX_TOTAL_PER_FIRING }
         ensures value { result.now ≡ inputs (program self.now.shown.work) actor (count self.now.shown.core.now actor)
             (slice_index_or self.now.reads actor []) }
         ensures amount { length (slice_index_or self.now.reads actor []) ≡ need actor (count self.now.shown.core.now actor) self.now.shown.core.plan.channels
             → length result.now ≤ amount_of (program self.now.shown.work) actor (count self.now.shown.core.now actor) }
-        ensures few { length result.now ≤ 8192 }
+        ensures few { length result.now ≤ MAX_TOTAL_PER_FIRING }
     {
         if self.work.is_source(actor) {
             return self.feed_part(actor);
@@ -272,7 +272,7 @@ impl Book {
         requires counts { counts.now.items ≡ output_counts (program self.now.shown.work) actor (count self.now.shown.core.now actor) }
         requires few_counts { length counts.now.items ≤ MAX_CHANNELS }
         requires small_counts { All (λ n. n ≤ MAX_TOKENS_PER_FIRING) counts.now.items }
-        requires few { length (slice_index_or self.now.reads actor []) ≤ 8192 }
+        requires few { length (slice_index_or self.now.reads actor []) ≤ MAX_TOTAL_PER_FIRING }
         requires room { gift actor (count self.now.shown.core.now actor) self.now.shown.core.plan.channels ≤ outputs.old.capacity }
         ensures { outputs.new.items ≡ value (program self.now.shown.work) actor (count self.now.shown.core.now actor)
             (slice_index_or self.now.reads actor []) }
@@ -298,7 +298,7 @@ impl Book {
         requires idle { stage self.old.shown.core.now actor ≡ Idle }
         ensures shown { self.new.shown ≡ self.old.shown }
         ensures room { OnOk result (HasRoom self.new actor) }
-        ensures need { OnOk result (length (slice_index_or self.new.reads actor []) ≤ 8192) }
+        ensures need { OnOk result (length (slice_index_or self.new.reads actor []) ≤ MAX_TOTAL_PER_FIRING) }
         ensures moves { OnOk result (4 + length (outputs_at self.old.shown.core.plan.channels actor) ≤ self.new.room) }
         ensures greater { self.old.room ≤ self.new.room }
         ensures width { OnOk result (gift actor (count self.old.shown.core.now actor) self.old.shown.core.plan.channels ≤ self.new.width) }

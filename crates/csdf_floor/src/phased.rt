@@ -14,7 +14,7 @@ use crate::limits::MAX_FEED_TOKENS;
 use crate::work::Work;
 use csdf_core::Block;
 use csdf_kernel::{Counts, Outputs, push_value};
-use csdf_model::MAX_FIRINGS_PER_ACTOR;
+use csdf_model::{MAX_FIRINGS_PER_ACTOR, MAX_TOTAL_PER_FIRING};
 use std::alloc::AllocError;
 
 /// The least number of firings for which a block is looked for where there are several inputs or outputs.
@@ -25,7 +25,7 @@ impl Work {
     fn amount(&self, actor: u32, firing: u32) -> usize
         requires { actor < length self.now.accepted.graph.actors }
         ensures value { result ≡ amount_of (program self.now) actor firing }
-        ensures small { result ≤ 8192 }
+        ensures small { result ≤ MAX_TOTAL_PER_FIRING }
     {
         if self.is_source(actor) {
             return self.gift(actor, firing);

@@ -25,6 +25,7 @@ use csdf_core::{Core, Feedback};
 use csdf_kernel::Counts;
 use csdf_model::{
     Actor, Channel, Graph, Kernel, MAX_CHANNELS, MAX_FIRINGS_PER_ACTOR, MAX_TOKENS_PER_FIRING,
+    MAX_TOTAL_PER_FIRING,
 };
 use std::alloc::{AllocError, Global};
 use std::marker::Model;
@@ -304,7 +305,7 @@ impl Work {
     pub(crate) fn need(&self, actor: u32, firing: u32) -> usize
         requires { actor < length self.now.accepted.graph.actors }
         ensures value { result ≡ need actor firing (program self.now).plan.channels }
-        ensures small { result ≤ 8192 }
+        ensures small { result ≤ MAX_TOTAL_PER_FIRING }
     {
         let mut sum = 0;
         for channel in self.inputs(actor) {
@@ -317,7 +318,7 @@ impl Work {
     pub(crate) fn gift(&self, actor: u32, firing: u32) -> usize
         requires { actor < length self.now.accepted.graph.actors }
         ensures value { result ≡ gift actor firing (program self.now).plan.channels }
-        ensures small { result ≤ 8192 }
+        ensures small { result ≤ MAX_TOTAL_PER_FIRING }
     {
         let mut sum = 0;
         for channel in self.outputs(actor) {
