@@ -6,7 +6,7 @@ ghost use Rattle.csdf_run.specs.Workers.{CanEnd, HasMade, HasMadeAll, HoldsJust,
 
 use crate::run_floor::{Delivered, Made};
 use csdf_claims::{Board, Place};
-use csdf_model::MAX_FIRINGS_PER_ACTOR;
+use csdf_model::{MAX_ACTORS, MAX_FIRINGS_PER_ACTOR};
 
 /// The most firings that are made in one go: some thousand tokens of each channel stay in the cache.
 const BLOCK: u32 = 1_024;
@@ -51,7 +51,7 @@ pub(crate) fn claim_among(
     ensures claim { IsClaimBeside place.old.view place.new.view beside board.now.actors result }
 {
     let mut left = mask;
-    for _ in 0..64 {
+    for _ in 0..MAX_ACTORS {
         if left == 0 {
             break;
         }

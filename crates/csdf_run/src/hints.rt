@@ -10,7 +10,7 @@ use crate::actors::bit_of;
 use csdf_analysis::mask::{apart, joined, lowest, with_actor, without_actor};
 use csdf_analysis::{Accepted, consumers_of, producers_of};
 use csdf_core::Core;
-use csdf_model::Graph;
+use csdf_model::{Graph, MAX_ACTORS};
 use std::alloc::{AllocError, Global};
 
 /// A bit for each actor that may be able to begin, one for each whose last start was not refused, and whom
@@ -78,7 +78,7 @@ fn can_begin(core: &Core, actor: u32) -> bool
 
 /// The set with the actor where it can begin.
 fn with_able(core: &Core, actor: u32, able: u64) -> u64
-    requires { actor < 64 }
+    requires { actor < MAX_ACTORS }
     ensures able { CanBegin core.now actor → IsIn result actor }
     ensures kept { (a : ℕ) → IsIn able a → IsIn result a }
     ensures only { (a : ℕ) → IsIn result a → IsIn able a ⊎ CanBegin core.now a }
@@ -141,7 +141,7 @@ impl Hints {
 
     /// Looks at all actors.
     pub(crate) fn look_at_all(&mut self, core: &Core)
-        ensures able { (a : ℕ) → a < 64 → CanBegin core.now a → IsIn self.new.ready a }
+        ensures able { (a : ℕ) → a < MAX_ACTORS → CanBegin core.now a → IsIn self.new.ready a }
         ensures gains { GainsAble core.now self.old.ready self.new.ready }
     {
         self.look(core, u64::MAX);
@@ -156,7 +156,7 @@ impl Hints {
 
     /// The actor's start was refused.
     pub(crate) fn refused(&mut self, actor: u32)
-        ensures off { IsIn self.new.ready actor → actor < 64 → ⊥ }
+        ensures off { IsIn self.new.ready actor → actor < MAX_ACTORS → ⊥ }
         ensures others { (a : ℕ) → IsIn self.old.ready a → (a ≡ actor) ⊎ IsIn self.new.ready a }
         ensures only { (a : ℕ) → IsIn self.new.ready a → IsIn self.old.ready a }
     {
@@ -181,7 +181,7 @@ impl Hints {
     pub(crate) fn made(&mut self, core: &Core, actor: u32)
         ensures producers { actor < length self.old.producers.items → HasAble core.now (slice_index self.old.producers.items actor) self.new.ready }
         ensures consumers { actor < length self.old.consumers.items → HasAble core.now (slice_index self.old.consumers.items actor) self.new.ready }
-        ensures own { actor < 64 → CanBegin core.now actor → IsIn self.new.ready actor }
+        ensures own { actor < MAX_ACTORS → CanBegin core.now actor → IsIn self.new.ready actor }
         ensures others { (a : ℕ) → IsIn self.old.ready a → (a ≡ actor) ⊎ IsIn self.new.ready a }
     {
         let bit = bit_of(actor);
@@ -202,7 +202,7 @@ impl Hints {
     /// The actor has written and is idle: its outputs have tokens again.
     pub(crate) fn delivered(&mut self, core: &Core, actor: u32)
         ensures able { actor < length self.old.consumers.items → HasAble core.now (slice_index self.old.consumers.items actor) self.new.ready }
-        ensures own { actor < 64 → CanBegin core.now actor → IsIn self.new.ready actor }
+        ensures own { actor < MAX_ACTORS → CanBegin core.now actor → IsIn self.new.ready actor }
         ensures others { (a : ℕ) → IsIn self.old.ready a → IsIn self.new.ready a }
     {
         let fed = joined(mask_at(&self.consumers, actor), bit_of(actor));

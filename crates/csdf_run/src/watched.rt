@@ -16,6 +16,7 @@ use crate::policy::{HEAVY_BLOCK, Policy};
 use crate::run_floor::{Asked, Delivered, Made, RunFloor};
 use csdf_floor::{DeliverFault, StartFault};
 use csdf_kernel::Job;
+use csdf_model::MAX_ACTORS;
 use std::alloc::Global;
 
 /// What a worker knows since it had the lock last.
@@ -188,7 +189,7 @@ impl<K: Asked> Watched<K> {
         ensures floor { self.new.floor ≡ self.old.floor }
         ensures over { IsTrue result → IsQuiet self.new.floor.floor.core.plan self.new.floor.floor.core.now }
         ensures looked { self.old.running ≡ 0 → self.old.hints.ready ≡ 0 → result ≡ false
-            → (a : ℕ) → a < 64 → CanBegin self.new.floor.floor.core a → IsIn self.new.hints.ready a }
+            → (a : ℕ) → a < MAX_ACTORS → CanBegin self.new.floor.floor.core a → IsIn self.new.hints.ready a }
     {
         if self.running != 0 || self.hints.ready() != 0 {
             return false;
