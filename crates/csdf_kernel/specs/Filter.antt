@@ -1,5 +1,5 @@
 -- What the code keeps of a filter while it fires.
-use Rattle.std.specs.Prelude.{ℕ, ◌≡◌, ◌+◌, ◌<◌, ◌≤◌, ◌^◌, Bool, IsTrue, List, ℤ, length, unsigned_abs, ◌*ℤ◌, pos, ◌⊎◌}
+use Rattle.std.specs.Prelude.{ℕ, ◌≡◌, ◌+◌, ◌<◌, ◌≤◌, ◌^◌, IsTrue, List, ℤ, length, unsigned_abs, ◌*ℤ◌, pos, ◌⊎◌}
 use Rattle.csdf_model.specs.declared.parts.Kernel.{Kernel}
 use Rattle.csdf_model.specs.declared.parts.Kernel.TheVariants.{Source, Sink, Copy, Sum, Fir}
 use Rattle.csdf_model.specs.declared.limits.TheConstants.{MAX_SHIFT, MAX_WEIGHTS}

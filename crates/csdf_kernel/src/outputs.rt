@@ -1,5 +1,5 @@
 //! The outputs of a job, in one list.
-ghost use Rattle.std.specs.Prelude.{◌≡◌, ◌≤◌, ◌<◌, ◌^◌, ◌*◌, ◌++◌, ◌∷◌, ℕ, [], length, sum, take, All, IsOk, IsTrue, OnOk, OnErr};
+ghost use Rattle.std.specs.Prelude.{◌≡◌, ◌≤◌, ◌<◌, ◌^◌, ◌*◌, ◌++◌, ◌∷◌, [], length, sum, take, All, IsOk, IsTrue, OnOk, OnErr};
 ghost use Rattle.smallvec.specs.SmallVec.{HasRoomFor};
 ghost use Rattle.csdf_kernel.specs.Filter.{HasGreatest, IsFilterOf, IsInRange, IsNarrow};
 ghost use Rattle.csdf_kernel.specs.Value.{value_of, values_of, GivesAsRead, HasFilterInRange};
