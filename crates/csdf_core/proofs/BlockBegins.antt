@@ -1,22 +1,24 @@
 -- An actor that finds what its next firings need begins the first of them.
 use Rattle.std.proofs.Common.{◌≡◌, ℕ, zero, suc, ◌+◌, ◌-◌, ◌<◌, ◌≤◌, ◌&&◌, nat_lt, nat_le, cond, List, [], ◌∷◌, length, refl, ap, ◌∙◌, sym, arith}
-use Rattle.std.proofs.Common.{Bool, true, false, Option, Some, None, le-ltb}
+use Rattle.std.proofs.Common.{Bool, true, false, inl, inr, Option, Some, None, le-ltb}
 use Rattle.std.specs.Prelude.{find, IfSome}
 use Rattle.std.specs.List.{AllByRecursion}
-use Rattle.std.proofs.lemmas.Bool.Decides.{nat_tests}
+use Rattle.std.proofs.lemmas.Bool.Decides.{nat_tests, eqb_tells}
 use Rattle.csdf_core.specs.declared.refusal.Refusal.TheVariants.{Stopped, NoCells}
-use Rattle.csdf_core.specs.Blocks.{gifts_of, needs_of, takes_at, gives_at, FindsAll, capacity_at}
+use Rattle.csdf_core.specs.Blocks.{gifts_of, needs_of, takes_at, grows_at, FindsAll, capacity_at}
 use Rattle.csdf_core.specs.Going.{CanGo}
 use Rattle.csdf_core.specs.Moves.{Begin}
-use Rattle.csdf_core.specs.Plan.{Channel, Plan}
+use Rattle.csdf_core.specs.Plan.{Channel, Plan, from_at, to_at}
 use Rattle.csdf_core.specs.Ports.{inputs_at, outputs_at, take_at, give_at, tokens_at, short_at, full_at, own_take_at}
 use Rattle.csdf_core.specs.Ready.{IsFit}
 use Rattle.csdf_core.specs.Rows.{need, gift, is_short, is_full, first}
 use Rattle.csdf_core.specs.State.{Present}
 use Rattle.csdf_core.specs.Step.{count, given, is_dry, is_stopped, is_reached, lacks_cells, refusal, first_of, when, begun_count, held, reserved}
 use Rattle.csdf_core.proofs.Accepting.{begin_is}
-use Rattle.csdf_core.proofs.BlockPorts.{each, sum_none}
-use Rattle.csdf_core.proofs.PortLemmas.{first_short, first_full, need_is}
+use Rattle.csdf_core.proofs.BlockPorts.{both, each, sum_none}
+use Rattle.csdf_core.proofs.OwnChannels.{outs_told, even_at, grows_other, grows_fewer, growth_fewer, gift_within}
+use Rattle.csdf_core.proofs.PhaseLemmas.{of_own}
+use Rattle.csdf_core.proofs.PortLemmas.{first_short, first_full, need_is, own_take}
 use Rattle.csdf_core.proofs.Totals.{given-suc}
 
 -- what the firings give is told by the sums
@@ -75,10 +77,19 @@ module _ (plan : Plan) (p : Present) (a n : ℕ) (fit : IsFit plan p) (h : Finds
   not_full : first (is_full a k) plan.channels p.tokens ≡ None
   not_full =
       let none : AllByRecursion (λ c. full_at plan.channels a k p.tokens c ≡ false) (outputs_at plan.channels a) =
-      each (outputs_at plan.channels a)
-      (λ c (x : length (tokens_at p.tokens c) + gives_at plan.channels k (suc n) c ≤ capacity_at plan.channels c).
-      le-ltb (capacity_at plan.channels c) (length (tokens_at p.tokens c) - own_take_at plan.channels a k c + give_at plan.channels k c) (omega (arith, x)))
-      h.room in
+      both (outputs_at plan.channels a)
+      (λ c (x : length (tokens_at p.tokens c) + grows_at plan.channels a k (suc n) c ≤ capacity_at plan.channels c)
+      (y : (c < length plan.channels) × (from_at plan.channels c ≡ a)).
+      le-ltb (capacity_at plan.channels c) (length (tokens_at p.tokens c) - own_take_at plan.channels a k c + give_at plan.channels k c)
+      (elim (eqb_tells (to_at plan.channels c) a) [
+        | inl to ↦
+            (let even = even_at plan.channels a h.steady k c y.0 y.1 to.1 in
+            let there = of_own (λ d. takes_at plan.channels k (suc n) d ≤ length (tokens_at p.tokens d)) (λ (z : Channel). z.to) a plan.channels h.tokens c y.0 to.1 in
+            let mine = own_take a k plan.channels c to.1 y.0 in
+            omega (arith, x, even, there, mine))
+        | inr to ↦ (let all = grows_other plan.channels a k (suc n) c to.1 in omega (arith, x, all))
+      ]))
+      h.room (outs_told plan.channels a) in
       sym (first_full a k plan.channels p.tokens fit.queued) ∙ none_found (full_at plan.channels a k p.tokens) (outputs_at plan.channels a) none
 
   not_dry : is_dry plan p a ≡ false
@@ -106,7 +117,8 @@ module _ (plan : Plan) (p : Present) (a n : ℕ) (fit : IsFit plan p) (h : Finds
   enough_cells : lacks_cells plan p a ≡ false
   enough_cells =
       and_none _ _
-      (le-ltb plan.cells (held p + reserved plan p + (gift a k plan.channels - need a k plan.channels)) (let c = h.cells in omega (arith, c)))
+      (le-ltb plan.cells (held p + reserved plan p + (gift a k plan.channels - need a k plan.channels)) (let c = h.cells in let gift = gift_within plan.channels a h.steady k in let more = growth_fewer plan.channels a k 1 (suc n) (omega arith) in
+      omega (arith, c, gift, more)))
 
   pub begins_next : refusal plan p (Begin a) ≡ None
   begins_next =
@@ -126,11 +138,6 @@ takes_fewer channels k zero n c le = omega arith
 takes_fewer channels k (suc m) zero c le = absurd (omega arith)
 takes_fewer channels k (suc m) (suc n) c le = let r = takes_fewer channels (suc k) m n c (omega arith) in omega (arith, r)
 
-gives_fewer : (channels : List Channel) (k m n c : ℕ) → m ≤ n → gives_at channels k m c ≤ gives_at channels k n c
-gives_fewer channels k zero n c le = omega arith
-gives_fewer channels k (suc m) zero c le = absurd (omega arith)
-gives_fewer channels k (suc m) (suc n) c le = let r = gives_fewer channels (suc k) m n c (omega arith) in omega (arith, r)
-
 fewer_begun : (o : Option ℕ) (b m n : ℕ) → m ≤ n → IfSome o (λ most. b + n ≤ most) → IfSome o (λ most. b + m ≤ most)
 fewer_begun None b m n le h = tt
 fewer_begun (Some most) b m n le h = omega (arith, le, h)
@@ -140,7 +147,7 @@ pub finds_fewer : (plan : Plan) (p : Present) (a k m n : ℕ) → m ≤ n → Fi
 finds_fewer plan p a k m n le h =
     let gifts = gifts_fewer plan.channels a k m n le in
     record {
-      apart = h.apart;
+      steady = h.steady;
       there = h.there;
       number = h.number;
       idle = h.idle;
@@ -152,9 +159,9 @@ finds_fewer plan p a k m n le h =
           (let t = takes_fewer plan.channels k m n c le in
           let r : takes_at plan.channels k m c ≤ length (tokens_at p.tokens c) = omega (arith, x, t) in r)) h.tokens;
       room = each (outputs_at plan.channels a)
-          (λ c (x : length (tokens_at p.tokens c) + gives_at plan.channels k n c ≤ capacity_at plan.channels c).
-          (let t = gives_fewer plan.channels k m n c le in
-          let r : length (tokens_at p.tokens c) + gives_at plan.channels k m c ≤ capacity_at plan.channels c = omega (arith, x, t) in r)) h.room;
+          (λ c (x : length (tokens_at p.tokens c) + grows_at plan.channels a k n c ≤ capacity_at plan.channels c).
+          (let t = grows_fewer plan.channels a k m n c le in
+          let r : length (tokens_at p.tokens c) + grows_at plan.channels a k m c ≤ capacity_at plan.channels c = omega (arith, x, t) in r)) h.room;
       firings = fewer_begun plan.firings (begun_count p) m n le h.firings;
-      cells = (let c = h.cells in omega (arith, c, gifts));
+      cells = (let c = h.cells in let growth = growth_fewer plan.channels a k m n le in omega (arith, c, growth));
     }

@@ -1,15 +1,16 @@
 -- A block of firings is its moves, one after another.
-use Rattle.std.proofs.Common.{◌≡◌, ℕ, zero, suc, ◌+◌, ◌<◌, ◌≤◌, inl, inr, ◌⊎◌, List, [], ◌∷◌, ◌++◌, length, get_or, set, take, drop, refl, ap, ap₂, subst, ◌∙◌}
+use Rattle.std.proofs.Common.{◌≡◌, ◌≢◌, ℕ, zero, suc, ◌+◌, ◌<◌, ◌≤◌, inl, inr, ◌⊎◌, List, [], ◌∷◌, ◌++◌, length, get_or, set, take, drop, refl, ap, ap₂, subst, ◌∙◌}
 use Rattle.std.proofs.Common.{sym, arith, Option, Some, None, set-set, get_or-set_same}
 use Rattle.std.specs.Prelude.{ℤ, IfSome}
 use Rattle.std.specs.List.{AllByRecursion}
 use Rattle.std.proofs.Math.Seq.{take-append_seam, drop-append_seam}
-use Rattle.std.proofs.lemmas.List.{set-get_or, take-append-drop, length-take-le, length-drop, length-append}
+use Rattle.std.proofs.lemmas.Bool.Decides.{eqb_tells}
+use Rattle.std.proofs.lemmas.List.{set-get_or, take-append-drop, take-append-le, length-take-le, length-drop, length-append}
 use Rattle.csdf_pool.specs.Pool.{Shared}
-use Rattle.csdf_core.specs.Blocks.{needs_of, gifts_of, takes_at, gives_at, firings_of, AreAccepted, answers_to, handed_by, FindsAll, capacity_at, IsPlain}
+use Rattle.csdf_core.specs.Blocks.{needs_of, gifts_of, takes_at, grows_at, HasNoLoop, firings_of, AreAccepted, answers_to, handed_by, FindsAll, capacity_at, IsPlain}
 use Rattle.csdf_core.specs.Blocks.{takes_in, puts_in, fronts, reads_over, pool_after, peaks_after, Suffices, parts_of, reads_among}
-use Rattle.csdf_core.specs.Plan.{Channel, Plan}
-use Rattle.csdf_core.specs.Ports.{inputs_at, outputs_at, take_at, give_at, tokens_in, tokens_at, raise_over, EnoughOver}
+use Rattle.csdf_core.specs.Plan.{Channel, Plan, from_at}
+use Rattle.csdf_core.specs.Ports.{inputs_at, outputs_at, take_at, tokens_in, tokens_at, raise_over, EnoughOver}
 use Rattle.csdf_core.specs.Rows.{need, gift}
 use Rattle.csdf_core.specs.Shows.{Plays}
 use Rattle.csdf_core.specs.Step.{count, given, begun_count}
@@ -18,10 +19,11 @@ use Rattle.csdf_core.proofs.BlockBegins.{begins_next}
 use Rattle.csdf_core.proofs.BlockMachines.{Machine, IsGood, view, ins, outs, ins_within, outs_within, all_told, read_is, write_is}
 use Rattle.csdf_core.proofs.BlockPools.{Holds}
 use Rattle.csdf_core.proofs.BlockPorts.{both, each, took, gave, none_moved, takes_in_more, puts_in_more, past, holds_took, holds_gave}
-use Rattle.csdf_core.proofs.BlockPorts.{free_took, free_takes, free_puts, out_after, raise_none, raise_twice, peaks_at, AreWithin, AreApart}
-use Rattle.csdf_core.proofs.BlockTokens.{are_apart, inputs_after, outputs_after, taken_fronts, reads_same, length-fronts}
-use Rattle.csdf_core.proofs.FiringMoves.{IsFired, fired1, fired2, fired4, is_fired, plays_fired}
+use Rattle.csdf_core.proofs.BlockPorts.{free_took, out_after, raise_none, raise_twice, peaks_at, AreWithin, AreApart}
+use Rattle.csdf_core.proofs.BlockTokens.{are_apart, inputs_after, outputs_grown, taken_fronts, reads_alike, length-fronts}
+use Rattle.csdf_core.proofs.FiringMoves.{IsFired, fired1, fired2, fired4, is_fired, plays_fired, held_read, held_fired}
 use Rattle.csdf_core.proofs.Moving.{peaks_here, enough_here}
+use Rattle.csdf_core.proofs.OwnChannels.{grows_step, growth_step, growth_fewer, growth_all, gift_within}
 use Rattle.csdf_core.proofs.Presents.{present_same}
 use Rattle.csdf_core.proofs.PortLemmas.{need_is}
 use Rattle.csdf_core.proofs.Runs.{plays_none}
@@ -55,9 +57,9 @@ module _ (plan : Plan) (a : ℕ) where
   abbrev pub AreFew : ℕ → ℕ → Type 0
   AreFew k n = (i : ℕ) → i < n → gift a (k + i) plan.channels ≤ 8192
 
-  pub room_for : (m : Machine) (n : ℕ) → IsGood plan m → FindsAll plan m.now a (count m.now a) n
+  pub room_for : (m : Machine) (n : ℕ) → HasNoLoop plan.channels a → IsGood plan m → FindsAll plan m.now a (count m.now a) n
       → gifts_of plan.channels a (count m.now a) n ≤ length m.pool.free
-  room_for m n good h = let c = h.cells in omega (arith, c, all_told plan a m good)
+  room_for m n apart good h = let c = h.cells in omega (arith, c, all_told plan a m good, growth_all plan.channels a apart (count m.now a) n)
 
   tokens_moved : (m : Machine) (n : ℕ) (v : List ℤ) (q : Shared) → IsGood plan m → length v ≤ length m.pool.free
       → q ≡ puts_in (outs plan a) (takes_in (ins plan a) n m.pool) v → tokens_in q ≡ gave (outs plan a) (took (ins plan a) n m.now.tokens) v
@@ -96,22 +98,31 @@ module _ (plan : Plan) (a : ℕ) where
         sym (peaks_here plan m2.now a v m4.now.tokens m.peaks (raise_over (outs plan a) m4.now.tokens m.peaks) four.good2.sound.fit four.good2.sound.peaked
         four.good2.sound.high refl refl)
 
-    room4 : length v ≤ length m.pool.free
-    room4 = let r = room_for m (suc n) good h in omega (arith, r, len)
+    inputs4 : AllByRecursion
+        (λ c. (w : List ℤ) × (tokens_at m4.now.tokens c ≡ drop (take_at plan.channels k c) (tokens_at m.now.tokens c) ++ w)) (ins plan a)
+    inputs4 = inputs_after plan.channels a k m.now.tokens v good.sound.fit.queued
 
-    pub inputs4 : AllByRecursion (λ c. tokens_at m4.now.tokens c ≡ drop (take_at plan.channels k c) (tokens_at m.now.tokens c)) (ins plan a)
-    inputs4 = inputs_after plan.channels a k m.now.tokens v good.sound.fit.queued h.apart
+    -- the firings after it read none of its tokens
+    pub fronts4 : AllByRecursion
+        (λ c. take (takes_at plan.channels (suc k) n c) (tokens_at m4.now.tokens c)
+        ≡ take (takes_at plan.channels (suc k) n c) (drop (take_at plan.channels k c) (tokens_at m.now.tokens c))) (ins plan a)
+    fronts4 =
+        both (ins plan a)
+        (λ c (x : takes_at plan.channels k (suc n) c ≤ length (tokens_at m.now.tokens c))
+        (y : (w : List ℤ) × (tokens_at m4.now.tokens c ≡ drop (take_at plan.channels k c) (tokens_at m.now.tokens c) ++ w)).
+        ap (take (takes_at plan.channels (suc k) n c)) y.1
+        ∙ take-append-le (takes_at plan.channels (suc k) n c) (drop (take_at plan.channels k c) (tokens_at m.now.tokens c)) y.0
+        (let d = length-drop (take_at plan.channels k c) (tokens_at m.now.tokens c) in omega (arith, x, d)))
+        h.tokens inputs4
 
-    outputs4 : AllByRecursion (λ d. length (tokens_at m4.now.tokens d) ≤ length (tokens_at m.now.tokens d) + give_at plan.channels k d) (outs plan a)
-    outputs4 = outputs_after plan.channels a k m.now.tokens v good.sound.fit.queued
+    pub takes4 : AllByRecursion (λ c. take_at plan.channels k c ≤ length (tokens_at m.now.tokens c)) (ins plan a)
+    takes4 =
+        each (ins plan a)
+        (λ c (x : takes_at plan.channels k (suc n) c ≤ length (tokens_at m.now.tokens c)).
+        (let y : take_at plan.channels k c ≤ length (tokens_at m.now.tokens c) = omega (arith, x) in y)) h.tokens
 
-    -- the free cells are fewer by what was written at most
-    free4 : length m.pool.free ≤ length m4.pool.free + length v
-    free4 =
-        let more = free_takes (take_at plan.channels k) (ins plan a) m.pool (ins_within plan a (length m.pool.chains) good.sound.chained) in
-        let left = free_puts (give_at plan.channels k) (outs plan a) m2.pool v (outs_within plan a (length m2.pool.chains) four.good2.sound.chained)
-        (omega (arith, more, room4)) in
-        omega (arith, more, left)
+    outputs4 : AllByRecursion (λ d. length (tokens_at m4.now.tokens d) ≤ length (tokens_at m.now.tokens d) + grows_at plan.channels a k 1 d) (outs plan a)
+    outputs4 = outputs_grown plan.channels a k m.now.tokens v good.sound.fit.queued h.steady takes4
 
     -- the firing finds its tokens, and cells
     pub enough4 : EnoughOver (take_at plan.channels k) (ins plan a) (tokens_in m.pool)
@@ -119,12 +130,14 @@ module _ (plan : Plan) (a : ℕ) where
 
     pub cells4 : gift a k plan.channels ≤ length (after_read plan a k m.pool).free
     cells4 =
-        let more = free_takes (take_at plan.channels k) (ins plan a) m.pool (ins_within plan a (length m.pool.chains) good.sound.chained) in
-        omega (arith, more, room4, len)
+        let c = h.cells in
+        let gift = gift_within plan.channels a h.steady k in
+        let more = growth_fewer plan.channels a k 1 (suc n) (omega arith) in
+        omega (arith, c, gift, more, held_read plan a m v four, all_told plan a m good, all_told plan a m2 four.good2)
 
     pub finds4 : FindsAll plan m4.now a (suc k) n
     finds4 = record {
-      apart = h.apart;
+      steady = h.steady;
       there = h.there;
       number = four.number;
       idle = four.idle;
@@ -133,18 +146,20 @@ module _ (plan : Plan) (a : ℕ) where
       supply = λ source. (let s = h.supply source in let e : k + suc n ≡ suc k + n = omega arith in let t = ap (given plan a) e in omega (arith, s, t));
       tokens = both (ins plan a)
           (λ c (x : takes_at plan.channels k (suc n) c ≤ length (tokens_at m.now.tokens c))
-          (y : tokens_at m4.now.tokens c ≡ drop (take_at plan.channels k c) (tokens_at m.now.tokens c)).
-          (let e = ap length y in let d = length-drop (take_at plan.channels k c) (tokens_at m.now.tokens c) in
-          let r : takes_at plan.channels (suc k) n c ≤ length (tokens_at m4.now.tokens c) = omega (arith, x, e, d) in r)) h.tokens inputs4;
+          (y : (w : List ℤ) × (tokens_at m4.now.tokens c ≡ drop (take_at plan.channels k c) (tokens_at m.now.tokens c) ++ w)).
+          (let e = ap length y.1 in let s = length-append (drop (take_at plan.channels k c) (tokens_at m.now.tokens c)) y.0 in
+          let d = length-drop (take_at plan.channels k c) (tokens_at m.now.tokens c) in
+          let r : takes_at plan.channels (suc k) n c ≤ length (tokens_at m4.now.tokens c) = omega (arith, x, e, s, d) in r)) h.tokens inputs4;
       room = both (outs plan a)
-          (λ c (x : length (tokens_at m.now.tokens c) + gives_at plan.channels k (suc n) c ≤ capacity_at plan.channels c)
-          (y : length (tokens_at m4.now.tokens c) ≤ length (tokens_at m.now.tokens c) + give_at plan.channels k c).
-          (let r : length (tokens_at m4.now.tokens c) + gives_at plan.channels (suc k) n c ≤ capacity_at plan.channels c = omega (arith, x, y) in r))
+          (λ c (x : length (tokens_at m.now.tokens c) + grows_at plan.channels a k (suc n) c ≤ capacity_at plan.channels c)
+          (y : length (tokens_at m4.now.tokens c) ≤ length (tokens_at m.now.tokens c) + grows_at plan.channels a k 1 c).
+          (let s = grows_step plan.channels a k n c in
+          let r : length (tokens_at m4.now.tokens c) + grows_at plan.channels a (suc k) n c ≤ capacity_at plan.channels c = omega (arith, x, y, s) in r))
           h.room outputs4;
       firings = fewer plan.firings (begun_count m.now) (begun_count m4.now) n
           (let x = good.sound.starts in let y = four.good4.sound.starts in omega (arith, x, y)) h.firings;
-      cells = (let c = h.cells in let x = all_told plan a m good in let y = all_told plan a m4 four.good4 in let u = good.sound.keeps in let w = four.good4.sound.keeps in
-          let kept = four.kept in omega (arith, c, x, y, u, w, kept, free4, len));
+      cells = (let c = h.cells in let u = good.sound.keeps in let w = four.good4.sound.keeps in let kept = four.kept in
+          omega (arith, c, u, w, kept, held_fired plan a m v four len, gift_within plan.channels a h.steady k, growth_step plan.channels a k n));
     }
 
   module _ (n : ℕ) (v : List ℤ) (m new : Machine) (good : IsGood plan m) (h : FindsAll plan m.now a (count m.now a) (suc n))
@@ -178,7 +193,7 @@ module _ (plan : Plan) (a : ℕ) where
     q = takes_in (ins plan a) r m.pool
 
     apart : AreApart (ins plan a) (outs plan a)
-    apart = are_apart plan.channels a h.apart
+    apart = are_apart plan.channels a plain.apart
 
     chained : length q.chains ≡ length plan.channels
     chained = (holds_took (ins plan a) r m.pool (ins_within plan a (length m.pool.chains) good.sound.chained)).chained ∙ good.sound.chained
@@ -187,7 +202,7 @@ module _ (plan : Plan) (a : ℕ) where
     pool_step : new.pool ≡ puts_in (outs plan a) (takes_in (ins plan a) (r + more) m.pool) v
     pool_step =
         let free = free_took (ins plan a) r m.pool (ins_within plan a (length m.pool.chains) good.sound.chained) in
-        let all = room_for m (suc n) good h in
+        let all = room_for m (suc n) plain.apart good h in
         b.plain_pool plain
         ∙ ap (λ (x : Shared). puts_in (outs plan a) (takes_in (ins plan a) more x) w) (pool4 n m v1 good h len1 few1 plain)
         ∙ ap (λ (x : Shared). puts_in (outs plan a) x w)
@@ -203,7 +218,7 @@ module _ (plan : Plan) (a : ℕ) where
         let f4 : FindsAll plan n4.now a (suc j) n = finds4 n m v1 good h len1 few1 in
         let h4 : FindsAll plan n4.now a (count n4.now a) n = subst (λ (x : ℕ). FindsAll plan n4.now a x n) (sym f4.number) f4 in
         let lenw : length w ≡ gifts_of plan.channels a (suc j) n = (let d = length-drop g v in omega (arith, d, len)) in
-        let room : length w ≤ length n4.pool.free = (let c = room_for n4 n g4 h4 in
+        let room : length w ≤ length n4.pool.free = (let c = room_for n4 n plain.apart g4 h4 in
         let e = ap (λ (x : ℕ). gifts_of plan.channels a x n) f4.number in omega (arith, c, e, lenw)) in
         let later : new.now.tokens ≡ gave (outs plan a) (took (ins plan a) more n4.now.tokens) w = sym b.good.chains
         ∙ tokens_moved n4 more w new.pool g4 room (b.plain_pool plain) in
@@ -292,8 +307,8 @@ module _ (plan : Plan) (a : ℕ) where
           let first : List ℤ = fronts (take_at plan.channels k) (ins plan a) (tokens_at m.now.tokens) in
           let others : List ℤ = reads_over plan.channels (ins plan a) (suc k) n (λ c. drop (take_at plan.channels k c) (tokens_at m.now.tokens c)) in
           let later : reads_over plan.channels (ins plan a) (suc k) n (tokens_at n4.now.tokens) ≡ others =
-          reads_same plan.channels (ins plan a) (suc k) n (tokens_at n4.now.tokens) (λ c. drop (take_at plan.channels k c) (tokens_at m.now.tokens c))
-          (inputs4 n m v1 good h len1 few1) in
+          reads_alike plan.channels (ins plan a) (suc k) n (tokens_at n4.now.tokens) (λ c. drop (take_at plan.channels k c) (tokens_at m.now.tokens c))
+          (fronts4 n m v1 good h len1 few1) in
           record {
             counts = b.counts ∙ set-set m.now.counts a (suc k) (suc k + n) ∙ ap (set m.now.counts a) (let e : suc k + n ≡ k + suc n = omega arith in e);
             stages = b.stages ∙ s.stages;
@@ -313,10 +328,8 @@ module _ (plan : Plan) (a : ℕ) where
             accepted = (s.none1, (s.none2, (s.none3, (s.none4, b.accepted))));
             handed = ap₂ (λ (x y : List ℤ). x ++ y) (taken_fronts plan.channels a k m.now.tokens good.sound.fit.queued) (b.handed ∙ later);
             reads =
-                let one : AllByRecursion (λ c. take_at plan.channels k c ≤ length (tokens_at m.now.tokens c)) (ins plan a) = each (ins plan a)
-                (λ c (x : takes_at plan.channels k (suc n) c ≤ length (tokens_at m.now.tokens c)).
-                (let y : take_at plan.channels k c ≤ length (tokens_at m.now.tokens c) = omega (arith, x) in y)) h.tokens in
-                let size : length first ≡ r = length-fronts (take_at plan.channels k) (ins plan a) (tokens_at m.now.tokens) one ∙ need_is a k plan.channels in
+                let size : length first ≡ r = length-fronts (take_at plan.channels k) (ins plan a) (tokens_at m.now.tokens) (takes4 n m v1 good h len1 few1)
+                ∙ need_is a k plan.channels in
                 let front : take r (first ++ others) ≡ first =
                 ap (λ (x : ℕ). take x (first ++ others)) (sym size) ∙ take-append_seam first others in
                 let back : drop r (first ++ others) ≡ others =
@@ -332,12 +345,26 @@ one_or_more zero = inl (omega arith)
 one_or_more (suc zero) = inl (omega arith)
 one_or_more (suc (suc n)) = inr (omega arith)
 
+apart_or_not : (channels : List Channel) (a : ℕ) (ns : List ℕ)
+    → AllByRecursion (λ c. from_at channels c ≢ a) ns ⊎ (AllByRecursion (λ c. from_at channels c ≢ a) ns → ⊥)
+apart_or_not channels a [] = inl tt
+apart_or_not channels a (c ∷ ns) = elim (eqb_tells (from_at channels c) a) [
+  | inl own ↦ inr (λ all. all.0 own.1)
+  | inr other ↦ elim (apart_or_not channels a ns) [
+    | inl rest ↦ inl (other.1, rest)
+    | inr some ↦ inr (λ all. some all.1)
+  ]
+]
+
 plain_or_not : (channels : List Channel) (a : ℕ) → IsPlain channels a ⊎ (IsPlain channels a → ⊥)
 plain_or_not channels a = elim (one_or_more (length (inputs_at channels a))) [
   | inr many ↦ inr (λ is. (let one = is.one_in in absurd (omega (arith, many, one))))
   | inl one_in ↦ elim (one_or_more (length (outputs_at channels a))) [
     | inr many ↦ inr (λ is. (let one = is.one_out in absurd (omega (arith, many, one))))
-    | inl one_out ↦ inl (record { one_in = one_in; one_out = one_out })
+    | inl one_out ↦ elim (apart_or_not channels a (inputs_at channels a)) [
+      | inr own ↦ inr (λ is. own is.apart)
+      | inl apart ↦ inl (record { one_in = one_in; one_out = one_out; apart = apart })
+    ]
   ]
 ]
 

@@ -108,14 +108,6 @@ holds_takes f (c ∷ ns) pool l =
       partition = λ part. rest.partition (h.partition part);
     }
 
-pub free_takes : (f : ℕ → ℕ) (ns : List ℕ) (pool : Shared) → AreWithin ns (length pool.chains) → length pool.free ≤ length (after_takes_over f ns pool).free
-free_takes f [] pool l = omega arith
-free_takes f (c ∷ ns) pool l =
-    let h = holds_taken pool c (f c) l.0 in
-    let first : length pool.free ≤ length (after_takes pool c (f c)).free = free_took (c ∷ []) (f c) pool (l.0, tt) in
-    let rest = free_takes f ns (after_takes pool c (f c)) (subst (AreWithin ns) (sym h.chained) l.1) in
-    omega (arith, first, rest)
-
 -- the cells that are left by a put, and that the rest of what is put finds them
 left_free : (pool : Shared) (c n : ℕ) (v : List ℤ) → c < length pool.chains → length v ≤ length pool.free
     → length (after_puts pool c (take n v)).free + length (take n v) ≡ length pool.free
@@ -141,18 +133,6 @@ holds_puts f (c ∷ ns) pool v l room =
       tokens_are = rest.tokens_are ∙ ap (λ (ts : List (List ℤ)). puts_over f ns ts (drop (f c) v)) h.tokens_are;
       partition = λ part. rest.partition (h.partition part);
     }
-
-pub free_puts : (f : ℕ → ℕ) (ns : List ℕ) (pool : Shared) (v : List ℤ) → AreWithin ns (length pool.chains) → length v ≤ length pool.free
-    → length pool.free ≤ length (after_puts_over f ns pool v).free + length v
-free_puts f [] pool v l room = omega arith
-free_puts f (c ∷ ns) pool v l room =
-    let size = length-take (f c) v in
-    let others = length-drop (f c) v in
-    let free = left_free pool c (f c) v l.0 room in
-    let h = holds_put pool c (take (f c) v) l.0 (omega (arith, size, room)) in
-    let rest = free_puts f ns (after_puts pool c (take (f c) v)) (drop (f c) v) (subst (AreWithin ns) (sym h.chained) l.1)
-    (omega (arith, size, others, free, room)) in
-    omega (arith, size, others, free, rest, room)
 
 -- ---- the ports' tokens after it
 pub in_after : (ins outs : List ℕ) (ts : List (List ℤ)) (n : ℕ) (v : List ℤ) → length ins ≤ 1 → AreWithin ins (length ts) → AreApart ins outs

@@ -1,24 +1,25 @@
 -- What a firing leaves in each of its actor's channels, and what many firings read of them.
-use Rattle.std.proofs.Common.{◌≡◌, ◌≢◌, ℕ, zero, suc, ◌+◌, ◌-◌, ◌<◌, ◌≤◌, ◌==◌, min, cond, Bool, true, false, List, [], ◌∷◌, ◌++◌, length, take, drop}
+use Rattle.std.proofs.Common.{◌≡◌, ◌≢◌, ℕ, zero, suc, ◌+◌, ◌-◌, ◌<◌, ◌≤◌, ◌==◌, min, cond, Bool, true, false, inl, inr, List, [], ◌∷◌, ◌++◌, length, take, drop}
 use Rattle.std.proofs.Common.{refl, ap, ap₂, ◌∙◌, sym, subst, arith, append-nil}
 use Rattle.std.specs.Prelude.{ℤ, sum_by}
 use Rattle.std.specs.List.{AllByRecursion}
 use Rattle.std.proofs.Math.Seq.{take-add, drop-nil}
 use Rattle.std.proofs.lemmas.Bool.{ne_eqb}
-use Rattle.std.proofs.lemmas.List.{length-append, length-drop, length-take, length-take-le}
-use Rattle.std.proofs.lemmas.List.Elements.{recursion_from_All}
+use Rattle.std.proofs.lemmas.Bool.Decides.{eqb_tells}
+use Rattle.std.proofs.lemmas.List.{drop-take, length-append, length-drop, length-take, length-take-le}
 use Rattle.std.proofs.lemmas.List.Sums.{sum_by-cons}
 use Rattle.csdf_model.specs.Rates.{rate}
 use Rattle.csdf_pool.specs.Pool.{Shared}
-use Rattle.csdf_core.specs.Blocks.{needs_of, gifts_of, takes_at, fronts, reads_over, from_front, HasNoLoop, HoldAll}
+use Rattle.csdf_core.specs.Blocks.{needs_of, gifts_of, takes_at, fronts, reads_over, from_front, grows_at, HasNoLoop, IsSteady, HoldAll}
 use Rattle.csdf_core.specs.Blocks.{pool_fired, pool_after, peaks_after, Suffices}
 use Rattle.csdf_core.specs.Plan.{Channel, Plan, from_at, to_at, gives_of}
 use Rattle.csdf_core.specs.Ports.{inputs_at, outputs_at, take_at, give_at, own_take_at, tokens_at, tokens_in, raise_over}
 use Rattle.csdf_core.specs.Rows.{left, joined, shares, taken, need, gift}
 use Rattle.csdf_core.specs.Transfers.{after_read, after_write}
 use Rattle.csdf_core.proofs.BlockPorts.{AreApart, both, each}
-use Rattle.csdf_core.proofs.PhaseLemmas.{numbers_own}
-use Rattle.csdf_core.proofs.PortLemmas.{fronts_all, rates_by_number, need_is, numbers_within, own_take}
+use Rattle.csdf_core.proofs.OwnChannels.{ins_there, ins_own, outs_there, outs_own, even_at, grows_own, grows_other}
+use Rattle.csdf_core.proofs.PhaseLemmas.{of_own}
+use Rattle.csdf_core.proofs.PortLemmas.{fronts_all, rates_by_number, need_is, own_take}
 
 -- ---- one channel after the reads and writes
 pub left_at : (a k : ℕ) (cs : List Channel) (ts : List (List ℤ)) (c : ℕ) → length ts ≡ length cs → c < length cs
@@ -41,6 +42,14 @@ joined_other a k (x ∷ cs) [] v c e lt other = absurd (omega arith)
 joined_other a k (x ∷ cs) (t ∷ ts) v zero e lt other =
     ap (λ b. t ++ take (cond b (rate x.produce k) 0) v) (ne_eqb x.from a other) ∙ append-nil t
 joined_other a k (x ∷ cs) (t ∷ ts) v (suc c) e lt other = joined_other a k cs ts (drop (gives_of a k x) v) c (omega arith) (omega arith) other
+
+-- what a channel gets comes behind what it holds
+joined_behind : (a k : ℕ) (cs : List Channel) (ts : List (List ℤ)) (v : List ℤ) (c : ℕ) → length ts ≡ length cs → c < length cs
+    → (w : List ℤ) × (tokens_at (joined ts (shares a k cs v)) c ≡ tokens_at ts c ++ w)
+joined_behind a k [] ts v c e lt = absurd (omega arith)
+joined_behind a k (x ∷ cs) [] v c e lt = absurd (omega arith)
+joined_behind a k (x ∷ cs) (t ∷ ts) v zero e lt = (take (gives_of a k x) v, refl)
+joined_behind a k (x ∷ cs) (t ∷ ts) v (suc c) e lt = joined_behind a k cs ts (drop (gives_of a k x) v) c (omega arith) (omega arith)
 
 at_most : (b : Bool) (r : ℕ) → cond b r 0 ≤ r
 at_most true r = omega arith
@@ -66,32 +75,25 @@ module _ (cs : List Channel) (a : ℕ) where
   abbrev outs : List ℕ
   outs = outputs_at cs a
 
-  ins_there : AllByRecursion (λ c. c < length cs) ins
-  ins_there = recursion_from_All (λ c. c < length cs) ins (numbers_within (λ (c : Channel). c.to == a) cs)
-
-  outs_there : AllByRecursion (λ c. c < length cs) outs
-  outs_there = recursion_from_All (λ c. c < length cs) outs (numbers_within (λ (c : Channel). c.from == a) cs)
-
-  ins_own : AllByRecursion (λ c. to_at cs c ≡ a) ins
-  ins_own = recursion_from_All (λ c. to_at cs c ≡ a) ins (numbers_own (λ (c : Channel). c.to) a cs)
-
-  pub outs_own : AllByRecursion (λ c. from_at cs c ≡ a) outs
-  outs_own = recursion_from_All (λ c. from_at cs c ≡ a) outs (numbers_own (λ (c : Channel). c.from) a cs)
-
   -- inputs and outputs are different channels
   pub are_apart : HasNoLoop cs a → AreApart ins outs
-  are_apart loop_free = each ins (λ c (ne : from_at cs c ≢ a). each outs (λ d (is : from_at cs d ≡ a) e. ne (ap (from_at cs) (sym e) ∙ is)) outs_own) loop_free
+  are_apart loop_free =
+      each ins (λ c (ne : from_at cs c ≢ a). each outs (λ d (is : from_at cs d ≡ a) e. ne (ap (from_at cs) (sym e) ∙ is)) (outs_own cs a)) loop_free
 
   module _ (k : ℕ) (ts : List (List ℤ)) (v : List ℤ) (queued : length ts ≡ length cs) where
-    -- after a firing each input has lost its tokens
-    pub inputs_after : HasNoLoop cs a
-        → AllByRecursion (λ c. tokens_at (joined (left a k cs ts) (shares a k cs v)) c ≡ drop (take_at cs k c) (tokens_at ts c)) ins
-    inputs_after loop_free =
+    -- after a firing each input has lost its tokens, and what the firing gave to it comes behind the others
+    pub inputs_after : AllByRecursion
+        (λ c. (w : List ℤ) × (tokens_at (joined (left a k cs ts) (shares a k cs v)) c ≡ drop (take_at cs k c) (tokens_at ts c) ++ w)) ins
+    inputs_after =
         both ins
-        (λ c (x : (c < length cs) × (to_at cs c ≡ a)) (ne : from_at cs c ≢ a).
-        joined_other a k cs (left a k cs ts) v c (length-left a k cs ts queued) x.0 ne ∙ left_at a k cs ts c queued x.0
-        ∙ ap (λ n. drop n (tokens_at ts c)) (sym (own_take a k cs c x.1 x.0)))
-        (both ins (λ c (lt : c < length cs) (e : to_at cs c ≡ a). (lt, e)) ins_there ins_own) loop_free
+        (λ c (lt : c < length cs) (own : to_at cs c ≡ a).
+        (let behind = joined_behind a k cs (left a k cs ts) v c (length-left a k cs ts queued) lt in
+        let r : (w : List ℤ) × (tokens_at (joined (left a k cs ts) (shares a k cs v)) c ≡ drop (take_at cs k c) (tokens_at ts c) ++ w) = (
+          behind.0,
+          behind.1 ∙ ap (λ (u : List ℤ). u ++ behind.0)
+              (left_at a k cs ts c queued lt ∙ ap (λ n. drop n (tokens_at ts c)) (sym (own_take a k cs c own lt))),
+        ) in r))
+        (ins_there cs a) (ins_own cs a)
 
     -- and each output has at most what it gave more
     pub outputs_after : AllByRecursion (λ d. length (tokens_at (joined (left a k cs ts) (shares a k cs v)) d) ≤ length (tokens_at ts d) + give_at cs k d) outs
@@ -102,7 +104,28 @@ module _ (cs : List Channel) (a : ℕ) where
         let e = ap length (left_at a k cs ts d queued lt) in
         let s = length-drop (own_take_at cs a k d) (tokens_at ts d) in
         let r : length (tokens_at (joined (left a k cs ts) (shares a k cs v)) d) ≤ length (tokens_at ts d) + give_at cs k d = omega (arith, n, e, s) in r))
-        outs_there
+        (outs_there cs a)
+
+    -- a channel to the actor itself at most what it held, where the firing finds its tokens
+    pub outputs_grown : IsSteady cs a → AllByRecursion (λ c. take_at cs k c ≤ length (tokens_at ts c)) ins
+        → AllByRecursion (λ d. length (tokens_at (joined (left a k cs ts) (shares a k cs v)) d) ≤ length (tokens_at ts d) + grows_at cs a k 1 d) outs
+    outputs_grown steady enough =
+        both outs
+        (λ d (lt : d < length cs) (own : from_at cs d ≡ a).
+        (let n = joined_length a k cs (left a k cs ts) v d (length-left a k cs ts queued) lt in
+        let e = ap length (left_at a k cs ts d queued lt) in
+        let s = length-drop (own_take_at cs a k d) (tokens_at ts d) in
+        let r : length (tokens_at (joined (left a k cs ts) (shares a k cs v)) d) ≤ length (tokens_at ts d) + grows_at cs a k 1 d =
+        elim (eqb_tells (to_at cs d) a) [
+          | inl to ↦
+              (let even = even_at cs a steady k d lt own to.1 in
+              let there = of_own (λ c. take_at cs k c ≤ length (tokens_at ts c)) (λ (x : Channel). x.to) a cs enough d lt to.1 in
+              let mine = own_take a k cs d to.1 lt in
+              let none = grows_own cs a k 1 d to.1 in
+              omega (arith, n, e, s, even, there, mine, none))
+          | inr to ↦ (let all = grows_other cs a k 1 d to.1 in omega (arith, n, e, s, all))
+        ] in r))
+        (outs_there cs a) (outs_own cs a)
 
   -- what a firing reads
   pub taken_fronts : (k : ℕ) (ts : List (List ℤ)) → length ts ≡ length cs → taken a k cs ts ≡ fronts (take_at cs k) ins (tokens_at ts)
@@ -110,17 +133,37 @@ module _ (cs : List Channel) (a : ℕ) where
       fronts_all (λ c. c.to == a) (λ c. rate c.consume k) (take_at cs k) 0 [] cs ts refl queued (rates_by_number (λ c. c.to == a) (λ c. rate c.consume k) cs)
 
 -- ---- what is read, by what the channels hold
-pub fronts_same : (amount : ℕ → ℕ) (ns : List ℕ) (f g : ℕ → List ℤ) → AllByRecursion (λ c. f c ≡ g c) ns → fronts amount ns f ≡ fronts amount ns g
+fronts_same : (amount : ℕ → ℕ) (ns : List ℕ) (f g : ℕ → List ℤ) → AllByRecursion (λ c. take (amount c) (f c) ≡ take (amount c) (g c)) ns
+    → fronts amount ns f ≡ fronts amount ns g
 fronts_same amount [] f g same = refl
-fronts_same amount (c ∷ ns) f g same = ap₂ (λ (x y : List ℤ). x ++ y) (ap (take (amount c)) same.0) (fronts_same amount ns f g same.1)
+fronts_same amount (c ∷ ns) f g same = ap₂ (λ (x y : List ℤ). x ++ y) same.0 (fronts_same amount ns f g same.1)
+
+front_of : (m n : ℕ) (xs : List ℤ) → take m (take (m + n) xs) ≡ take m xs
+front_of zero n xs = refl
+front_of (suc m) n [] = ap (λ i. take (suc m) (take i [])) (let e : suc m + n ≡ suc (m + n) = omega arith in e)
+front_of (suc m) n (x ∷ xs) =
+    ap (λ i. take (suc m) (take i (x ∷ xs))) (let e : suc m + n ≡ suc (m + n) = omega arith in e) ∙ ap (λ (u : List ℤ). x ∷ u) (front_of m n xs)
+
+-- what n firings read is told by as many tokens of each channel as they take of it
+pub reads_alike : (cs : List Channel) (ns : List ℕ) (k n : ℕ) (f g : ℕ → List ℤ)
+    → AllByRecursion (λ c. take (takes_at cs k n c) (f c) ≡ take (takes_at cs k n c) (g c)) ns → reads_over cs ns k n f ≡ reads_over cs ns k n g
+reads_alike cs ns k zero f g same = refl
+reads_alike cs ns k (suc n) f g same =
+    ap₂ (λ (x y : List ℤ). x ++ y)
+    (fronts_same (take_at cs k) ns f g
+    (each ns
+    (λ c (e : take (takes_at cs k (suc n) c) (f c) ≡ take (takes_at cs k (suc n) c) (g c)).
+    sym (front_of (take_at cs k c) (takes_at cs (suc k) n c) (f c)) ∙ ap (take (take_at cs k c)) e
+    ∙ front_of (take_at cs k c) (takes_at cs (suc k) n c) (g c)) same))
+    (reads_alike cs ns (suc k) n (λ c. drop (take_at cs k c) (f c)) (λ c. drop (take_at cs k c) (g c))
+    (each ns
+    (λ c (e : take (takes_at cs k (suc n) c) (f c) ≡ take (takes_at cs k (suc n) c) (g c)).
+    sym (drop-take (take_at cs k c) (takes_at cs (suc k) n c) (f c)) ∙ ap (drop (take_at cs k c)) e
+    ∙ drop-take (take_at cs k c) (takes_at cs (suc k) n c) (g c)) same))
 
 pub reads_same : (cs : List Channel) (ns : List ℕ) (k n : ℕ) (f g : ℕ → List ℤ) → AllByRecursion (λ c. f c ≡ g c) ns
     → reads_over cs ns k n f ≡ reads_over cs ns k n g
-reads_same cs ns k zero f g same = refl
-reads_same cs ns k (suc n) f g same =
-    ap₂ (λ (x y : List ℤ). x ++ y) (fronts_same (take_at cs k) ns f g same)
-    (reads_same cs ns (suc k) n (λ c. drop (take_at cs k c) (f c)) (λ c. drop (take_at cs k c) (g c))
-    (each ns (λ c (e : f c ≡ g c). ap (drop (take_at cs k c)) e) same))
+reads_same cs ns k n f g same = reads_alike cs ns k n f g (each ns (λ c (e : f c ≡ g c). ap (take (takes_at cs k n c)) e) same)
 
 pub length-fronts : (amount : ℕ → ℕ) (ns : List ℕ) (f : ℕ → List ℤ) → AllByRecursion (λ c. amount c ≤ length (f c)) ns
     → length (fronts amount ns f) ≡ sum_by amount ns

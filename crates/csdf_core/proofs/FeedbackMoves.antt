@@ -8,21 +8,18 @@ use Rattle.csdf_core.specs.Blocks.{gifts_of, firings_of, AreAccepted, answers_to
 use Rattle.csdf_core.specs.Feedback.{KeepsState, GoesOn, shares_of}
 use Rattle.csdf_core.specs.Plan.{Plan, from_at}
 use Rattle.csdf_core.specs.Ports.{take_at, own_take_at, tokens_at}
-use Rattle.csdf_core.specs.Rows.{need, gift, left, AreThere}
+use Rattle.csdf_core.specs.Rows.{gift}
 use Rattle.csdf_core.specs.Shows.{Plays, raised}
-use Rattle.csdf_core.specs.Step.{count, begun_count, held}
+use Rattle.csdf_core.specs.Step.{count, begun_count}
 use Rattle.csdf_core.proofs.BlockMachines.{Machine, IsGood, view}
 use Rattle.csdf_core.proofs.BlockMoves.{AreFew, fewer}
 use Rattle.csdf_core.proofs.BlockPorts.{peak_at}
 use Rattle.csdf_core.proofs.BlockTokens.{outputs_after}
 use Rattle.csdf_core.proofs.FeedbackTokens.{own_give_at, given_before, goes_next, state_length, tokens_after, room_after, state_takes, state_needed}
-use Rattle.csdf_core.proofs.FiringMoves.{IsFired, fired1, fired4, is_fired, plays_fired}
+use Rattle.csdf_core.proofs.FiringMoves.{IsFired, fired4, is_fired, plays_fired, held_fired}
 use Rattle.csdf_core.proofs.GoingTokens.{moved, moved_later, moved_out, own_give_none, fired_at, raised_past}
-use Rattle.csdf_core.proofs.Kept.{reads}
 use Rattle.csdf_core.proofs.OnePhase.{same_gift}
 use Rattle.csdf_core.proofs.Peaceful.{peaks_stay}
-use Rattle.csdf_core.proofs.Ready.{are_there}
-use Rattle.csdf_core.proofs.RoomLemmas.{held-left, held-joined}
 use Rattle.csdf_core.proofs.Runs.{plays_none}
 
 -- the state after n firings, in one step
@@ -58,15 +55,6 @@ module _ (plan : Plan) (a own : ℕ) (keeps : KeepsState plan a own) where
         ≡ drop (own_take_at plan.channels a k c) (tokens_at m.now.tokens c)
         ++ take (own_give_at plan.channels a k c) (drop (given_before plan.channels a k c) v)
     tokens4 c lt = fired_at a k plan.channels m.now.tokens v c good.sound.fit.queued lt
-
-    -- no more is held than before, but for what it gave to others
-    held4 : held m4.now + need a k plan.channels ≡ held m.now + gift a k plan.channels
-    held4 =
-        let there : AreThere a k plan.channels m.now.tokens = are_there (fired1 plan a m v).now a plan.channels m.now.tokens (reads plan (fired1 plan a m v).now a four.none2).at
-        four.good1.sound.fit.ready in
-        let out = held-left a k plan.channels m.now.tokens good.sound.fit.queued there in
-        let put = held-joined a k plan.channels (left a k plan.channels m.now.tokens) v four.good2.sound.fit.queued len in
-        omega (arith, out, put)
 
     -- no peak after it is passed, but where as many tokens stay
     low4 : (c : ℕ) → c < length plan.channels → (i : ℕ) (w later : List ℤ) → later ≡ moved plan a (suc k) c i w (tokens_at m4.now.tokens c)
@@ -115,7 +103,7 @@ module _ (plan : Plan) (a own : ℕ) (keeps : KeepsState plan a own) where
           let all = ap (λ (x : ℕ). n * x) each in
           let more = suc-mul n (gift a k plan.channels - take_at plan.channels k own) in
           let low = state_needed plan a own keeps k in
-          let now4 = held4 in
+          let now4 = held_fired plan a m v four len in
           let u = good.sound.keeps in
           let w = four.good4.sound.keeps in
           let kept = four.kept in

@@ -1,18 +1,21 @@
 -- The four moves of one firing, of an idle actor whose begin is accepted.
-use Rattle.std.proofs.Common.{◌≡◌, ℕ, suc, ◌<◌, ◌≤◌, List, [], ◌∷◌, length, set, ap, ◌∙◌, sym, arith, None, set-set, length-set, get_or-set_same}
+use Rattle.std.proofs.Common.{◌≡◌, ℕ, suc, ◌+◌, ◌<◌, ◌≤◌, List, [], ◌∷◌, length, set, ap, ◌∙◌, sym, arith, None, set-set, length-set, get_or-set_same}
 use Rattle.std.specs.Prelude.{ℤ, Ok}
 use Rattle.std.proofs.lemmas.List.{set-get_or}
 use Rattle.csdf_core.specs.declared.stage.Stage.TheVariants.{Idle, Begun, Fetched, Written}
 use Rattle.csdf_core.specs.Moves.{Move}
 use Rattle.csdf_core.specs.Moves.{Begin, Read, Write, Finish}
 use Rattle.csdf_core.specs.Plan.{Plan}
-use Rattle.csdf_core.specs.Rows.{gift}
+use Rattle.csdf_core.specs.Rows.{need, gift, left, AreThere}
 use Rattle.csdf_core.specs.Shows.{Plays}
-use Rattle.csdf_core.specs.Step.{Reply, answer, count, stage, refusal, first_of, write_table}
+use Rattle.csdf_core.specs.Step.{Reply, answer, count, held, stage, refusal, first_of, write_table}
 use Rattle.csdf_core.proofs.Accepting.{reads_free, writes_free, finishes_free}
 use Rattle.csdf_core.proofs.BlockMachines.{Machine, IsGood, view, plays_first, m_begun, m_fetched, m_written, m_finished}
 use Rattle.csdf_core.proofs.BlockMachines.{good_begun, good_fetched, good_written, good_finished, follows_begun, follows_fetched}
 use Rattle.csdf_core.proofs.BlockMachines.{follows_written, follows_finished}
+use Rattle.csdf_core.proofs.Kept.{reads}
+use Rattle.csdf_core.proofs.Ready.{are_there}
+use Rattle.csdf_core.proofs.RoomLemmas.{held-left, held-joined}
 
 -- what a core comes to by one, two, three and four of them
 module _ (plan : Plan) (a : ℕ) (m : Machine) (v : List ℤ) where
@@ -83,6 +86,21 @@ is_fired plan a m v good there idle none1 len few =
       number = get_or-set_same m.now.counts a (suc (count m.now a)) 0 (let counted = good.sound.fit.counted in omega (arith, counted, there));
       kept = omega (arith, len);
     }
+
+-- what is held after its read, and after all four
+pub held_read : (plan : Plan) (a : ℕ) (m : Machine) (v : List ℤ) → IsFired plan a m v
+    → held (fired2 plan a m v).now + need a (count m.now a) plan.channels ≡ held m.now
+held_read plan a m v f =
+    let there : AreThere a (count m.now a) plan.channels m.now.tokens = are_there (fired1 plan a m v).now a plan.channels m.now.tokens
+    (reads plan (fired1 plan a m v).now a f.none2).at f.good1.sound.fit.ready in
+    held-left a (count m.now a) plan.channels m.now.tokens f.good.sound.fit.queued there
+
+pub held_fired : (plan : Plan) (a : ℕ) (m : Machine) (v : List ℤ) → IsFired plan a m v → length v ≡ gift a (count m.now a) plan.channels
+    → held (fired4 plan a m v).now + need a (count m.now a) plan.channels ≡ held m.now + gift a (count m.now a) plan.channels
+held_fired plan a m v f len =
+    let k : ℕ = count m.now a in
+    let put = held-joined a k plan.channels (left a k plan.channels m.now.tokens) v f.good2.sound.fit.queued len in
+    omega (arith, held_read plan a m v f, put)
 
 -- the moves at the front of others
 pub plays_fired : (plan : Plan) (a : ℕ) (m new : Machine) (v : List ℤ) (ms : List Move) (rs : List Reply) → IsFired plan a m v

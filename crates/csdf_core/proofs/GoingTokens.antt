@@ -1,6 +1,6 @@
 -- The channels after many firings of an actor that keeps its state in a channel to itself.
 use Rattle.std.proofs.Common.{◌≡◌, ◌≢◌, ℕ, zero, suc, ◌+◌, ◌-◌, ◌*◌, ◌<◌, ◌≤◌, ◌==◌, cond, max, Bool, true, false, inl, inr, List, [], ◌∷◌, ◌++◌, length}
-use Rattle.std.proofs.Common.{get_or, set, take, drop, map, refl, ap, ap₂, subst, ◌∙◌, sym, arith, append-nil, append_assoc, Option, Some, None}
+use Rattle.std.proofs.Common.{get_or, set, take, drop, refl, ap, ap₂, subst, ◌∙◌, sym, arith, append-nil, append_assoc, Option, Some, None}
 use Rattle.std.proofs.Common.{length-set, get_or-set_same, get_or-set_other, suc-mul}
 use Rattle.std.specs.Prelude.{ℤ, IfSome, sum_by}
 use Rattle.std.specs.List.{zip, AllByRecursion}
@@ -9,7 +9,6 @@ use Rattle.std.proofs.lemmas.Bool.{eq-eqb, ne_eqb}
 use Rattle.std.proofs.lemmas.Bool.Decides.{eqb_tells}
 use Rattle.std.proofs.lemmas.List.{drop_all, length-drop, length-take-le}
 use Rattle.std.proofs.lemmas.List.Sums.{sum_by-cons}
-use Rattle.csdf_model.specs.Graph.{numbers_from}
 use Rattle.csdf_model.specs.Rates.{rate}
 use Rattle.csdf_core.specs.Feedback.{KeepsState, in_order, others_of, stays_at, lasts_at, shares_of}
 use Rattle.csdf_core.specs.Phases.{HasPhases}
@@ -20,6 +19,7 @@ use Rattle.csdf_core.specs.Shows.{raised}
 use Rattle.csdf_core.proofs.BlockTokens.{left_at, length-left, drop_sum}
 use Rattle.csdf_core.proofs.FeedbackTokens.{own_give_at, given_before, joined_part, own_give, state_gives, state_given}
 use Rattle.csdf_core.proofs.OnePhase.{rate_one, same_gift}
+use Rattle.csdf_core.proofs.PhaseLemmas.{of_own}
 use Rattle.csdf_core.proofs.PortLemmas.{own_take, own_take_none, with_rows, gift_is}
 
 -- ---- one channel through n firings: each takes so many of its tokens, and gives it so many behind the first few of all that it writes
@@ -110,27 +110,6 @@ pub own_give_none : (a k : ℕ) (cs : List Channel) (c : ℕ) → from_at cs c �
 own_give_none a k [] c other = refl
 own_give_none a k (x ∷ cs) zero other = ap (λ (b : Bool). cond b (rate x.produce k) 0) (ne_eqb x.from a other)
 own_give_none a k (x ∷ cs) (suc c) other = own_give_none a k cs c other
-
--- ---- what holds of each number of the actor's own channels holds of any such channel
-module _ (P : ℕ → Type 0) (field : Channel → ℕ) (a : ℕ) where
-  of_numbers : (i : ℕ) (cs : List Channel) → AllByRecursion P (numbers_from i (λ c. field c == a) cs) → (j : ℕ) → j < length cs
-      → get_or (map field cs) j 0 ≡ a → P (i + j)
-  of_numbers i [] all j lt is = absurd (omega arith)
-  of_numbers i (x ∷ cs) all zero lt is =
-      let later : List ℕ = numbers_from (suc i) (λ c. field c == a) cs in
-      let here : AllByRecursion P (i ∷ later) = subst (λ (b : Bool). AllByRecursion P (cond b (i ∷ later) later)) (eq-eqb (field x) a is) all in
-      subst P (let e : i ≡ i + zero = omega arith in e) here.0
-  of_numbers i (x ∷ cs) all (suc j) lt is =
-      let later : List ℕ = numbers_from (suc i) (λ c. field c == a) cs in
-      let rest : AllByRecursion P later = elim (eqb_tells (field x) a) [
-        | inl e ↦ (let here : AllByRecursion P (i ∷ later) = subst (λ (b : Bool). AllByRecursion P (cond b (i ∷ later) later)) e.0 all in here.1)
-        | inr e ↦ subst (λ (b : Bool). AllByRecursion P (cond b (i ∷ later) later)) e.0 all
-      ] in
-      subst P (let e : suc i + j ≡ i + suc j = omega arith in e) (of_numbers (suc i) cs rest j (omega arith) is)
-
-  pub of_own : (cs : List Channel) → AllByRecursion P (numbers_from 0 (λ c. field c == a) cs) → (c : ℕ) → c < length cs
-      → get_or (map field cs) c 0 ≡ a → P c
-  of_own cs all c lt is = subst P (let e : 0 + c ≡ c = omega arith in e) (of_numbers 0 cs all c lt is)
 
 -- ---- one output's row
 module _ (a k : ℕ) (amount : ℕ → ℕ) (row : ℕ → ℕ → List ℤ) where

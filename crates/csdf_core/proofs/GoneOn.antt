@@ -22,7 +22,8 @@ use Rattle.csdf_core.proofs.FeedbackMoves.{IsLoopBlock}
 use Rattle.csdf_core.proofs.FeedbackReads.{other_there}
 use Rattle.csdf_core.proofs.FeedbackTokens.{asks_other, own_give_at, given_before, own_give, state_takes, state_gives}
 use Rattle.csdf_core.proofs.GoingTokens.{moved, moved_round, moved_out, moved_away, output_only, row_gained, row_missed, own_left, rest_left, length-takes}
-use Rattle.csdf_core.proofs.GoingTokens.{high_elsewhere, of_own}
+use Rattle.csdf_core.proofs.GoingTokens.{high_elsewhere}
+use Rattle.csdf_core.proofs.PhaseLemmas.{of_own}
 use Rattle.csdf_core.proofs.OnePhase.{gifts_times, takes_times}
 use Rattle.csdf_core.proofs.OtherCells.{sound_elsewhere, plays_elsewhere}
 use Rattle.csdf_core.proofs.PortLemmas.{with_rows, rows_all, rates_by_number, raise_all}

@@ -41,13 +41,14 @@ pub mod EverCores
 pub mod EverExamples
 pub mod BlockPools
 pub mod BlockPorts
+pub mod OnePhase
+pub mod OwnChannels
 pub mod BlockTokens
 pub mod BlockBegins
 pub mod BlockMachines
 pub mod FiringMoves
 pub mod BlockMoves
 pub mod FewGifts
-pub mod OnePhase
 pub mod BlockReads
 pub mod GreatestBlocks
 pub mod FeedbackTokens

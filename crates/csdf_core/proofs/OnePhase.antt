@@ -1,12 +1,12 @@
 -- An actor of one phase takes and gives the same in each firing.
-use Rattle.std.proofs.Common.{◌≡◌, ℕ, zero, suc, ◌+◌, ◌*◌, ◌<◌, ◌≤◌, ◌%◌, ◌==◌, List, [], ◌∷◌, length, get_or, refl, ap, sym, subst, ◌∙◌, arith}
+use Rattle.std.proofs.Common.{◌≡◌, ℕ, zero, suc, ◌*◌, ◌<◌, ◌≤◌, ◌%◌, ◌==◌, List, [], ◌∷◌, length, get_or, refl, ap, sym, subst, ◌∙◌, arith}
 use Rattle.std.specs.Prelude.{ℤ, sum_by}
 use Rattle.std.specs.List.{AllByRecursion}
 use Rattle.std.proofs.Math.Nat.{mod-one, suc-mul}
 use Rattle.std.proofs.lemmas.List.Elements.{recursion_from_All}
 use Rattle.std.proofs.lemmas.List.Sums.{sum_by-cons}
 use Rattle.csdf_model.specs.Rates.{rate}
-use Rattle.csdf_core.specs.Blocks.{needs_of, gifts_of, takes_at, gives_at, HoldAll, HaveRoomFor, capacity_at}
+use Rattle.csdf_core.specs.Blocks.{needs_of, gifts_of, takes_at, gives_at, HoldAll}
 use Rattle.csdf_core.specs.Phases.{HasPhases}
 use Rattle.csdf_core.specs.Plan.{Channel, from_at, to_at, produce_at, consume_at}
 use Rattle.csdf_core.specs.Ports.{inputs_at, outputs_at, take_at, give_at, tokens_at}
@@ -108,19 +108,6 @@ module _ (cs : List Channel) (a : ℕ) (has : HasPhases cs a 1) where
       (λ c (e : takes_at cs k n c ≡ n * take_at cs k c) (h : takes_at cs k n c ≤ length (tokens_at ts c)).
       (let r : n * take_at cs k c ≤ length (tokens_at ts c) = omega (arith, e, h) in r)) same all
 
-  pub room_products : (k n : ℕ) (ts : List (List ℤ)) → HaveRoomFor cs ts (gives_at cs k n) (outputs_at cs a)
-      → HaveRoomFor cs ts (λ c. n * give_at cs k c) (outputs_at cs a)
-  room_products k n ts all =
-      let ns : List ℕ = outputs_at cs a in
-      let within : AllByRecursion (λ c. c < length cs) ns =
-      recursion_from_All (λ c. c < length cs) ns (numbers_within (λ (c : Channel). c.from == a) cs) in
-      let own : AllByRecursion (λ c. from_at cs c ≡ a) ns = recursion_from_All (λ c. from_at cs c ≡ a) ns (numbers_own (λ (c : Channel). c.from) a cs) in
-      let same : AllByRecursion (λ c. gives_at cs k n c ≡ n * give_at cs k c) ns =
-      both ns (λ c (lt : c < length cs) (e : from_at cs c ≡ a). gives_times c lt e k n) within own in
-      both ns
-      (λ c (e : gives_at cs k n c ≡ n * give_at cs k c) (h : length (tokens_at ts c) + gives_at cs k n c ≤ capacity_at cs c).
-      (let r : length (tokens_at ts c) + n * give_at cs k c ≤ capacity_at cs c = omega (arith, e, h) in r)) same all
-
 -- ---- the same of channels, numbers and tokens that are known to be these
 pub held_as : (cs ds : List Channel) (a k j n : ℕ) (ts us : List (List ℤ)) → cs ≡ ds → k ≡ j → ts ≡ us → HasPhases cs a 1
     → HoldAll ts (takes_at cs k n) (inputs_at cs a) → HoldAll us (λ c. n * take_at ds j c) (inputs_at ds a)
@@ -128,10 +115,3 @@ held_as cs ds a k j n ts us at_cs at_k at_ts has all =
     subst (λ xs. HoldAll us (λ c. n * take_at xs j c) (inputs_at xs a)) at_cs
     (subst (λ i. HoldAll us (λ c. n * take_at cs i c) (inputs_at cs a)) at_k
     (subst (λ xs. HoldAll xs (λ c. n * take_at cs k c) (inputs_at cs a)) at_ts (held_products cs a has k n ts all)))
-
-pub room_as : (cs ds : List Channel) (a k j n : ℕ) (ts us : List (List ℤ)) → cs ≡ ds → k ≡ j → ts ≡ us → HasPhases cs a 1
-    → HaveRoomFor cs ts (gives_at cs k n) (outputs_at cs a) → HaveRoomFor ds us (λ c. n * give_at ds j c) (outputs_at ds a)
-room_as cs ds a k j n ts us at_cs at_k at_ts has all =
-    subst (λ xs. HaveRoomFor xs us (λ c. n * give_at xs j c) (outputs_at xs a)) at_cs
-    (subst (λ i. HaveRoomFor cs us (λ c. n * give_at cs i c) (outputs_at cs a)) at_k
-    (subst (λ xs. HaveRoomFor cs xs (λ c. n * give_at cs k c) (outputs_at cs a)) at_ts (room_products cs a has k n ts all)))

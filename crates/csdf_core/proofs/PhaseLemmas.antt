@@ -1,10 +1,11 @@
 -- Where each actor stands in its lists of rates.
-use Rattle.std.proofs.Common.{◌≡◌, ℕ, zero, suc, ◌+◌, ◌<◌, ◌≤◌, ◌%◌, ◌==◌, cond, List, [], ◌∷◌, inl, inr, length, get_or, set, map}
+use Rattle.std.proofs.Common.{◌≡◌, ℕ, zero, suc, ◌+◌, ◌<◌, ◌≤◌, ◌%◌, ◌==◌, cond, Bool, List, [], ◌∷◌, inl, inr, length, get_or, set, map}
 use Rattle.std.proofs.Common.{ap, subst, ◌∙◌, sym, refl, arith}
 use Rattle.std.specs.Prelude.{All, sum}
 use Rattle.std.specs.List.{zip, AllByRecursion}
 use Rattle.std.proofs.Math.Nat.{suc-mod, mod-eq_of_lt, mod_self, zero-mod, mod-add-mod}
 use Rattle.std.proofs.lemmas.Nat.{mod_below}
+use Rattle.std.proofs.lemmas.Bool.{eq-eqb}
 use Rattle.std.proofs.lemmas.Bool.Decides.{eqb_tells}
 use Rattle.std.proofs.lemmas.List.{get_or-set_other, get_or-set_same, length-set}
 use Rattle.std.proofs.lemmas.List.Elements.{All-from_recursion}
@@ -38,6 +39,27 @@ pub numbers_own : (field : Channel → ℕ) (a : ℕ) (cs : List Channel)
 numbers_own field a cs =
     All-from_recursion (λ c. get_or (map field cs) c 0 ≡ a) (numbers_from 0 (λ c. field c == a) cs)
     (own_from field a cs 0 cs (λ j lt. ap (λ k. get_or (map field cs) k 0) (let e : 0 + j ≡ j = omega arith in e)))
+
+-- ---- what holds of each number of the actor's own channels holds of any such channel
+module _ (P : ℕ → Type 0) (field : Channel → ℕ) (a : ℕ) where
+  of_numbers : (i : ℕ) (cs : List Channel) → AllByRecursion P (numbers_from i (λ c. field c == a) cs) → (j : ℕ) → j < length cs
+      → get_or (map field cs) j 0 ≡ a → P (i + j)
+  of_numbers i [] all j lt is = absurd (omega arith)
+  of_numbers i (x ∷ cs) all zero lt is =
+      let later : List ℕ = numbers_from (suc i) (λ c. field c == a) cs in
+      let here : AllByRecursion P (i ∷ later) = subst (λ (b : Bool). AllByRecursion P (cond b (i ∷ later) later)) (eq-eqb (field x) a is) all in
+      subst P (let e : i ≡ i + zero = omega arith in e) here.0
+  of_numbers i (x ∷ cs) all (suc j) lt is =
+      let later : List ℕ = numbers_from (suc i) (λ c. field c == a) cs in
+      let rest : AllByRecursion P later = elim (eqb_tells (field x) a) [
+        | inl e ↦ (let here : AllByRecursion P (i ∷ later) = subst (λ (b : Bool). AllByRecursion P (cond b (i ∷ later) later)) e.0 all in here.1)
+        | inr e ↦ subst (λ (b : Bool). AllByRecursion P (cond b (i ∷ later) later)) e.0 all
+      ] in
+      subst P (let e : suc i + j ≡ i + suc j = omega arith in e) (of_numbers (suc i) cs rest j (omega arith) is)
+
+  pub of_own : (cs : List Channel) → AllByRecursion P (numbers_from 0 (λ c. field c == a) cs) → (c : ℕ) → c < length cs
+      → get_or (map field cs) c 0 ≡ a → P c
+  of_own cs all c lt is = subst P (let e : 0 + c ≡ c = omega arith in e) (of_numbers 0 cs all c lt is)
 
 -- ---- a rate by its phase
 pub rate_in_phase : (rates : List ℕ) (k phase : ℕ) → IsPhase rates k phase → get_or rates phase 0 ≡ rate rates k

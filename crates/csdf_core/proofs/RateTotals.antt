@@ -36,11 +36,11 @@ total_of_one rates r k n one is =
     (λ j m. (let here : rate rates j ≡ r = ap (λ i. get_or rates i 0) (ap (λ l. j % l) one ∙ mod-one j) ∙ sym is in
     let s = suc-mul m r in omega (arith, here, s))) k n
 
-sum_none : (f : ℕ → ℕ) → ((c : ℕ) → f c ≡ 0) → (ns : List ℕ) → sum_by f ns ≡ 0
+pub sum_none : (f : ℕ → ℕ) → ((c : ℕ) → f c ≡ 0) → (ns : List ℕ) → sum_by f ns ≡ 0
 sum_none f none [] = refl
 sum_none f none (c ∷ ns) = omega (arith, sum_by-cons f c ns, none c, sum_none f none ns)
 
-sum_adds : (f g h : ℕ → ℕ) → ((c : ℕ) → f c ≡ g c + h c) → (ns : List ℕ) → sum_by f ns ≡ sum_by g ns + sum_by h ns
+pub sum_adds : (f g h : ℕ → ℕ) → ((c : ℕ) → f c ≡ g c + h c) → (ns : List ℕ) → sum_by f ns ≡ sum_by g ns + sum_by h ns
 sum_adds f g h adds [] = omega arith
 sum_adds f g h adds (c ∷ ns) =
     omega (arith, sum_by-cons f c ns, sum_by-cons g c ns, sum_by-cons h c ns, adds c, sum_adds f g h adds ns)

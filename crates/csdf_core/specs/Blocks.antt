@@ -1,12 +1,12 @@
 -- Several firings of one actor, one after another with no other's move between.
-use Rattle.std.specs.Prelude.{ℕ, zero, suc, ◌≡◌, ◌≢◌, ◌+◌, ◌<◌, ◌≤◌, true, List, [], ◌∷◌, ◌++◌, ℤ, None, Ok, Err, IfSome, length, map, take, drop, slice_index, sum_by}
+use Rattle.std.specs.Prelude.{ℕ, zero, suc, ◌≡◌, ◌≢◌, ◌+◌, ◌<◌, ◌≤◌, ◌==◌, if◌then◌else◌, true, List, [], ◌∷◌, ◌++◌, ℤ, None, Ok, Err, IfSome, length, map, take, drop, slice_index, sum_by}
 use Rattle.std.specs.List.{AllByRecursion}
 use Rattle.csdf_pool.specs.Pool.{Shared, after_takes, after_puts}
 use Rattle.csdf_core.specs.declared.stage.Stage.TheVariants.{Idle}
 use Rattle.csdf_core.specs.Moves.{Move}
 use Rattle.csdf_core.specs.Moves.{Begin, Read, Write, Finish, Close}
 use Rattle.csdf_core.specs.Next.{next}
-use Rattle.csdf_core.specs.Plan.{Channel, Plan, from_at}
+use Rattle.csdf_core.specs.Plan.{Channel, Plan, from_at, to_at, produce_at, consume_at}
 use Rattle.csdf_core.specs.Ports.{inputs_at, outputs_at, take_at, give_at, tokens_at, tokens_in, EnoughOver, raise_over}
 use Rattle.csdf_core.specs.Rows.{is_closed, first, need, gift}
 use Rattle.csdf_core.specs.State.{Present}
@@ -57,10 +57,23 @@ gives_at channels k (suc n) c = give_at channels k c + gives_at channels (suc k)
 abbrev pub HasNoLoop : List Channel → ℕ → Type 0
 HasNoLoop channels a = AllByRecursion (λ c. from_at channels c ≢ a) (inputs_at channels a)
 
--- the actor has at most one input and at most one output
+-- a firing gives each channel from the actor to itself as many tokens as it takes of it
+abbrev pub IsSteady : List Channel → ℕ → Type 0
+IsSteady channels a = AllByRecursion (λ c. from_at channels c ≡ a → produce_at channels c ≡ consume_at channels c) (inputs_at channels a)
+
+-- by how many tokens n firings of such an actor lengthen an output, from firing number k on: a channel to itself by none, since each takes first
+abbrev pub grows_at : List Channel → ℕ → ℕ → ℕ → ℕ → ℕ
+grows_at channels a k n c = if to_at channels c == a then 0 else gives_at channels k n c
+
+-- by how many they lengthen all outputs
+abbrev pub growth_of : List Channel → ℕ → ℕ → ℕ → ℕ
+growth_of channels a k n = sum_by (grows_at channels a k n) (outputs_at channels a)
+
+-- the actor has at most one input and at most one output, and none is both
 pub record IsPlain (channels : List Channel) (a : ℕ) : Type 0 where
   pub one_in : length (inputs_at channels a) ≤ 1
   pub one_out : length (outputs_at channels a) ≤ 1
+  pub apart : HasNoLoop channels a
 
 -- the capacity of a channel, by its number
 abbrev pub capacity_at : List Channel → ℕ → ℕ
@@ -164,10 +177,10 @@ AreReadEach plan p a k n tokens =
     (v : List ℤ) → length v ≡ gifts_of plan.channels a k n
     → reads_among plan p (firings_of plan.channels a k n v) ≡ parts_of plan.channels a k n tokens
 
--- an actor with no channel to itself, whose next firing is number k, finds what n firings need: of each input and output its tokens and its
--- room, and cells, and that it and all actors may make so many
+-- an actor whose next firing is number k finds what n firings need: each input holds all their tokens, so that none of them reads what they write;
+-- each output has its room, and there are cells; and it and all actors may make so many
 pub record FindsAll (plan : Plan) (p : Present) (a k n : ℕ) : Type 0 where
-  pub apart : HasNoLoop plan.channels a
+  pub steady : IsSteady plan.channels a
   pub there : a < length plan.sources
   pub number : count p a ≡ k
   pub idle : stage p a ≡ Idle
@@ -175,9 +188,9 @@ pub record FindsAll (plan : Plan) (p : Present) (a k n : ℕ) : Type 0 where
   pub opens : first (is_closed a) plan.channels p.opens ≡ None
   pub supply : is_source plan a ≡ true → given plan a (k + n) ≤ slice_index plan.supplies a
   pub tokens : HoldAll p.tokens (takes_at plan.channels k n) (inputs_at plan.channels a)
-  pub room : HaveRoomFor plan.channels p.tokens (gives_at plan.channels k n) (outputs_at plan.channels a)
+  pub room : HaveRoomFor plan.channels p.tokens (grows_at plan.channels a k n) (outputs_at plan.channels a)
   pub firings : IfSome plan.firings (λ most. begun_count p + n ≤ most)
-  pub cells : held p + reserved plan p + gifts_of plan.channels a k n ≤ plan.cells
+  pub cells : held p + reserved plan p + growth_of plan.channels a k n ≤ plan.cells
 
 -- the actor can make n firings one after the other
 abbrev pub CanFire : Plan → Present → ℕ → ℕ → Type 0

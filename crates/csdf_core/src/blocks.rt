@@ -2,18 +2,20 @@
 
 ghost use Rattle.std.specs.Prelude.{ℕ, ◌≡◌, ◌≢◌, ◌+◌, ◌-◌, ◌*◌, ◌<◌, ◌≤◌, ◌↔◌, true, false, None, IsTrue, IfSome, length, slice_index};
 ghost use Rattle.csdf_pool.specs.Pool.{IsPartition};
-ghost use Rattle.csdf_core.specs.Blocks.{needs_of, gifts_of, takes_at, gives_at, takes_in, puts_in, from_front, reads_over, HoldAll, HaveRoomFor, IsPlain};
-ghost use Rattle.csdf_core.specs.Blocks.{HasNoLoop, capacity_at, pool_after, peaks_after, Suffices};
+ghost use Rattle.csdf_core.specs.Blocks.{needs_of, gifts_of, takes_at, takes_in, puts_in, from_front, reads_over, HoldAll, HaveRoomFor, IsPlain};
+ghost use Rattle.csdf_core.specs.Blocks.{IsSteady, grows_at, growth_of, capacity_at, pool_after, peaks_after, Suffices};
 ghost use Rattle.csdf_core.specs.Phases.{HasPhases, IsInPhase, IsPhase};
 ghost use Rattle.csdf_core.specs.Plan.{consume_at, produce_at};
-ghost use Rattle.csdf_core.specs.Ports.{inputs_at, outputs_at, take_at, give_at, tokens_in, tokens_at, raise_over};
+ghost use Rattle.csdf_core.specs.Ports.{inputs_at, outputs_at, take_at, tokens_in, tokens_at, raise_over};
 
 use crate::firing_core::Core;
 use crate::first_refusal::is_at;
 use crate::gathering::gather;
 use crate::plan::Plan;
 use crate::readiness::first_closed;
-use crate::several::{fire_each, has_no_loop, have_room_each, hold_each};
+use crate::several::{
+    fire_each, growth_in, growth_in_all, has_no_loop, have_room_each, hold_each, is_steady,
+};
 use crate::stage::Stage;
 use crate::transfer::{gift_of, need_of, raise_peaks};
 use crate::turn::{Turn, turn_ahead};
@@ -138,18 +140,18 @@ fn held_in(plan: &Plan, pool: &Pool, own: Option<u32>, channel: u32, turn: Turn,
     times(u64::from(pool.len(channel)), each, most)
 }
 
-/// How many firings at most find room in the output, where each gives as many tokens as this one. The
-/// actor's channel to itself, where one is given, sets no bound.
-fn room_in(plan: &Plan, pool: &Pool, own: Option<u32>, channel: u32, turn: Turn, most: u32) -> u32
+/// How many firings at most find room in the output, where each gives as many tokens as this one. A
+/// channel to the actor itself sets no bound.
+fn room_in(plan: &Plan, pool: &Pool, actor: u32, channel: u32, turn: Turn, most: u32) -> u32
     requires channel { channel < length plan.now.channels }
     requires same { length pool.now.chains ≡ length plan.now.channels }
     requires phase { IsPhase (produce_at plan.now.channels channel) turn.firing turn.phase }
     ensures most { result ≤ most }
-    ensures greatest { own ≡ None → (n : ℕ) → n ≤ most
-        → length (tokens_at (tokens_in pool.now) channel) + n * give_at plan.now.channels turn.firing channel ≤ capacity_at plan.now.channels channel
+    ensures greatest { (n : ℕ) → n ≤ most
+        → length (tokens_at (tokens_in pool.now) channel) + n * grows_at plan.now.channels actor turn.firing 1 channel ≤ capacity_at plan.now.channels channel
         → n ≤ result }
 {
-    if is_own(own, channel) {
+    if plan.consumer(channel) == actor {
         return most;
     }
     let room = plan.capacity(channel).saturating_sub(pool.len(channel));
@@ -182,28 +184,21 @@ pub(crate) fn held_times(
     n
 }
 
-/// How many firings at most find room, where each gives as many tokens as this one. The actor's channel
-/// to itself, where one is given, sets no bound.
-pub(crate) fn room_times(
-    plan: &Plan,
-    pool: &Pool,
-    actor: u32,
-    own: Option<u32>,
-    turn: Turn,
-    most: u32,
-) -> u32
+/// How many firings at most find room, where each gives as many tokens as this one. Channels to the
+/// actor itself set no bound.
+pub(crate) fn room_times(plan: &Plan, pool: &Pool, actor: u32, turn: Turn, most: u32) -> u32
     requires actor { actor < length plan.now.sources }
     requires same { length pool.now.chains ≡ length plan.now.channels }
     requires in_phase { IsInPhase plan.now.channels actor turn.firing turn.phase }
     ensures most { result ≤ most }
-    ensures greatest { own ≡ None → (n : ℕ) → n ≤ most
-        → HaveRoomFor plan.now.channels (tokens_in pool.now) (λ c. n * give_at plan.now.channels turn.firing c)
+    ensures greatest { (n : ℕ) → n ≤ most
+        → HaveRoomFor plan.now.channels (tokens_in pool.now) (λ c. n * grows_at plan.now.channels actor turn.firing 1 c)
         (outputs_at plan.now.channels actor) → n ≤ result }
 {
     let outputs = plan.outputs(actor);
     let mut n = most;
     for channel in outputs {
-        n = room_in(plan, pool, own, *channel, turn, n);
+        n = room_in(plan, pool, actor, *channel, turn, n);
     }
     n
 }
@@ -224,7 +219,8 @@ fn held_rounds(plan: &Plan, pool: &Pool, actor: u32, firing: u32, round: u32, mo
     rounds
 }
 
-/// How many times over the actor's outputs have room for what a round of so many firings gives to each.
+/// How many times over the actor's outputs have room for what a round of so many firings lengthens
+/// each by.
 fn room_rounds(plan: &Plan, pool: &Pool, actor: u32, firing: u32, round: u32, most: u32) -> u32
     requires actor { actor < length plan.now.sources }
     requires same { length pool.now.chains ≡ length plan.now.channels }
@@ -235,13 +231,13 @@ fn room_rounds(plan: &Plan, pool: &Pool, actor: u32, firing: u32, round: u32, mo
     let mut rounds = most;
     for channel in outputs {
         let room = plan.capacity(*channel).saturating_sub(pool.len(*channel));
-        let each = plan.given(*channel, firing, round);
+        let each = growth_in(plan, actor, *channel, firing, round);
         rounds = times(u64::from(room), each, rounds);
     }
     rounds
 }
 
-/// Whether the actor has at most one input and at most one output.
+/// Whether the actor has at most one input and at most one output, and none is both.
 fn is_plain(plan: &Plan, actor: u32) -> bool
     requires { actor < length plan.now.sources }
     ensures { IsTrue result ↔ IsPlain plan.now.channels actor }
@@ -252,7 +248,7 @@ fn is_plain(plan: &Plan, actor: u32) -> bool
     if plan.outputs(actor).len() > 1 {
         return false;
     }
-    true
+    has_no_loop(plan, actor)
 }
 
 /// Takes so many tokens out of the actor's input, where it has one.
@@ -366,7 +362,7 @@ fn move_tokens(
     requires same { length pool.old.chains ≡ length plan.now.channels }
     requires peaked { length peaks.old ≡ length plan.now.channels }
     requires tokens { IsPlain plan.now.channels actor → HoldAll (tokens_in pool.old) (λ _. needed) (inputs_at plan.now.channels actor) }
-    requires room { length tokens.now ≤ length pool.old.free }
+    requires room { IsPlain plan.now.channels actor → length tokens.now ≤ length pool.old.free }
     requires enough { Suffices plan.now actor turn.firing n pool.old tokens.now }
     requires all { length tokens.now ≡ gifts_of plan.now.channels actor turn.firing n }
     requires partition { IsPartition pool.old }
@@ -429,16 +425,34 @@ impl Core {
         true
     }
 
+    /// Whether there are cells for what n firings, which give so many tokens, lengthen the actor's
+    /// outputs by.
+    fn has_cells_for(&self, actor: u32, turn: Turn, n: u32, given: u64) -> bool
+        requires actor { actor < length self.now.plan.sources }
+        requires few { turn.firing + n ≤ MAX_FIRINGS_PER_ACTOR }
+        requires given { given ≡ gifts_of self.now.plan.channels actor turn.firing n }
+        requires small { given ≤ 8192 * n }
+        ensures { IsTrue result ↔ held self.now.now + reserved self.now.plan self.now.now + growth_of self.now.plan.channels actor turn.firing n
+            ≤ self.now.plan.cells }
+    {
+        // Where all tokens find cells it need not be known which of them go back to the actor itself.
+        if self.has_cells(given) {
+            return true;
+        }
+        self.has_cells(growth_in_all(&self.plan, actor, turn, n))
+    }
+
     /// Whether the actor can make its next n firings one after the other, with no other's move
-    /// between them: each of their moves is then accepted. It can't where it has a channel to itself,
-    /// nor where there is no such actor.
+    /// between them: each of their moves is then accepted. All that they take waits in its inputs, so
+    /// that none reads what another of them wrote. It can't where a firing gives a channel from the
+    /// actor to itself fewer or more tokens than it takes of it, nor where there is no such actor.
     pub fn can_fire(&self, actor: u32, n: u32) -> bool
         ensures { IsTrue result ↔ CanFire self.now.plan self.now.now actor n }
     {
         if actor as usize >= self.counts.len() {
             return false;
         }
-        if !has_no_loop(&self.plan, actor) || !is_at(self.stage(actor), Stage::Idle) {
+        if !is_steady(&self.plan, actor) || !is_at(self.stage(actor), Stage::Idle) {
             return false;
         }
         self.finds_all(actor, n)
@@ -484,6 +498,22 @@ impl Core {
         times(free, gift, most)
     }
 
+    /// How many times over n firings, which give so many tokens, find cells.
+    fn celled_times(&self, actor: u32, turn: Turn, n: u32, given: u64, most: u32) -> u32
+        requires actor { actor < length self.now.plan.sources }
+        requires few { 0 < most → turn.firing + n ≤ MAX_FIRINGS_PER_ACTOR }
+        ensures most { result ≤ most }
+        ensures greatest { (m : ℕ) → m ≤ most
+            → held self.now.now + reserved self.now.plan self.now.now + m * growth_of self.now.plan.channels actor turn.firing n ≤ self.now.plan.cells
+            → m ≤ result }
+    {
+        // As in `has_cells_for`.
+        if self.celled(given, most) == most {
+            return most;
+        }
+        self.celled(growth_in_all(&self.plan, actor, turn, n), most)
+    }
+
     /// About how many firings the actor can make, by what the next one moves: no fewer than it can where it
     /// has one phase.
     fn guess(&self, actor: u32, most: u32) -> u32
@@ -496,9 +526,9 @@ impl Core {
         let turn = self.turn(actor);
         let limited = self.limited(actor, most);
         let held = held_times(&self.plan, &self.pool, actor, None, turn, limited);
-        let roomy = room_times(&self.plan, &self.pool, actor, None, turn, held);
+        let roomy = room_times(&self.plan, &self.pool, actor, turn, held);
         let supplied = self.supplied(actor, gift, roomy);
-        self.celled(gift, supplied)
+        self.celled_times(actor, turn, 1, gift, supplied)
     }
 
     /// About how many firings the actor can make: as many whole rounds of its phases as find their tokens
@@ -518,7 +548,7 @@ impl Core {
         let held = held_rounds(&self.plan, &self.pool, actor, turn.firing, phases, rounds);
         let roomy = room_rounds(&self.plan, &self.pool, actor, turn.firing, phases, held);
         let supplied = self.supplied(actor, given, roomy);
-        phases * self.celled(given, supplied)
+        phases * self.celled_times(actor, turn, phases, given, supplied)
     }
 
     /// The block of n firings, which the actor can make.
@@ -538,12 +568,13 @@ impl Core {
         }
     }
 
-    /// Where the first firing's begin is accepted, and there are cells for all that it gives, one
-    /// firing can be made. The call does nothing.
+    /// Where the first firing's begin is accepted, and there are cells for all that it gives to other
+    /// actors, one firing can be made. The call does nothing.
     fn begins_one(&self, actor: u32)
-        ensures { HasNoLoop self.now.plan.channels actor
+        ensures { IsSteady self.now.plan.channels actor
             → refusal self.now.plan self.now.now (Begin actor) ≡ None
-            → held self.now.now + reserved self.now.plan self.now.now + gift actor (count self.now.now actor) self.now.plan.channels ≤ self.now.plan.cells
+            → held self.now.now + reserved self.now.plan self.now.now + growth_of self.now.plan.channels actor (count self.now.now actor) 1
+            ≤ self.now.plan.cells
             → CanFire self.now.plan self.now.now actor 1 }
     {
         let _plan = &self.plan;
@@ -640,15 +671,17 @@ impl Core {
 
     /// The greatest number of next firings, at most so many, that the actor can make one after the
     /// other with no other's move between (see [`can_fire`](Core::can_fire)): 0 where it can't make
-    /// one. It can make one where its begin would be accepted and all that the firing gives finds
-    /// cells that are neither held nor reserved.
+    /// one. It can make one where its begin would be accepted, all that the firing gives to other actors
+    /// finds cells that are neither held nor reserved, and a channel from the actor to itself gets as
+    /// many tokens as are taken of it.
     pub fn block(&self, actor: u32, most: u32) -> Block
         ensures most { result.firings ≤ most }
         ensures can { 0 < result.firings → CanFire self.now.plan self.now.now actor result.firings }
         ensures greatest { (n : ℕ) → n ≤ most → CanFire self.now.plan self.now.now actor n → n ≤ result.firings }
-        ensures first { 1 ≤ most → HasNoLoop self.now.plan.channels actor
+        ensures first { 1 ≤ most → IsSteady self.now.plan.channels actor
             → refusal self.now.plan self.now.now (Begin actor) ≡ None
-            → held self.now.now + reserved self.now.plan self.now.now + gift actor (count self.now.now actor) self.now.plan.channels ≤ self.now.plan.cells
+            → held self.now.now + reserved self.now.plan self.now.now + growth_of self.now.plan.channels actor (count self.now.now actor) 1
+            ≤ self.now.plan.cells
             → 1 ≤ result.firings }
         ensures needed { 0 < result.firings → result.needed
             ≡ needs_of self.now.plan.channels actor (count self.now.now actor) result.firings }
@@ -683,7 +716,7 @@ impl Core {
     /// The tests that move on with n.
     fn finds_all(&self, actor: u32, n: u32) -> bool
         requires actor { actor < length self.now.plan.sources }
-        requires apart { HasNoLoop self.now.plan.channels actor }
+        requires steady { IsSteady self.now.plan.channels actor }
         requires idle { stage self.now.now actor ≡ Stage.Idle }
         ensures { IsTrue result ↔ CanFire self.now.plan self.now.now actor n }
     {
@@ -707,7 +740,7 @@ impl Core {
         if !self.may_begin(n) {
             return false;
         }
-        if !self.has_cells(given) {
+        if !self.has_cells_for(actor, turn, n, given) {
             return false;
         }
         true

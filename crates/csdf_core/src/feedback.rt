@@ -341,7 +341,7 @@ impl Core {
             n = times(u64::from(firings).saturating_sub(self.started), 1, n);
         }
         n = held_times(plan, &self.pool, actor, own, turn, n);
-        n = room_times(plan, &self.pool, actor, own, turn, n);
+        n = room_times(plan, &self.pool, actor, turn, n);
         let beside = (self.gives(actor) as u64).saturating_sub(u64::from(feedback.taken));
         times(
             u64::from(plan.cells()).saturating_sub(self.used()),

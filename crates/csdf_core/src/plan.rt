@@ -3,7 +3,7 @@
 //! The readers that are marked so are inlined: each firing calls several of them for each of its
 //! channels, and a call costs more than the loads that it makes.
 
-ghost use Rattle.std.specs.Prelude.{ℕ, ◌≡◌, ◌+◌, ◌*◌, ◌<◌, ◌≤◌, length, map, slice_get, slice_index, slice_index_or, false, All, IfOk, Some};
+ghost use Rattle.std.specs.Prelude.{ℕ, ◌≡◌, ◌+◌, ◌*◌, ◌<◌, ◌≤◌, ◌↔◌, IsTrue, length, map, slice_get, slice_index, slice_index_or, false, All, IfOk, Some};
 ghost use Rattle.csdf_core.specs.Plan.{Channel as ChannelModel, consume_at, from_at, produce_at, to_at};
 ghost use Rattle.csdf_core.specs.Planned.{is_source_kernel, plan_for, with_capacity};
 ghost use Rattle.csdf_model.specs.Graph.{channel_view};
@@ -68,6 +68,13 @@ fn moved(rates: &[u32], firing: u32, n: u32) -> u64
         return u64::from(rate(rates, firing));
     }
     total(rates, firing + n) - total(rates, firing)
+}
+
+/// Whether two lists of rates are the same.
+fn are_same(left: &[u32], right: &[u32]) -> bool
+    ensures { IsTrue result ↔ (left.now ≡ right.now) }
+{
+    left == right
 }
 
 /// The same numbers in a list of their own.
@@ -218,6 +225,15 @@ impl Plan {
     {
         let channel = self.channel(channel);
         channel.produce[turn.phase as usize]
+    }
+
+    /// Whether both ends of the channel have the same list of rates.
+    pub(crate) fn is_even(&self, channel: u32) -> bool
+        requires { channel < length self.now.channels }
+        ensures { IsTrue result ↔ (produce_at self.now.channels channel ≡ consume_at self.now.channels channel) }
+    {
+        let channel = self.channel(channel);
+        are_same(&channel.produce, &channel.consume)
     }
 
     /// How many tokens n firings of the channel's consumer take out, from this one on.

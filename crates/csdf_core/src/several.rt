@@ -1,10 +1,11 @@
 //! What the firings of a block find and move, channel by channel, where an actor may have several
 //! inputs and outputs.
 
-ghost use Rattle.std.specs.Prelude.{ℕ, ◌≡◌, ◌≢◌, ◌+◌, ◌<◌, ◌≤◌, ◌↔◌, IsTrue, length, take, drop};
+ghost use Rattle.std.specs.Prelude.{ℕ, ◌≡◌, ◌≢◌, ◌+◌, ◌*◌, ◌<◌, ◌≤◌, ◌↔◌, IsTrue, length, take, drop};
 ghost use Rattle.std.specs.List.{AllByRecursion};
 ghost use Rattle.csdf_pool.specs.Pool.{IsPartition, after_takes};
-ghost use Rattle.csdf_core.specs.Blocks.{gifts_of, takes_at, gives_at, HoldAll, HaveRoomFor, HasNoLoop, pool_after, peaks_after, Suffices};
+ghost use Rattle.csdf_core.specs.Blocks.{gifts_of, grows_at, growth_of, takes_at, HoldAll, HaveRoomFor, HasNoLoop, IsSteady, pool_after, peaks_after, Suffices};
+ghost use Rattle.csdf_core.specs.Plan.{consume_at, from_at, produce_at};
 ghost use Rattle.csdf_core.specs.Phases.{IsInPhase};
 ghost use Rattle.csdf_core.specs.Ports.{inputs_at, outputs_at, take_at, tokens_in, tokens_at, EnoughOver, raise_over};
 ghost use Rattle.csdf_core.specs.Rows.{gift};
@@ -14,7 +15,7 @@ ghost use Rattle.std.specs.Prelude.{slice_set};
 use crate::plan::Plan;
 use crate::transfer::{gift_of, put_outputs, raise_peaks};
 use crate::turn::{Turn, turn_after};
-use csdf_model::{MAX_FIRINGS_PER_ACTOR, MAX_PHASES};
+use csdf_model::{MAX_FIRINGS_PER_ACTOR, MAX_PHASES, MAX_TOKENS_PER_FIRING};
 use csdf_pool::Pool;
 
 /// Whether no channel goes from the actor to itself.
@@ -29,6 +30,62 @@ pub(crate) fn has_no_loop(plan: &Plan, actor: u32) -> bool
         }
     }
     true
+}
+
+/// Whether a firing gives this input as many tokens as it takes of it, where it comes from the actor
+/// itself.
+fn gets_back(plan: &Plan, actor: u32, channel: u32) -> bool
+    requires { channel < length plan.now.channels }
+    ensures { IsTrue result ↔ (from_at plan.now.channels channel ≡ actor → produce_at plan.now.channels channel ≡ consume_at plan.now.channels channel) }
+{
+    if plan.producer(channel) != actor {
+        return true;
+    }
+    plan.is_even(channel)
+}
+
+/// Whether a firing gives each channel from the actor to itself as many tokens as it takes of it.
+pub(crate) fn is_steady(plan: &Plan, actor: u32) -> bool
+    requires { actor < length plan.now.sources }
+    ensures { IsTrue result ↔ IsSteady plan.now.channels actor }
+{
+    let inputs = plan.inputs(actor);
+    for channel in inputs {
+        if !gets_back(plan, actor, *channel) {
+            return false;
+        }
+    }
+    true
+}
+
+/// By how many tokens n firings lengthen the output: a channel to the actor itself by none.
+#[inline(always)]
+pub(crate) fn growth_in(plan: &Plan, actor: u32, channel: u32, firing: u32, n: u32) -> u64
+    requires channel { channel < length plan.now.channels }
+    requires few { firing + n ≤ MAX_FIRINGS_PER_ACTOR }
+    ensures value { result ≡ grows_at plan.now.channels actor firing n channel }
+    ensures small { result ≤ MAX_TOKENS_PER_FIRING * n }
+{
+    if plan.consumer(channel) == actor {
+        return 0;
+    }
+    plan.given(channel, firing, n)
+}
+
+/// By how many tokens n firings lengthen all outputs of the actor.
+pub(crate) fn growth_in_all(plan: &Plan, actor: u32, turn: Turn, n: u32) -> u64
+    requires actor { actor < length plan.now.sources }
+    requires few { turn.firing + n ≤ MAX_FIRINGS_PER_ACTOR }
+    ensures value { result ≡ growth_of plan.now.channels actor turn.firing n }
+    ensures small { result ≤ 8192 * n }
+{
+    plan.gives_few();
+    let outputs = plan.outputs(actor);
+    let mut sum = 0;
+    for channel in outputs {
+        sum += growth_in(plan, actor, *channel, turn.firing, n);
+    }
+    sum
 }
 
 /// Whether each input of the actor holds what its next n firings take of it.
@@ -48,18 +105,18 @@ pub(crate) fn hold_each(plan: &Plan, pool: &Pool, actor: u32, turn: Turn, n: u32
     true
 }
 
-/// Whether each output of the actor has room for what its next n firings give to it.
+/// Whether each output of the actor has room for what its next n firings lengthen it by.
 pub(crate) fn have_room_each(plan: &Plan, pool: &Pool, actor: u32, turn: Turn, n: u32) -> bool
     requires actor { actor < length plan.now.sources }
     requires same { length pool.now.chains ≡ length plan.now.channels }
     requires few { turn.firing + n ≤ MAX_FIRINGS_PER_ACTOR }
-    ensures { IsTrue result ↔ HaveRoomFor plan.now.channels (tokens_in pool.now) (gives_at plan.now.channels turn.firing n)
+    ensures { IsTrue result ↔ HaveRoomFor plan.now.channels (tokens_in pool.now) (grows_at plan.now.channels actor turn.firing n)
         (outputs_at plan.now.channels actor) }
 {
     let outputs = plan.outputs(actor);
     for channel in outputs {
-        let given = plan.given(*channel, turn.firing, n);
-        if u64::from(pool.len(*channel)) + given > u64::from(plan.capacity(*channel)) {
+        let growth = growth_in(plan, actor, *channel, turn.firing, n);
+        if u64::from(pool.len(*channel)) + growth > u64::from(plan.capacity(*channel)) {
             return false;
         }
     }

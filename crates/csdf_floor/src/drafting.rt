@@ -183,6 +183,9 @@ impl Book {
         if self.work.is_source(actor) || !self.core.has_one_phase(actor) {
             return None;
         }
+        if self.feeds_itself(actor) {
+            return None;
+        }
         if self.products(actor, most) < heavy {
             return None;
         }

@@ -180,9 +180,9 @@ impl Book {
         Ok(())
     }
 
-    /// How many of its next firings the actor can make at once, at most so many: 0 for an actor with a
-    /// channel to itself (see [`goes_on`](Book::goes_on)). With several phases it may be fewer than it
-    /// can make (see [`phased_block`](Book::phased_block)).
+    /// How many of its next firings the actor can make at once, at most so many. None of them reads what
+    /// another one writes (else see [`goes_on`](Book::goes_on)). With several phases it may be fewer than
+    /// it can make (see [`phased_block`](Book::phased_block)).
     pub(crate) fn block(&self, actor: u32, most: u32) -> Block
         requires { actor < length self.now.shown.core.plan.sources }
         ensures most { result.firings ≤ most }
@@ -405,9 +405,87 @@ impl Book {
         Ok(made)
     }
 
+    /// Makes the actor's next firings, as many as a block has where it has some, or one as
+    /// [`make_more`](Book::make_more). It tells how many, 0 as there.
+    fn make_next(
+        &mut self,
+        actor: u32,
+        most: u32,
+        counts: &mut Counts,
+        outputs: &mut Outputs,
+    ) -> u32
+        requires exists { actor < length self.old.shown.core.plan.sources }
+        requires idle { stage self.old.shown.core.now actor ≡ Idle }
+        requires room { length (outputs_at self.old.shown.core.plan.channels actor) ≤ self.old.room }
+        ensures most { result ≤ most }
+        ensures made { HasMade self.old.shown self.new.shown actor result (made_moves self.old.shown actor result) }
+        ensures room { length (outputs_at self.old.shown.core.plan.channels actor) ≤ self.new.room }
+        ensures before { IsHonest (program self.old.shown.work) self.old.shown.journal }
+    {
+        let _ = &self.work;
+        let block = self.block(actor, most);
+        if block.firings < 2 {
+            return self.make_more(actor, most, counts, outputs);
+        }
+        match self.make(actor, block, counts, outputs) {
+            Ok(()) => block.firings,
+            Err(_error) => 0,
+        }
+    }
+
+    /// Makes the block, and further blocks after it, until so many firings are made or the next one may
+    /// not begin. It makes fewer where memory runs out after the first block.
+    fn make_in_blocks(
+        &mut self,
+        actor: u32,
+        block: Block,
+        most: u32,
+        counts: &mut Counts,
+        outputs: &mut Outputs,
+    ) -> Result<u32, AllocError>
+        requires exists { actor < length self.old.shown.core.plan.sources }
+        requires idle { stage self.old.shown.core.now actor ≡ Idle }
+        requires can { CanFire self.old.shown.core.plan self.old.shown.core.now actor block.firings }
+        requires needed { block.needed ≡ needs_of self.old.shown.core.plan.channels actor (count self.old.shown.core.now actor) block.firings }
+        requires given { block.given ≡ gifts_of self.old.shown.core.plan.channels actor (count self.old.shown.core.now actor) block.firings }
+        requires some { 0 < block.firings }
+        requires most { block.firings ≤ most }
+        ensures some { IfOk result (λ n. 0 < n) }
+        ensures most { IfOk result (λ n. n ≤ most) }
+        ensures made { IfOk result (λ n. HasMade self.old.shown self.new.shown actor n (made_moves self.old.shown actor n)) }
+        ensures room { OnOk result (length (outputs_at self.old.shown.core.plan.channels actor) ≤ self.new.room) }
+        ensures unchanged { OnErr result (self.new.shown ≡ self.old.shown) }
+    {
+        let _ = &self.work;
+        self.make(actor, block, counts, outputs)?;
+        let mut made = block.firings;
+        for _block in 1..most {
+            let more = self.make_next(actor, most - made, counts, outputs);
+            if more == 0 {
+                break;
+            }
+            made += more;
+        }
+        Ok(made)
+    }
+
+    /// Whether a channel goes from the actor to itself.
+    pub(crate) fn feeds_itself(&self, actor: u32) -> bool
+        requires { actor < length self.now.shown.core.plan.sources }
+    {
+        for channel in self.work.inputs(actor) {
+            if self.work.producer(*channel) == actor {
+                return true;
+            }
+        }
+        false
+    }
+
     /// Makes the actor's next firings, of which the first may begin, until so many are made or the next
     /// one may not begin: as one block, as one that keeps a state, or one by one where no block can be
-    /// had, and then fewer where memory runs out after the first.
+    /// had, and then fewer where memory runs out after the first. An actor with a channel to itself may
+    /// begin again after a block, since its firings give back what they took: it goes on in blocks, or
+    /// one by one where a block has no more than one.
     pub(crate) fn make_many(
         &mut self,
         actor: u32,
@@ -432,6 +510,12 @@ impl Book {
         let block = self.block(actor, most);
         if block.firings == 0 {
             return self.make_singly(actor, most, counts, outputs);
+        }
+        if block.firings < most && self.feeds_itself(actor) {
+            if block.firings == 1 {
+                return self.make_singly(actor, most, counts, outputs);
+            }
+            return self.make_in_blocks(actor, block, most, counts, outputs);
         }
         self.make(actor, block, counts, outputs)?;
         Ok(block.firings)

@@ -62,6 +62,74 @@ channel = [
 ]
 "#;
 
+/// A delay line of eight tokens beside the input, of which each firing takes the oldest.
+const DELAY: &str = r#"actor = [
+  { name = "a", kernel = "source" },
+  { name = "b", kernel = "sum" },
+  { name = "c", kernel = "sink" },
+]
+channel = [
+  { name = "x", from = "a", to = "b", produce = [1], consume = [1], capacity = 3 },
+  { name = "s", from = "b", to = "b", produce = [1], consume = [1], initial = [1, 2, 3, 4, 5, 6, 7, 8] },
+  { name = "y", from = "b", to = "c", produce = [1], consume = [1], capacity = 3 },
+]
+"#;
+
+/// The same where each firing takes the three oldest.
+const WIDE_DELAY: &str = r#"actor = [
+  { name = "a", kernel = "source" },
+  { name = "b", kernel = "sum" },
+  { name = "c", kernel = "sink" },
+]
+channel = [
+  { name = "x", from = "a", to = "b", produce = [1], consume = [1], capacity = 3 },
+  { name = "s", from = "b", to = "b", produce = [3], consume = [3], initial = [1, 2, 3, 4, 5, 6, 7, 8] },
+  { name = "y", from = "b", to = "c", produce = [1], consume = [1], capacity = 3 },
+]
+"#;
+
+/// A second delay line, of two tokens.
+const TWO_DELAYS: &str = r#"actor = [
+  { name = "a", kernel = "source" },
+  { name = "b", kernel = "sum" },
+  { name = "c", kernel = "sink" },
+]
+channel = [
+  { name = "x", from = "a", to = "b", produce = [1], consume = [1], capacity = 3 },
+  { name = "s", from = "b", to = "b", produce = [3], consume = [3], initial = [1, 2, 3, 4, 5, 6, 7, 8] },
+  { name = "t", from = "b", to = "b", produce = [1], consume = [1], initial = [10, 20] },
+  { name = "y", from = "b", to = "c", produce = [1], consume = [1], capacity = 3 },
+]
+"#;
+
+/// A delay line beside two inputs, of which the source's first token goes to the one and its second to
+/// the other.
+const DELAY_BESIDE_TWO: &str = r#"actor = [
+  { name = "a", kernel = "source" },
+  { name = "b", kernel = "sum" },
+  { name = "c", kernel = "sink" },
+]
+channel = [
+  { name = "x", from = "a", to = "b", produce = [1], consume = [1], capacity = 3 },
+  { name = "w", from = "a", to = "b", produce = [1], consume = [1], capacity = 3 },
+  { name = "s", from = "b", to = "b", produce = [1], consume = [1], initial = [1, 2, 3, 4, 5, 6, 7, 8] },
+  { name = "y", from = "b", to = "c", produce = [1], consume = [1], capacity = 3 },
+]
+"#;
+
+/// An actor of two phases, of which the first takes two tokens of its delay line and the second one.
+const DELAY_OF_PHASES: &str = r#"actor = [
+  { name = "a", kernel = "source" },
+  { name = "b", kernel = "sum", phases = 2 },
+  { name = "c", kernel = "sink" },
+]
+channel = [
+  { name = "x", from = "a", to = "b", produce = [1], consume = [1, 1], capacity = 8 },
+  { name = "s", from = "b", to = "b", produce = [2, 1], consume = [2, 1], initial = [1, 2, 3, 4, 5, 6, 7, 8, 9, 10, 11, 12] },
+  { name = "y", from = "b", to = "c", produce = [1, 1], consume = [1], capacity = 8 },
+]
+"#;
+
 /// Lets each actor in turn make all that it can of ten firings, and tells how many they were; false where
 /// no actor can begin.
 fn turn(
@@ -212,4 +280,78 @@ fn moves_of_firings_are_kept(rt: HostRuntime) -> Result<(), Fail> {
 #[test]
 fn moves_of_phases_are_kept(rt: HostRuntime) -> Result<(), Fail> {
     check_kept(&rt, rt.alloc(), PHASES, OF_PHASES)
+}
+
+/// A graph whose middle actor has delay lines, what the source reads, how many firings the middle actor's
+/// first block has, and what comes of four periods.
+struct Delayed {
+    graph: &'static str,
+    feed: &'static [i32],
+    block: u32,
+    wanted: &'static str,
+}
+
+const DELAYS: [Delayed; 5] = [
+    Delayed {
+        graph: DELAY,
+        feed: &[5, -6, 7, 8],
+        block: 3,
+        wanted: "3 3 3 1 1 1 [][][6, -4, 10, 12]",
+    },
+    // 5 + 1 + 2 + 3, -6 + 4 + 5 + 6, and then 7 + 7 + 8 + 11, of which the 11 came first
+    Delayed {
+        graph: WIDE_DELAY,
+        feed: &[5, -6, 7, 8],
+        block: 2,
+        wanted: "3 3 3 1 1 1 [][][11, 9, 33, 39]",
+    },
+    // the same and 10, 20, 21 and 29 of the second line: 21, 29, 7 + 7 + 8 + 21 + 21, 8 + 21 + 21 + 29 + 29
+    Delayed {
+        graph: TWO_DELAYS,
+        feed: &[5, -6, 7, 8],
+        block: 2,
+        wanted: "3 3 3 1 1 1 [][][21, 29, 64, 108]",
+    },
+    // 5 - 6 + 1 and 7 + 8 + 2, and then the source's file is at its end
+    Delayed {
+        graph: DELAY_BESIDE_TWO,
+        feed: &[5, -6, 7, 8],
+        block: 2,
+        wanted: "2 2 2 [][][0, 17]",
+    },
+    // 5 + 1 + 2, -6 + 3, 7 + 4 + 5, 8 + 6, 1 + 7 + 8, 2 + 9, 3 + 10 + 11, 4 + 12
+    Delayed {
+        graph: DELAY_OF_PHASES,
+        feed: &[5, -6, 7, 8, 1, 2, 3, 4],
+        block: 8,
+        wanted: "8 8 8 [][][8, -3, 16, 14, 16, 11, 24, 16]",
+    },
+];
+
+/// How many firings the middle actor's block has once the source has made all that it can.
+fn first_block(rt: &impl Abort, alloc: Global, asked: &Asked) -> Result<u32, Fail> {
+    let mut floor = floor_that_keeps(rt, alloc, asked, 4, Keeping::NotKept)?;
+    let mut counts = Counts::new(alloc);
+    let mut outputs = Outputs::new(alloc);
+    floor.make(0, 0, 10, &mut counts, &mut outputs)?;
+    Ok(floor.core().block(1, 10).firings)
+}
+
+fn check_delayed(rt: &impl Abort, alloc: Global, delayed: &Delayed) -> Result<(), Fail> {
+    let asked = asked_for(alloc, delayed.graph, delayed.feed)?;
+    expect_eq(rt, first_block(rt, alloc, &asked)?, delayed.block);
+    let moves = made_at_once(rt, alloc, &asked, Keeping::Kept, delayed.wanted)?;
+    let singly = made_singly(rt, alloc, &asked)?;
+    expect_eq(rt, moves.as_str(), singly.as_str());
+    Ok(())
+}
+
+/// One block follows another here, and fewer are made where memory runs out after the first. So
+/// `tests/memory/run` leaves this one out.
+#[test]
+fn firings_with_delay_lines_are_made_at_once(rt: HostRuntime) -> Result<(), Fail> {
+    for delayed in &DELAYS {
+        check_delayed(&rt, rt.alloc(), delayed)?;
+    }
+    Ok(())
 }

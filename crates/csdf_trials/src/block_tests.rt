@@ -91,6 +91,43 @@ quiet false
 actor 64: needs 0
 "#;
 
+/// A source, a sum with two delay lines, of which a firing takes three tokens and one, and a sink.
+const DELAYS: &str = r#"actor = [
+  { name = "a", kernel = "source" },
+  { name = "b", kernel = "sum" },
+  { name = "c", kernel = "sink" },
+]
+channel = [
+  { name = "x", from = "a", to = "b", produce = [1], consume = [1], capacity = 4 },
+  { name = "s", from = "b", to = "b", produce = [3], consume = [3], initial = [1, 2, 3, 4, 5, 6, 7, 8], capacity = 8 },
+  { name = "t", from = "b", to = "b", produce = [1], consume = [1], initial = [10, 20], capacity = 2 },
+  { name = "y", from = "b", to = "c", produce = [1], consume = [1], capacity = 4 },
+]
+"#;
+
+/// Four firings of the source and four of the sum, move by move.
+const DELAYS_MOVES: &str =
+    "begin 0 / read 0 / write 0 5 / finish 0 / begin 0 / read 0 / write 0 6 / finish 0 / \
+    begin 0 / read 0 / write 0 7 / finish 0 / begin 0 / read 0 / write 0 8 / finish 0 / \
+    begin 1 / read 1 / write 1 21 21 21 21 21 / finish 1 / \
+    begin 1 / read 1 / write 1 41 41 41 41 41 / finish 1 / \
+    begin 1 / read 1 / write 1 64 64 64 64 64 / finish 1 / \
+    begin 1 / read 1 / write 1 1 2 3 4 5 / finish 1";
+
+/// What the delay lines then show: cells 0 to 7 and 8 and 9 hold their initial tokens, 10 to 13 the
+/// source's. Each firing of the sum frees five and takes the five that have been free the longest.
+const DELAYS_STATE: &str = r#"actor 0: 4 fired, Idle, needs 0, gives 1
+actor 1: 4 fired, Idle, needs 5, gives 5
+actor 2: 0 fired, Idle, needs 1, gives 0
+channel 0: holds 0, peak 4, open true, cells
+channel 1: holds 8, peak 8, open true, cells 1 2 3 4 5 6 7 14
+channel 2: holds 2, peak 2, open true, cells 9 17
+channel 3: holds 4, peak 4, open true, cells 10 11 12 13
+free cells 15 16 0 8
+quiet false
+actor 64: needs 0
+"#;
+
 /// The tokens that the actor's greatest block of at most `most` firings reads, once it has written
 /// these; none where it would write another number.
 fn made(
@@ -266,11 +303,38 @@ const JOIN_BLOCKS: [Step; 5] = [
     },
 ];
 
+/// Two firings find their tokens in the delay lines, which holds for the next two as well: what they
+/// take is what the first two gave back, but for the two of the eight that are left.
+const DELAYS_BLOCKS: [Step; 3] = [
+    Step {
+        actor: 0,
+        most: 8,
+        block: (4, 0, 4),
+        written: &[5, 6, 7, 8],
+        read: &[],
+    },
+    Step {
+        actor: 1,
+        most: 8,
+        block: (2, 10, 10),
+        written: &[21, 21, 21, 21, 21, 41, 41, 41, 41, 41],
+        read: &[5, 1, 2, 3, 10, 6, 4, 5, 6, 20],
+    },
+    Step {
+        actor: 1,
+        most: 8,
+        block: (2, 10, 10),
+        written: &[64, 64, 64, 64, 64, 1, 2, 3, 4, 5],
+        read: &[7, 7, 8, 21, 21, 8, 21, 21, 41, 41],
+    },
+];
+
 /// A graph, some blocks, the same firings move by move, and what the core then shows.
-const GRAPHS: [(&str, &[Step], &str, &str); 3] = [
+const GRAPHS: [(&str, &[Step], &str, &str); 4] = [
     (PIPELINE, &PIPELINE_BLOCKS, PIPELINE_MOVES, PIPELINE_STATE),
     (PAIR, &PAIR_BLOCKS, PAIR_MOVES, PAIR_STATE),
     (JOIN, &JOIN_BLOCKS, JOIN_MOVES, JOIN_STATE),
+    (DELAYS, &DELAYS_BLOCKS, DELAYS_MOVES, DELAYS_STATE),
 ];
 
 #[test]

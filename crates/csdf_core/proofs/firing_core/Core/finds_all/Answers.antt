@@ -1,13 +1,13 @@
 use Rattle.std.proofs.lemmas.Grind.{common_steps}
-use Rattle.std.proofs.Common.{◌≡◌, ℕ, ap, subst, sym, ◌∙◌, refl, arith, Option, Some, None, false}
+use Rattle.std.proofs.Common.{◌≡◌, ◌+◌, ◌≤◌, ℕ, ap, subst, sym, ◌∙◌, refl, arith, Option, Some, None, false}
 use Rattle.std.specs.Prelude.{is_some}
 use Rattle.csdf_core.specs.Plan.{Plan}
 use Rattle.csdf_core.specs.State.{Present}
 use Rattle.csdf_core.specs.Inside.{now_in}
 use Rattle.csdf_core.specs.Ports.{inputs_at, outputs_at, tokens_in}
-use Rattle.csdf_core.specs.Blocks.{takes_at, gives_at, gifts_of, HoldAll, HaveRoomFor}
+use Rattle.csdf_core.specs.Blocks.{takes_at, grows_at, growth_of, gifts_of, HoldAll, HaveRoomFor}
 use Rattle.csdf_core.specs.Rows.{first, is_closed}
-use Rattle.csdf_core.specs.Step.{count}
+use Rattle.csdf_core.specs.Step.{count, held, reserved}
 use Rattle.csdf_core.proofs.BlockBegins.{given_more}
 use Rattle.csdf_core.proofs.firing_core.Core.finds_all.Goals as goal
 
@@ -26,10 +26,10 @@ returns c =
     let given : c.given_in_all-given.result ≡ gifts_of plan.channels a k n = c.given_in_all-given.ensures.value
     ∙ ap (λ (x : ℕ). gifts_of plan.channels a x n) firing in
     let supply = rw (← c.self.view_is) at (c.if-not-has_supply.ensures.0 refl) in
-    let cells = rw (← c.self.view_is) at (c.if-not-has_cells.ensures.0 refl) in
+    let cells = rw (← c.self.view_is) at (c.if-not-has_cells_for.ensures.0 refl) in
     rw (← c.self.view_is) (
       λ _. record {
-        apart = rw (← c.self.view_is) at c.requires.apart;
+        steady = rw (← c.self.view_is) at c.requires.steady;
         there = rw (← c.self.view_is) at c.requires.actor;
         number = refl;
         idle = rw (← c.self.view_is) at c.requires.idle;
@@ -39,10 +39,10 @@ returns c =
         supply = λ source. (let s = supply source in omega (arith, s, given, given_more plan a k n));
         tokens = subst (λ x. HoldAll (tokens_in c.self.inside.pool) (takes_at plan.channels x n) (inputs_at plan.channels a)) firing
             (c.if-not-hold_each.ensures.0 refl);
-        room = subst (λ x. HaveRoomFor plan.channels (tokens_in c.self.inside.pool) (gives_at plan.channels x n) (outputs_at plan.channels a)) firing
+        room = subst (λ x. HaveRoomFor plan.channels (tokens_in c.self.inside.pool) (grows_at plan.channels a x n) (outputs_at plan.channels a)) firing
             (c.if-not-have_room_each.ensures.0 refl);
         firings = rw (← c.self.view_is) at (c.if-not-may_begin.ensures.0 refl);
-        cells = omega (arith, cells, given);
+        cells = subst (λ x. held p + reserved plan p + growth_of plan.channels a x n ≤ plan.cells) firing cells;
       },
       λ _. refl,
     )
@@ -73,8 +73,16 @@ returns-then-is_some c = grind (arith, common_steps)
 pub returns-then-not-may_begin : goal.returns-then-not-may_begin
 returns-then-not-may_begin c = grind (arith, common_steps)
 
-pub returns-then-not-has_cells : goal.returns-then-not-has_cells
-returns-then-not-has_cells c = grind (arith, common_steps)
+pub returns-then-not-has_cells_for : goal.returns-then-not-has_cells_for
+returns-then-not-has_cells_for c =
+    let p : Present = now_in c.self.inside in
+    let plan : Plan = c.self.inside.plan in
+    let firing : c.turn-turn.result.firing ≡ count p c.args.actor = rw (← c.self.view_is) at c.turn-turn.ensures.firing in
+    let many = rw (← c.self.view_is) at c.if-not-has_cells_for.ensures.1 in
+    rw (← c.self.view_is) (
+      λ e. absurd (cc),
+      λ h. many (subst (λ x. held p + reserved plan p + growth_of plan.channels c.args.actor x c.args.n ≤ plan.cells) (sym firing) h.cells),
+    )
 
 pub have_room_each-requires-clause-actor : goal.have_room_each-requires-clause-actor
 have_room_each-requires-clause-actor c = grind (arith, common_steps)

@@ -24,8 +24,8 @@ move_tokens-requires-clause-room c =
     rw (← c.self.view_is) at c.requires.can in
     let all : length c.args.tokens.now ≡
     gifts_of c.self.inside.plan.channels c.args.actor (count (now_in c.self.inside) c.args.actor) c.args.n = rw (← c.self.view_is) at c.requires.all in
-    let r = room_for c.self.inside.plan c.args.actor (machine c.self.inside) c.args.n (record { sound = c.self.invariant.sound; chains = refl }) finds in
-    omega (arith, r, all)
+    λ plain. (let r = room_for c.self.inside.plan c.args.actor (machine c.self.inside) c.args.n plain.apart (record { sound = c.self.invariant.sound; chains = refl }) finds in
+    omega (arith, r, all))
 
 pub move_tokens-requires-clause-tokens : goal.move_tokens-requires-clause-tokens
 move_tokens-requires-clause-tokens c =
