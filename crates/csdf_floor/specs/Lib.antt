@@ -6,6 +6,7 @@ pub mod Endings
 pub mod Work
 pub mod Floor
 pub mod Inside
+pub mod Beginnings
 pub mod Outcome
 pub mod Report
 pub mod Periods

@@ -14,19 +14,22 @@ ghost use Rattle.csdf_core.specs.State.{opening, present};
 ghost use Rattle.csdf_core.specs.Step.{count, given, stage, refusal, is_over, producer};
 ghost use Rattle.csdf_journal.specs.View.{is_kept};
 ghost use Rattle.csdf_kernel.specs.Value.{HasFilterInRange};
-ghost use Rattle.csdf_floor.specs.Journal.{IsHonest, inputs, output_counts, value, reads_of, state_of};
+ghost use Rattle.csdf_floor.specs.Journal.{IsHonest, inputs, output_counts, program_for, value, reads_of, state_of};
 ghost use Rattle.csdf_floor.specs.Making.{amount_of};
-ghost use Rattle.csdf_floor.specs.Work.{IsWork, program, feed_of, feeds_in, is_sink_kernel};
+ghost use Rattle.csdf_floor.specs.Work.{AreFeeds, HasFewFirings, program, feed_of, feeds_in, is_sink_kernel};
 ghost use Rattle.csdf_floor.specs.Floor.{IsUnderWay, task_of};
 ghost use Rattle.csdf_floor.specs.Outcome.{report_of, report_on};
 ghost use Rattle.csdf_floor.specs.Inside.{AreClosed, HasGiven, HasRoom, HasTaken, IsBook, IsNext, is_due};
+ghost use Rattle.csdf_floor.specs.Beginnings.{IsBlank};
 
+use crate::blank::Blank;
+use crate::fed::Fed;
 use crate::lists::Lists;
 use crate::outcome::ChannelReport;
 use crate::same::{are_same_tokens, is_same_kernel};
 use crate::work::Work;
 use csdf_core::{Core, Stage};
-use csdf_journal::{Journal, Keeping};
+use csdf_journal::Journal;
 use csdf_kernel::{Counts, Inputs, Job};
 use csdf_model::{Kernel, MAX_CHANNELS, MAX_TOKENS_PER_FIRING, MAX_TOTAL_PER_FIRING};
 use std::alloc::{AllocError, Global};
@@ -71,52 +74,34 @@ impl Model for Book {
         (feeds_in b.reads.items) };
 }
 
-/// As many empty buffers.
-fn no_reads(alloc: Global, actors: u32) -> Result<Vec<Vec<i32>>, AllocError>
-    ensures { IfOk result (λ reads. length reads.items ≡ actors) }
-{
-    let mut reads = Vec::new(alloc);
-    for _ in 0..actors {
-        reads.push(Vec::new(alloc))?;
-    }
-    Ok(reads)
-}
-
-/// A list for each sink, and as many empty buffers.
-fn blank_rows(alloc: Global, actors: u32) -> Result<(Lists, Vec<Vec<i32>>), AllocError>
-    ensures sinks { IfOk result (λ rows. rows.0.lists ≡ replicate actors []) }
-    ensures reads { IfOk result (λ rows. length rows.1.items ≡ actors) }
-{
-    let sinks = Lists::new(alloc, actors)?;
-    let reads = no_reads(alloc, actors)?;
-    Ok((sinks, reads))
-}
-
 impl Book {
-    /// The book of a core that has not moved.
-    pub(crate) fn open(
-        alloc: Global,
-        work: Work,
-        core: Core,
-        keeping: Keeping,
-    ) -> Result<Book, AllocError>
-        requires work { IsWork work }
-        requires plan { core.plan ≡ (program work).plan }
-        requires opening { Shows core (opening core.plan) }
-        requires peaks { core.peaks ≡ map length (map (λ (c : ChannelModel). c.initial) core.plan.channels) }
-        ensures work { IfOk result (λ book. book.shown.work ≡ work) }
-        ensures journal { IfOk result (λ book. book.shown.journal ≡ []) }
-        ensures keeps { IfOk result (λ book. book.shown.keeps ≡ is_kept keeping) }
-        ensures opening { IfOk result (λ book. book.shown.core.now ≡ present (opening book.shown.core.plan)) }
+    /// The book of a core that has not moved, of so many periods of the graph over these feeds.
+    pub(crate) fn open(fed: Fed, periods: u32, firings: Option<u32>, blank: Blank) -> Book
+        requires fed { AreFeeds fed.accepted.graph (feeds_in fed.feeds.items) }
+        requires some_period { 1 ≤ periods }
+        requires few_firings { HasFewFirings fed.accepted periods }
+        requires blank { IsBlank (program_for fed.accepted (feeds_in fed.feeds.items) periods firings).plan blank }
+        ensures work { result.shown.work ≡ record { accepted = fed.accepted; feeds = feeds_in fed.feeds.items; periods = periods; firings = firings } }
+        ensures journal { result.shown.journal ≡ [] }
+        ensures keeps { result.shown.keeps ≡ blank.journal.keeps }
+        ensures opening { result.shown.core.now ≡ present (opening result.shown.core.plan) }
+        ensures room { length result.shown.core.plan.channels ≤ result.room }
     {
-        let (sinks, reads) = blank_rows(alloc, core.actors())?;
-        Ok(Book {
-            work,
+        let Blank {
             core,
-            journal: Journal::new(alloc, keeping),
+            feedbacks,
+            journal,
             sinks,
             reads,
-        })
+        } = blank;
+        let work = Work::new(fed, periods, firings, feedbacks);
+        Book {
+            work,
+            core,
+            journal,
+            sinks,
+            reads,
+        }
     }
 
     /// What is run.
@@ -442,20 +427,22 @@ impl Book {
         true
     }
 
-    /// The journal, and what each sink took.
-    pub(crate) fn into_parts(self) -> (Journal, Vec<Vec<i32>>)
-        ensures moves { result.0.moves ≡ self.shown.journal }
-        ensures keeps { result.0.keeps ≡ self.shown.keeps }
-        ensures sinks { feeds_in result.1.items ≡ self.shown.sinks }
+    /// What it was made over, the journal, and what each sink took.
+    pub(crate) fn into_parts(self) -> (Fed, Journal, Vec<Vec<i32>>)
+        ensures accepted { result.0.accepted ≡ self.shown.work.accepted }
+        ensures feeds { feeds_in result.0.feeds.items ≡ self.shown.work.feeds }
+        ensures moves { result.1.moves ≡ self.shown.journal }
+        ensures keeps { result.1.keeps ≡ self.shown.keeps }
+        ensures sinks { feeds_in result.2.items ≡ self.shown.sinks }
     {
         let Book {
-            work: _,
+            work,
             core: _,
             journal,
             sinks,
             reads: _,
         } = self;
-        (journal, sinks.into_lists())
+        (work.into_fed(), journal, sinks.into_lists())
     }
 
     /// The actor's kernel.

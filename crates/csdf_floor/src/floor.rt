@@ -1,6 +1,6 @@
 //! The floor on which firings are started and their results delivered.
 
-ghost use Rattle.std.specs.Prelude.{◌≡◌, ◌≢◌, ◌<◌, ◌≤◌, ◌++◌, ◌↔◌, [], ◌∷◌, All, Err, IsTrue, IfOk, IfSome, OnOk, OnErr, length, map, true, false};
+ghost use Rattle.std.specs.Prelude.{◌≡◌, ◌≢◌, ◌<◌, ◌≤◌, ◌++◌, ◌↔◌, [], ◌∷◌, All, Err, IsTrue, IfErr, IfOk, IfSome, OnOk, OnErr, length, map, true, false};
 ghost use Rattle.std.specs.List.{range_with_len};
 ghost use Rattle.csdf_core.specs.Moves.{Begin, Read, move_of};
 ghost use Rattle.csdf_core.specs.Ports.{outputs_at};
@@ -18,12 +18,13 @@ ghost use Rattle.csdf_floor.specs.Outcome.{HasTotals, IsEndOf, IsOutcome, journa
 ghost use Rattle.csdf_floor.specs.Floor.{HasGone, IsFloor, IsReady, IsStartAnswer, IsUnderWay, IsDeliverAnswer, closes, closes_after, ending_of};
 ghost use Rattle.csdf_floor.specs.Floor.{present_task, start_refusal, task_of};
 
+use crate::blank::Blank;
 use crate::book::Book;
 use crate::draft::Draft;
 use crate::ending::ending_of;
-use crate::fault::{DeliverFault, StartFault};
-use crate::outcome::Outcome;
-use crate::work::{Work, core_of};
+use crate::fault::{DeliverFault, RunFault, StartFault};
+use crate::fed::Fed;
+use crate::outcome::{Outcome, Settled};
 use csdf_analysis::Accepted;
 use csdf_core::{Core, Move};
 use csdf_journal::Keeping;
@@ -53,29 +54,6 @@ impl Model for Floor {
     ghost view = { λ f. f.book.shown };
 
     ghost invariant = { λ f. IsBetween f.book.shown.core.plan f.book.shown.core.now };
-}
-
-/// The book of such a run that has not moved.
-fn opened(
-    alloc: Global,
-    accepted: &Accepted,
-    feeds: &[Vec<i32>],
-    periods: u32,
-    firings: Option<u32>,
-    keeping: Keeping,
-) -> Result<Book, AllocError>
-    requires fed { AreFeeds accepted.now.graph (feeds_in feeds.now) }
-    requires some_period { 1 ≤ periods }
-    requires few_firings { HasFewFirings accepted.now periods }
-    ensures work { IfOk result (λ book. book.shown.work
-        ≡ record { accepted = accepted.now; feeds = feeds_in feeds.now; periods = periods; firings = firings }) }
-    ensures journal { IfOk result (λ book. book.shown.journal ≡ []) }
-    ensures opening { IfOk result (λ book. book.shown.core.now ≡ present (opening book.shown.core.plan)) }
-    ensures keeps { IfOk result (λ book. book.shown.keeps ≡ is_kept keeping) }
-{
-    let core = core_of(alloc, accepted, feeds, periods, firings)?;
-    let work = Work::new(alloc, accepted, feeds, periods, firings, &core)?;
-    Book::open(alloc, work, core, keeping)
 }
 
 impl Floor {
@@ -122,10 +100,51 @@ impl Floor {
             ≡ closes floor.core.plan (present (opening floor.core.plan)) (range_with_len 0 (length floor.core.plan.channels))) }
         ensures keeps { IfOk result (λ floor. floor.keeps ≡ is_kept keeping) }
     {
-        let mut book = opened(alloc, accepted, feeds, periods, firings, keeping)?;
-        book.reserve(book.core().channels() as usize)?;
+        let fed = Fed::copied(alloc, accepted, feeds)?;
+        match Floor::over(alloc, fed, periods, firings, keeping) {
+            Ok(floor) => Ok(floor),
+            Err(_fed) => Err(AllocError),
+        }
+    }
+
+    /// As [`Floor::with_journal`], of a graph and feeds that are handed over: no copy of them is made.
+    /// [`settle_and_hand_back`](crate::settle_and_hand_back) and [`Floor::into_fed`] hand them back.
+    ///
+    /// An error says that memory ran out, and hands them back as well.
+    pub fn over(
+        alloc: Global,
+        fed: Fed,
+        periods: u32,
+        firings: Option<u32>,
+        keeping: Keeping,
+    ) -> Result<Floor, Fed>
+        requires fed { AreFeeds fed.accepted.graph (feeds_in fed.feeds.items) }
+        requires some_period { 1 ≤ periods }
+        requires few_firings { HasFewFirings fed.accepted periods }
+        ensures work { IfOk result (λ floor. floor.work
+            ≡ record { accepted = fed.accepted; feeds = feeds_in fed.feeds.items; periods = periods; firings = firings }) }
+        ensures journal { IfOk result (λ floor. floor.journal
+            ≡ closes floor.core.plan (present (opening floor.core.plan)) (range_with_len 0 (length floor.core.plan.channels))) }
+        ensures keeps { IfOk result (λ floor. floor.keeps ≡ is_kept keeping) }
+        ensures back { IfErr result (λ back. back ≡ fed) }
+    {
+        let blank = match Blank::of(alloc, &fed, periods, firings, keeping) {
+            Ok(blank) => blank,
+            Err(_error) => return Err(fed),
+        };
+        let mut book = Book::open(fed, periods, firings, blank);
         book.close_at_first();
         Ok(Floor { book })
+    }
+
+    /// The graph and the feeds that it was made over.
+    pub fn into_fed(self) -> Fed
+        ensures accepted { result.accepted ≡ self.work.accepted }
+        ensures feeds { feeds_in result.feeds.items ≡ self.work.feeds }
+    {
+        let Floor { book } = self;
+        let (fed, _journal, _sinks) = book.into_parts();
+        fed
     }
 
     /// The core.
@@ -364,40 +383,56 @@ impl Floor {
         Ok(())
     }
 
-    /// Whether this is a floor of such a run, at whose end each actor has finished as many firings.
-    pub(crate) fn is_end_of(
+    /// Whether this is a floor of such a run.
+    pub(crate) fn is_of(
         &self,
         accepted: &Accepted,
         feeds: &[Vec<i32>],
         periods: u32,
         firings: Option<u32>,
-        totals: &[u32],
     ) -> bool
-        ensures { IsTrue result ↔ IsEndOf self.now
-            (record { accepted = accepted.now; feeds = feeds_in feeds.now; periods = periods; firings = firings }) totals.now }
+        ensures { IsTrue result ↔ (self.now.work
+            ≡ record { accepted = accepted.now; feeds = feeds_in feeds.now; periods = periods; firings = firings }) }
     {
         self.book.work().is(accepted, feeds, periods, firings)
-            && self.book.has_counts(totals)
-            && self.book.core().is_quiet()
     }
 
-    /// The outcome of a floor that is quiet.
-    pub(crate) fn into_outcome(self, alloc: Global) -> Result<Outcome, AllocError>
-        requires { IsQuiet self.core.plan self.core.now }
-        ensures outcome { IfOk result (IsOutcome self.work) }
-        ensures journal { IfOk result (λ o. journal_in o ≡ self.journal) }
-        ensures keeps { IfOk result (λ o. o.journal.keeps ≡ self.keeps) }
-        ensures totals { IfOk result (λ o. HasTotals (program self.work) o self.core.now.counts) }
+    /// Whether each actor has finished as many firings, and none can go on.
+    pub(crate) fn is_at_end(&self, totals: &[u32]) -> bool
+        ensures { IsTrue result ↔ IsEndOf self.now self.now.work totals.now }
     {
-        let report = self.book.report(alloc)?;
+        self.book.has_counts(totals) && self.book.core().is_quiet()
+    }
+
+    /// What a floor that is quiet was made over, and its outcome.
+    pub(crate) fn into_settled(self, alloc: Global) -> Settled
+        requires { IsQuiet self.core.plan self.core.now }
+        ensures accepted { result.fed.accepted ≡ self.work.accepted }
+        ensures feeds { feeds_in result.fed.feeds.items ≡ self.work.feeds }
+        ensures outcome { IfOk result.outcome (IsOutcome self.work) }
+        ensures journal { IfOk result.outcome (λ o. journal_in o ≡ self.journal) }
+        ensures keeps { IfOk result.outcome (λ o. o.journal.keeps ≡ self.keeps) }
+        ensures totals { IfOk result.outcome (λ o. HasTotals (program self.work) o self.core.now.counts) }
+        ensures memory { IfErr result.outcome (λ fault. fault ≡ RunFault.Memory) }
+    {
+        let report = self.book.report(alloc);
         let ending = ending_of(self.book.core());
         let Floor { book } = self;
-        let (journal, sinks) = book.into_parts();
-        Ok(Outcome {
-            ending,
-            sinks,
-            journal,
-            report,
-        })
+        let (fed, journal, sinks) = book.into_parts();
+        match report {
+            Ok(report) => Settled {
+                fed,
+                outcome: Ok(Outcome {
+                    ending,
+                    sinks,
+                    journal,
+                    report,
+                }),
+            },
+            Err(_error) => Settled {
+                fed,
+                outcome: Err(RunFault::Memory),
+            },
+        }
     }
 }

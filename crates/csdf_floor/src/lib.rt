@@ -2,11 +2,13 @@
 //! of journals, and how a run ends.
 #![tactic(auto)]
 
+mod blank;
 mod book;
 mod draft;
 mod drafting;
 mod ending;
 mod fault;
+mod fed;
 mod floor;
 mod laws;
 mod limits;
@@ -24,6 +26,7 @@ mod work;
 pub use draft::Draft;
 pub use ending::Ending;
 pub use fault::{DeliverFault, RunFault, StartFault};
+pub use fed::Fed;
 pub use floor::Floor;
 pub use laws::{
     agree, begins_no_more, capacities_do_not_show, completes_all, ends_as_sequential,
@@ -33,7 +36,7 @@ pub use laws::{
     stays_counted, stays_within,
 };
 pub use limits::{MAX_FEED_TOKENS, few_in_thousand, may_run, most_periods};
-pub use outcome::{ChannelReport, Outcome};
+pub use outcome::{ChannelReport, Outcome, Settled};
 pub use printed::{channel_name, ending_word, printed_report};
-pub use settling::settle;
+pub use settling::{settle, settle_and_hand_back};
 pub use work::are_feeds;

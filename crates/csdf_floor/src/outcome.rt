@@ -1,6 +1,8 @@
 //! What a run answers.
 
 use crate::ending::Ending;
+use crate::fault::RunFault;
+use crate::fed::Fed;
 use csdf_journal::Journal;
 
 /// What is told of a channel at the end of a run.
@@ -31,4 +33,13 @@ pub struct Outcome {
     pub journal: Journal,
     /// What is told of each channel, in file order.
     pub report: Vec<ChannelReport>,
+}
+
+/// A run that has ended: what it was of, and its outcome, or why there is none.
+#[derive(Drop)]
+pub struct Settled {
+    /// The graph and the tokens that were run, as they were handed in.
+    pub fed: Fed,
+    /// The outcome.
+    pub outcome: Result<Outcome, RunFault>,
 }

@@ -2,14 +2,14 @@
 
 ghost use Rattle.std.specs.Prelude.{◌≡◌, ◌≤◌, IfOk, length};
 ghost use Rattle.csdf_floor.specs.Journal.{program_for};
-ghost use Rattle.csdf_floor.specs.Work.{AreFeeds, HasFewFirings, feeds_in};
-ghost use Rattle.csdf_floor.specs.Outcome.{IsEndOf, IsSettleAnswer, HasTotals, HasHonestJournal, EndsSettled, TakesInOrder};
+ghost use Rattle.csdf_floor.specs.Work.{AreFeeds, HasFewFirings, feeds_in, program};
+ghost use Rattle.csdf_floor.specs.Outcome.{IsEndOf, IsOutcome, IsSettleAnswer, HasTotals, HasHonestJournal, EndsSettled, TakesInOrder};
 ghost use Rattle.csdf_floor.specs.Outcome.{StaysWithinCapacities, LeavesClosedAlone, TellsSinks, TellsReport, TellsEnding};
 ghost use Rattle.csdf_floor.specs.Outcome.{IsAsSequentialRun, IsAsInAnyRoom, CompletesWhereAmple, journal_in};
 
 use crate::fault::RunFault;
 use crate::floor::Floor;
-use crate::outcome::Outcome;
+use crate::outcome::{Outcome, Settled};
 use csdf_analysis::Accepted;
 use std::alloc::Global;
 
@@ -54,8 +54,33 @@ pub fn settle(
     ensures rooms { IfOk result (IsAsInAnyRoom (program_for accepted.now (feeds_in feeds.now) periods firings)) }
     ensures complete { IfOk result (CompletesWhereAmple accepted.now (feeds_in feeds.now) periods firings) }
 {
-    if !floor.is_end_of(accepted, feeds, periods, firings, totals) {
+    if !floor.is_of(accepted, feeds, periods, firings) {
         return Err(RunFault::Mixed);
     }
-    Ok(floor.into_outcome(alloc)?)
+    let Settled { fed: _, outcome } = settle_and_hand_back(alloc, floor, totals);
+    let outcome = outcome?;
+    Ok(outcome)
+}
+
+/// As [`settle`], of whatever the floor was made over, which comes back, whether there is an outcome or
+/// not.
+///
+/// [`RunFault::Mixed`] says that a total is not the number of firings that the actor has finished, or that
+/// an actor can go on. Want of memory comes after that.
+pub fn settle_and_hand_back(alloc: Global, floor: Floor, totals: &[u32]) -> Settled
+    ensures accepted { result.fed.accepted ≡ floor.work.accepted }
+    ensures feeds { feeds_in result.fed.feeds.items ≡ floor.work.feeds }
+    ensures answer { IsSettleAnswer (IsEndOf floor floor.work totals.now) result.outcome }
+    ensures journal { IfOk result.outcome (λ o. journal_in o ≡ floor.journal) }
+    ensures keeps { IfOk result.outcome (λ o. o.journal.keeps ≡ floor.keeps) }
+    ensures outcome { IfOk result.outcome (IsOutcome floor.work) }
+    ensures totals { IfOk result.outcome (λ o. HasTotals (program floor.work) o totals.now) }
+{
+    if !floor.is_at_end(totals) {
+        return Settled {
+            fed: floor.into_fed(),
+            outcome: Err(RunFault::Mixed),
+        };
+    }
+    floor.into_settled(alloc)
 }

@@ -7,21 +7,20 @@ ghost use Rattle.csdf_model.specs.Rates.{total};
 ghost use Rattle.csdf_core.specs.Feedback.{IsFeedback};
 ghost use Rattle.csdf_core.specs.Headline.{capacity_of};
 ghost use Rattle.csdf_core.specs.Planned.{is_source_kernel, with_capacity};
-ghost use Rattle.csdf_core.specs.Plan.{Channel as ChannelModel, consume_at, produce_at, to_at};
+ghost use Rattle.csdf_core.specs.Plan.{consume_at, produce_at, to_at};
 ghost use Rattle.csdf_core.specs.Ports.{give_at, inputs_at, outputs_at, take_at};
 ghost use Rattle.csdf_core.specs.Rows.{gift, need};
-ghost use Rattle.csdf_core.specs.Shows.{Shows};
-ghost use Rattle.csdf_core.specs.State.{opening};
 ghost use Rattle.csdf_core.specs.Step.{is_source, producer};
 ghost use Rattle.csdf_kernel.specs.Value.{HasFilterInRange};
 ghost use Rattle.csdf_floor.specs.Inside.{AreFeedbacks};
 ghost use Rattle.csdf_floor.specs.Journal.{output_counts, program_for};
 ghost use Rattle.csdf_floor.specs.Work.{AreFeeds, HasFewFirings, IsFeed, IsWork, feeds_in, feed_of, is_sink_kernel, program};
 
+use crate::fed::Fed;
 use crate::limits::MAX_FEED_TOKENS;
 use crate::same::{are_same_feeds, is_same_accepted, is_same_limit};
 use csdf_analysis::Accepted;
-use csdf_core::{Core, Feedback};
+use csdf_core::Feedback;
 use csdf_kernel::Counts;
 use csdf_model::{
     Actor, Channel, Graph, Kernel, MAX_CHANNELS, MAX_FIRINGS_PER_ACTOR, MAX_TOKENS_PER_FIRING,
@@ -56,50 +55,12 @@ impl Model for Work {
         × AreFeedbacks (program_for w.accepted (feeds_in w.feeds.items) w.periods w.firings).plan (length w.accepted.graph.actors) w.feedbacks.items };
 }
 
-/// A copy of the lists.
-fn copies_of(alloc: Global, feeds: &[Vec<i32>]) -> Result<Vec<Vec<i32>>, AllocError>
-    ensures { IfOk result (λ copies. feeds_in copies.items ≡ feeds_in feeds.now) }
-{
-    let mut copies = Vec::new(alloc);
-    for feed in feeds {
-        copies.push(Vec::from_slice(alloc, feed)?)?;
-    }
-    Ok(copies)
-}
-
 /// The part of the list between these places, or as much of it as there is.
 fn part_of(feed: &[i32], from: usize, to: usize) -> &[i32]
     ensures { result.now ≡ slice_range feed.now from to }
 {
     let end = to.min(feed.len());
     &feed[from.min(end)..end]
-}
-
-/// How many firings each actor makes in so many periods.
-fn limits_of(alloc: Global, accepted: &Accepted, periods: u32) -> Result<Vec<u32>, AllocError>
-    requires { HasFewFirings accepted.now periods }
-    ensures value { IfOk result (λ limits. limits.items ≡ map (λ q. periods * q) accepted.now.q) }
-    ensures few { IfOk result (λ limits. All (λ n. n ≤ MAX_FIRINGS_PER_ACTOR) limits.items) }
-    ensures each_actor { length accepted.now.q ≡ length accepted.now.graph.actors }
-{
-    let firings = accepted.vector().q.as_slice();
-    let mut limits = Vec::new(alloc);
-    for actor in 0..firings.len() {
-        limits.push(periods * firings[actor])?;
-    }
-    Ok(limits)
-}
-
-/// How many tokens there are for each actor.
-fn supplies_of(alloc: Global, feeds: &[Vec<i32>]) -> Result<Vec<u32>, AllocError>
-    requires { All (λ feed. length feed ≤ MAX_FEED_TOKENS) (feeds_in feeds.now) }
-    ensures { IfOk result (λ supply. supply.items ≡ map length (feeds_in feeds.now)) }
-{
-    let mut supply = Vec::new(alloc);
-    for feed in feeds {
-        supply.push(feed.len() as u32)?;
-    }
-    Ok(supply)
 }
 
 /// The actor's kernel.
@@ -123,66 +84,47 @@ fn is_sink(kernel: &Kernel) -> bool
     matches!(kernel, Kernel::Sink)
 }
 
-/// A core that has not moved, of what is run of these. An error says that memory ran out.
-pub(crate) fn core_of(
-    alloc: Global,
-    accepted: &Accepted,
-    feeds: &[Vec<i32>],
-    periods: u32,
-    firings: Option<u32>,
-) -> Result<Core, AllocError>
-    requires fed { AreFeeds accepted.now.graph (feeds_in feeds.now) }
-    requires few_firings { HasFewFirings accepted.now periods }
-    ensures plan { IfOk result (λ core. core.plan ≡ (program_for accepted.now (feeds_in feeds.now) periods firings).plan) }
-    ensures opening { IfOk result (λ core. Shows core (opening core.plan)) }
-    ensures peaks { IfOk result (λ core. core.peaks ≡ map length (map (λ (c : ChannelModel). c.initial) core.plan.channels)) }
-{
-    let limits = limits_of(alloc, accepted, periods)?;
-    let supply = supplies_of(alloc, feeds)?;
-    Core::new(alloc, accepted, limits, supply, firings)
-}
-
-/// The channel in which each actor keeps its state, where it has one.
-fn feedbacks_of(alloc: Global, core: &Core) -> Result<Vec<Option<Feedback>>, AllocError>
-    ensures { IfOk result (λ feedbacks. AreFeedbacks core.now.plan (length core.now.plan.sources) feedbacks.items) }
-{
-    let mut feedbacks = Vec::new(alloc);
-    for actor in 0..core.actors() {
-        feedbacks.push(core.feedback(actor))?;
-    }
-    Ok(feedbacks)
-}
-
 impl Work {
-    /// A copy of all that it is made of, and of the core what each firing would look for again. An error
-    /// says that memory ran out.
+    /// What is run, and the channel in which each actor keeps its state.
     pub(crate) fn new(
-        alloc: Global,
-        accepted: &Accepted,
-        feeds: &[Vec<i32>],
+        fed: Fed,
         periods: u32,
         firings: Option<u32>,
-        core: &Core,
-    ) -> Result<Work, AllocError>
-        requires fed { AreFeeds accepted.now.graph (feeds_in feeds.now) }
+        feedbacks: Vec<Option<Feedback>>,
+    ) -> Work
+        requires fed { AreFeeds fed.accepted.graph (feeds_in fed.feeds.items) }
         requires some_period { 1 ≤ periods }
-        requires few_firings { HasFewFirings accepted.now periods }
-        requires core { core.now.plan ≡ (program_for accepted.now (feeds_in feeds.now) periods firings).plan }
-        ensures value { IfOk result (λ work. work ≡ record { accepted = accepted.now; feeds = feeds_in feeds.now; periods = periods; firings = firings }) }
-        ensures work { IfOk result IsWork }
+        requires few_firings { HasFewFirings fed.accepted periods }
+        requires feedbacks { AreFeedbacks (program_for fed.accepted (feeds_in fed.feeds.items) periods firings).plan
+            (length fed.accepted.graph.actors) feedbacks.items }
+        ensures value { result ≡ record { accepted = fed.accepted; feeds = feeds_in fed.feeds.items; periods = periods; firings = firings } }
+        ensures work { IsWork result }
     {
+        let Fed { accepted, feeds } = fed;
         // Read for the prover: what an accepted graph keeps.
         let _graph = accepted.graph();
-        let accepted = accepted.try_copy(alloc)?;
-        let feeds = copies_of(alloc, feeds)?;
-        let feedbacks = feedbacks_of(alloc, core)?;
-        Ok(Work {
+        Work {
             accepted,
             feeds,
             periods,
             firings,
             feedbacks,
-        })
+        }
+    }
+
+    /// The graph and the feeds, whole.
+    pub(crate) fn into_fed(self) -> Fed
+        ensures accepted { result.accepted ≡ self.accepted }
+        ensures feeds { feeds_in result.feeds.items ≡ self.feeds }
+    {
+        let Work {
+            accepted,
+            feeds,
+            periods: _,
+            firings: _,
+            feedbacks: _,
+        } = self;
+        Fed { accepted, feeds }
     }
 
     /// The channel in which the actor keeps its state, where it has one.

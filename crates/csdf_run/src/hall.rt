@@ -84,7 +84,8 @@ impl<K: Asked> Hall<K> {
 
     /// The floor, once no worker shares it any more.
     pub(crate) fn into_floor(self) -> Floor
-        ensures { result.keeps ≡ K.keeps }
+        ensures keeps { result.keeps ≡ K.keeps }
+        ensures work { result.work ≡ K.work }
     {
         let Hall {
             watched,

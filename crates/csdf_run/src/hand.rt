@@ -100,6 +100,7 @@ impl Hand {
         ensures job { OnOk result ((self.new.job.actor ≡ actor) × (self.new.job.firing ≡ firing)) }
         ensures ready { OnOk result (IsReady self.new.job) }
         ensures keeps { floor.new.keeps ≡ floor.old.keeps }
+        ensures work { floor.new.work ≡ floor.old.work }
     {
         self.is_made = false;
         match floor.start_into(actor, firing, &mut self.job) {
@@ -148,6 +149,7 @@ impl Hand {
         ensures gone { IfOk result (λ n. HasGone floor.old floor.new
             (made_moves floor.old claim.actor n ++ closes_made floor.old claim.actor n)) }
         ensures keeps { floor.new.keeps ≡ floor.old.keeps }
+        ensures work { floor.new.work ≡ floor.old.work }
     {
         let _ = gate;
         self.is_made = false;

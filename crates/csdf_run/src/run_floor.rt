@@ -4,7 +4,9 @@ ghost use Rattle.std.specs.Prelude.{◌≡◌, ◌<◌, ◌≤◌, ◌++◌, ℕ
 ghost use Rattle.csdf_floor.specs.Floor.{HasGone, IsReady};
 ghost use Rattle.csdf_floor.specs.Making.{closes_made, made_moves};
 ghost use Rattle.csdf_run.specs.Hand.{claim_in};
+ghost use Rattle.csdf_floor.specs.Work.{Work};
 ghost use Rattle.csdf_run.specs.Workers.{HasTaken, IsBlockOf};
+ghost use Rattle.csdf_run.specs.Requests.{no_work};
 
 use crate::claims::Claim;
 use crate::gate::Gate;
@@ -18,18 +20,24 @@ use std::marker::{Brand, Model, PhantomData};
 pub(crate) trait Asked {
     /// Whether the journal is kept.
     ghost keeps: { Bool };
+
+    /// What is run.
+    ghost work: { Work };
 }
 
 impl Asked for Brand {
     ghost keeps = { true };
+
+    ghost work = { no_work };
 }
 
-/// The floor of a run, which keeps its journal where the run asks for it.
+/// The floor of a run: it runs what the run asks for, and keeps its journal where the run does.
 #[derive(Drop)]
 pub(crate) struct RunFloor<K: Asked> {
     floor: Floor,
     of: PhantomData<K>,
     ghost kept: { floor.keeps ≡ K.keeps },
+    ghost works: { floor.work ≡ K.work },
 }
 
 /// That the floor has taken the result of a firing, whose claim a contract sees. Only
@@ -90,7 +98,8 @@ impl Made {
 
 impl<K: Asked> RunFloor<K> {
     pub(crate) fn new(floor: Floor) -> RunFloor<K>
-        requires { floor.keeps ≡ K.keeps }
+        requires keeps { floor.keeps ≡ K.keeps }
+        requires work { floor.work ≡ K.work }
     {
         RunFloor {
             floor,
@@ -107,7 +116,8 @@ impl<K: Asked> RunFloor<K> {
 
     /// The floor itself.
     pub(crate) fn into_floor(self) -> Floor
-        ensures { result.keeps ≡ K.keeps }
+        ensures keeps { result.keeps ≡ K.keeps }
+        ensures work { result.work ≡ K.work }
     {
         let RunFloor { floor, of: _ } = self;
         floor

@@ -1,11 +1,12 @@
 //! A run by worker threads.
 
-ghost use Rattle.std.specs.Prelude.{◌≡◌, ◌≤◌, ◌<◌, All, IfOk, IfSome, length, true};
+ghost use Rattle.std.specs.Prelude.{◌≡◌, ◌≤◌, ◌<◌, All, IfErr, IfOk, IfSome, length, true};
 ghost use Rattle.csdf_journal.specs.View.{is_kept};
 ghost use Rattle.csdf_floor.specs.Journal.{program_for};
 ghost use Rattle.csdf_floor.specs.Work.{AreFeeds, HasFewFirings, feeds_in};
 ghost use Rattle.csdf_floor.specs.Outcome.{HasHonestJournal, EndsSettled, TakesInOrder, StaysWithinCapacities, LeavesClosedAlone};
 ghost use Rattle.csdf_floor.specs.Outcome.{TellsSinks, TellsReport, TellsEnding, IsAsSequentialRun, IsAsInAnyRoom, CompletesWhereAmple, IsOutcome};
+ghost use Rattle.csdf_run.specs.Requests.{IsFedOf};
 ghost use Rattle.csdf_run.specs.Workers.{AnswersForAll, HoldsNothing, IsEndAt, both};
 
 use crate::gate::Gate;
@@ -16,7 +17,7 @@ use crate::run_floor::{Asked, RunFloor};
 use crate::worker::{Ended, work};
 use csdf_analysis::Accepted;
 use csdf_claims::{Board, Place};
-use csdf_floor::{Outcome, RunFault};
+use csdf_floor::{Fed, Outcome, RunFault, Settled, settle_and_hand_back};
 use csdf_journal::Keeping;
 use csdf_model::MAX_ACTORS;
 use std::alloc::{AllocError, Global};
@@ -260,54 +261,81 @@ fn run_hall<K: Asked + Send + Sync, R: Threads + Wait + Sync, G: Gate>(
     totals_of(alloc, board, place)
 }
 
-/// A hall for the run.
+/// A hall for the run. What is run comes back where memory runs out.
 fn hall_of<K: Asked>(
     alloc: Global,
-    request: &Request<'_>,
+    request: Request,
     keeping: Keeping,
     crew: Crew,
-) -> Result<Hall<K>, AllocError>
-    requires { is_kept keeping ≡ K.keeps }
+) -> Result<Hall<K>, Fed>
+    requires keeps { is_kept keeping ≡ K.keeps }
+    requires work { request ≡ K.work }
+    ensures back { IfErr result (IsFedOf request) }
 {
-    let mut hints = request.hints(alloc)?;
-    let floor = RunFloor::new(request.floor(alloc, keeping)?);
-    hints.look_at_all(floor.core());
-    Ok(Hall::new(floor, hints, crew))
+    let mut hints = match request.hints(alloc) {
+        Ok(hints) => hints,
+        Err(_error) => return Err(request.into_fed()),
+    };
+    match request.into_floor(alloc, keeping) {
+        Ok(floor) => {
+            let floor = RunFloor::new(floor);
+            hints.look_at_all(floor.core());
+            Ok(Hall::new(floor, hints, crew))
+        }
+        Err(fed) => Err(fed),
+    }
 }
 
 /// What [`outcome_of`] answers, where the type `K` says what is asked.
 fn outcome_as<K: Asked + Send + Sync, R: Threads + Wait + Sync, G: Gate>(
     rt: &R,
     alloc: Global,
-    request: &Request<'_>,
+    request: Request,
     gate: &G,
     keeping: Keeping,
-) -> Result<Outcome, RunFault>
-    requires { is_kept keeping ≡ K.keeps }
-    ensures outcome { IfOk result (IsOutcome request.now) }
-    ensures keeps { IfOk result (λ o. o.journal.keeps ≡ is_kept keeping) }
+) -> Settled
+    requires keeps { is_kept keeping ≡ K.keeps }
+    requires work { request ≡ K.work }
+    ensures fed { IsFedOf request result.fed }
+    ensures outcome { IfOk result.outcome (IsOutcome request) }
+    ensures keeps { IfOk result.outcome (λ o. o.journal.keeps ≡ is_kept keeping) }
 {
     let crew = Crew {
         workers: request.workers(),
         may_wait: gate.may_wait(),
     };
-    let hall: Hall<K> = hall_of(alloc, request, keeping, crew)?;
-    gate.begins(request.most_firings());
-    let totals = run_hall(rt, alloc, &hall, request.actors(), crew.workers, gate)?;
-    let outcome = request.settle(alloc, hall.into_floor(), totals.as_slice())?;
-    Ok(outcome)
+    let actors = request.actors();
+    let most = request.most_firings();
+    let hall: Hall<K> = match hall_of(alloc, request, keeping, crew) {
+        Ok(hall) => hall,
+        Err(fed) => {
+            return Settled {
+                fed,
+                outcome: Err(RunFault::Memory),
+            };
+        }
+    };
+    gate.begins(most);
+    match run_hall(rt, alloc, &hall, actors, crew.workers, gate) {
+        Ok(totals) => settle_and_hand_back(alloc, hall.into_floor(), totals.as_slice()),
+        Err(fault) => Settled {
+            fed: hall.into_floor().into_fed(),
+            outcome: Err(fault),
+        },
+    }
 }
 
-/// What [`run`] answers, with a journal that is kept or not.
+/// What [`run`] answers, with a journal that is kept or not, and what was run, which comes back.
 pub(crate) fn outcome_of<R: Threads + Wait + Sync, G: Gate>(
     rt: &R,
     alloc: Global,
-    request: &Request<'_>,
+    request: Request,
     gate: &G,
     keeping: Keeping,
-) -> Result<Outcome, RunFault>
-    ensures outcome { IfOk result (IsOutcome request.now) }
-    ensures keeps { IfOk result (λ o. o.journal.keeps ≡ is_kept keeping) }
+) -> Settled
+    ensures fed { IsFedOf request result.fed }
+    ensures outcome { IfOk result.outcome (IsOutcome request) }
+    ensures keeps { IfOk result.outcome (λ o. o.journal.keeps ≡ is_kept keeping) }
 {
     outcome_as::<Brand, R, G>(rt, alloc, request, gate, keeping)
 }
@@ -353,7 +381,9 @@ pub fn run<R: Threads + Wait + Sync, G: Gate>(
     ensures complete { IfOk result (CompletesWhereAmple accepted.now (feeds_in feeds.now) periods firings) }
     ensures keeps { IfOk result (λ o. o.journal.keeps ≡ true) }
 {
-    let request = Request::new(accepted, feeds, workers, periods, firings);
-    let outcome = outcome_of(rt, alloc, &request, gate, Keeping::Kept)?;
+    let fed = Fed::copied(alloc, accepted, feeds)?;
+    let request = Request::new(fed, workers, periods, firings);
+    let Settled { fed: _, outcome } = outcome_of(rt, alloc, request, gate, Keeping::Kept);
+    let outcome = outcome?;
     Ok(outcome)
 }

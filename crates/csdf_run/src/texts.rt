@@ -1,6 +1,6 @@
 //! A run from texts to texts.
 
-ghost use Rattle.std.specs.Prelude.{◌≡◌, ◌++◌, ◌∷◌, ◌≤◌, [], Ok, IfErr, IfOk, OnOk, is_some, length, map, option_map, slice_index_or, string_bytes};
+ghost use Rattle.std.specs.Prelude.{◌≡◌, ◌++◌, ◌∷◌, ◌≤◌, [], Bool, Ok, IfErr, IfOk, OnOk, is_some, length, map, option_map, slice_index_or, string_bytes};
 ghost use Rattle.csdf_model.specs.Graph.{actor_view};
 ghost use Rattle.csdf_bytes.specs.TokenText.{token_line, token_text};
 ghost use Rattle.csdf_analysis.specs.Room.{HasSomePeriod};
@@ -10,7 +10,8 @@ ghost use Rattle.csdf_run.specs.Texts.{TellGraphRun, TellGraphSameInAnyRoom, Tel
 ghost use Rattle.csdf_run.specs.Texts.{feed_in, feeds_from, sink_texts, source_count, texts_in, work_for};
 ghost use Rattle.csdf_floor.specs.declared.outcome.Outcome.{Outcome as OutcomeCode};
 ghost use Rattle.csdf_floor.specs.Report.{names_of, report_text};
-ghost use Rattle.csdf_floor.specs.Work.{AreFeeds, feeds_in, is_sink_kernel};
+ghost use Rattle.csdf_floor.specs.Outcome.{IsOutcome};
+ghost use Rattle.csdf_floor.specs.Work.{AreFeeds, Work, feeds_in, is_sink_kernel};
 ghost use Rattle.csdf_journal.specs.View.{is_kept};
 ghost use Rattle.csdf_run.specs.Scripts.{kept_script};
 
@@ -19,9 +20,9 @@ use crate::periods::periods_of;
 use crate::request::Request;
 use crate::running::outcome_of;
 use crate::script::kept_script;
-use csdf_analysis::{AcceptFault, Accepted, Length, Room, accept_or_hand_back};
+use csdf_analysis::{AcceptFault, Length, Room, accept_or_hand_back};
 use csdf_bytes::{Slice, TokenFault, read_tokens};
-use csdf_floor::{ChannelReport, Ending, Outcome, RunFault, printed_report};
+use csdf_floor::{ChannelReport, Ending, Fed, Outcome, RunFault, Settled, printed_report};
 use csdf_graph::{GraphFault, read_graph};
 use csdf_journal::Keeping;
 use csdf_model::{Actor, Graph, Kernel, MAX_ACTORS};
@@ -181,13 +182,6 @@ fn counted_feeds(
     feeds_of(alloc, actors, texts)
 }
 
-/// An accepted graph, and the tokens for its actors.
-#[derive(Drop)]
-struct Fed {
-    accepted: Accepted,
-    feeds: Vec<Vec<i32>>,
-}
-
 /// A graph that is handed back, and why there are no tokens for its actors.
 #[derive(Drop)]
 struct Unfed {
@@ -286,35 +280,33 @@ fn texts_of(alloc: Global, graph: &Graph, outcome: &Outcome) -> Result<Texts, Al
     })
 }
 
-/// Runs what was read, with a journal that is kept or not.
-fn run_request<R: Threads + Wait + Sync, G: Gate>(
-    rt: &R,
+/// What is told of an outcome, where there is one.
+fn texts_where(
     alloc: Global,
-    request: &Request<'_>,
-    gate: &G,
-    keeping: Keeping,
+    graph: &Graph,
+    outcome: Result<Outcome, RunFault>,
 ) -> Result<Texts, RunFault>
-    ensures told { IfOk result (λ texts. (outcome : OutcomeCode) × TellOutcome request.now outcome texts) }
-    ensures kept { IfOk result (λ texts. is_some texts.journal ≡ is_kept keeping) }
+    ensures told { (w : Work) → w.accepted.graph ≡ graph.now → IfOk outcome (IsOutcome w)
+        → IfOk result (λ texts. (o : OutcomeCode) × TellOutcome w o texts) }
+    ensures kept { (keeps : Bool) → IfOk outcome (λ o. o.journal.keeps ≡ keeps) → IfOk result (λ texts. is_some texts.journal ≡ keeps) }
 {
-    let outcome = outcome_of(rt, alloc, request, gate, keeping)?;
-    let texts = texts_of(alloc, request.graph(), &outcome)?;
+    let outcome = outcome?;
+    let texts = texts_of(alloc, graph, &outcome)?;
     Ok(texts)
 }
 
-/// Runs what was read, and tells why there is no outcome as that of texts.
-fn told_of<R: Threads + Wait + Sync, G: Gate>(
-    rt: &R,
+/// What is told of an outcome, or why there is none, as that of texts.
+fn told_of(
     alloc: Global,
-    request: &Request<'_>,
-    gate: &G,
-    keeping: Keeping,
+    graph: &Graph,
+    outcome: Result<Outcome, RunFault>,
 ) -> Result<Texts, TextsFault>
-    ensures told { IfOk result (λ texts. (outcome : OutcomeCode) × TellOutcome request.now outcome texts) }
-    ensures kept { IfOk result (λ texts. is_some texts.journal ≡ is_kept keeping) }
+    ensures told { (w : Work) → w.accepted.graph ≡ graph.now → IfOk outcome (IsOutcome w)
+        → IfOk result (λ texts. (o : OutcomeCode) × TellOutcome w o texts) }
+    ensures kept { (keeps : Bool) → IfOk outcome (λ o. o.journal.keeps ≡ keeps) → IfOk result (λ texts. is_some texts.journal ≡ keeps) }
     ensures failed { IfErr result IsRunFault }
 {
-    match run_request(rt, alloc, request, gate, keeping) {
+    match texts_where(alloc, graph, outcome) {
         Ok(texts) => Ok(texts),
         Err(fault) => Err(TextsFault::Run(fault)),
     }
@@ -446,8 +438,9 @@ pub fn run_and_hand_back<R: Threads + Wait + Sync, G: Gate>(
         }
     };
     let periods = periods_of(options.how_long, &fed.accepted);
-    let request = Request::new(&fed.accepted, &fed.feeds, workers, periods, firings);
-    let texts = told_of(rt, alloc, &request, gate, options.keeping);
+    let request = Request::new(fed, workers, periods, firings);
+    let Settled { fed, outcome } = outcome_of(rt, alloc, request, gate, options.keeping);
+    let texts = told_of(alloc, fed.accepted.graph(), outcome);
     GraphRun {
         graph: fed.accepted.into_graph(),
         texts,

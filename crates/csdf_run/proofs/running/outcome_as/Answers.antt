@@ -1,9 +1,8 @@
-use Rattle.std.proofs.Common.{arith}
-use Rattle.std.proofs.lemmas.Grind.{common_steps}
+use Rattle.std.proofs.Common.{◌≡◌, subst, sym, ◌∙◌}
+use Rattle.std.specs.Prelude.{Bool, IfOk}
 use Rattle.csdf_run.proofs.running.outcome_as.Goals as goal
 
-pub returns-clause-keeps : goal.returns-clause-keeps
-returns-clause-keeps g c = grind (arith, common_steps)
-
-pub returns-clause-outcome : goal.returns-clause-outcome
-returns-clause-outcome g c = grind (arith, common_steps)
+pub returns-in-Ok-run_hall-clause-keeps : goal.returns-in-Ok-run_hall-clause-keeps
+returns-in-Ok-run_hall-clause-keeps g c =
+    subst (λ (b : Bool). IfOk c.settle_and_hand_back.result.outcome (λ o. o.journal.keeps ≡ b)) (c.into_floor.ensures.keeps ∙ sym c.requires.keeps)
+    c.settle_and_hand_back.ensures.keeps

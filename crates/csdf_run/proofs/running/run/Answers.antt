@@ -1,44 +1,65 @@
-use Rattle.std.proofs.Common.{rules, ◌≡◌, subst}
+use Rattle.std.proofs.lemmas.Grind.{common_steps}
+use Rattle.std.proofs.Common.{◌≡◌, List, Result, Ok, ap, ap₂, subst, ◌∙◌, arith}
+use Rattle.std.specs.Prelude.{ℤ, IfOk, true}
+use Rattle.csdf_analysis.specs.Acceptance.{Accepted}
+use Rattle.csdf_floor.specs.declared.fault.RunFault.{RunFault}
 use Rattle.csdf_floor.specs.declared.outcome.Outcome.{Outcome}
 use Rattle.csdf_floor.specs.Outcome.{IsOutcome}
-use Rattle.csdf_floor.specs.Work.{Work}
+use Rattle.csdf_floor.specs.Work.{Work, feeds_in}
+use Rattle.csdf_run.specs.Texts.{work_for}
+use Rattle.csdf_run.proofs.running.run.Given.{Over}
 use Rattle.csdf_run.proofs.running.run.Goals as goal
+use Rattle.csdf_run.proofs.running.run.Goals.{In_ok-outcome}
 
-as_asked : (w v : Work) (o : Outcome) → w ≡ v → IsOutcome w o → IsOutcome v o
-as_asked w v o is h = subst (λ (x : Work). IsOutcome x o) is h
+module _ (g : Over) (c : In_ok-outcome g) where
+  abbrev asked : Work
+  asked = work_for c.args.accepted.now (feeds_in c.args.feeds.now) c.args.periods c.args.firings
+
+  is_asked : c.new-request.result ≡ asked
+  is_asked = c.new-request.ensures
+      ∙ ap₂ (λ (a : Accepted) (fs : List (List ℤ)). work_for a fs c.args.periods c.args.firings) c.in_ok-fed.ensures.accepted c.in_ok-fed.ensures.feeds
+
+  is_there : c.outcome_of-outcome.result.outcome ≡ Ok c.in_ok-outcome.outcome
+  is_there = grind (arith, common_steps)
+
+  here : (P : Outcome → Type 0) → IfOk c.outcome_of-outcome.result.outcome P → P c.in_ok-outcome.outcome
+  here P = subst (λ (r : Result Outcome RunFault). IfOk r P) is_there
+
+  outcome : IsOutcome asked c.in_ok-outcome.outcome
+  outcome = subst (λ (w : Work). IsOutcome w c.in_ok-outcome.outcome) is_asked (here (IsOutcome c.new-request.result) c.outcome_of-outcome.ensures.outcome)
 
 pub returns-clause-honest : goal.returns-clause-honest
-returns-clause-honest g c = (as_asked _ _ _ c.new-request.ensures c.in_ok-outcome.ensures.outcome).honest
+returns-clause-honest g c = (outcome g (goal.at.returns-clause-honest g c).In_ok-outcome).honest
 
 pub returns-clause-settled : goal.returns-clause-settled
-returns-clause-settled g c = (as_asked _ _ _ c.new-request.ensures c.in_ok-outcome.ensures.outcome).settled
+returns-clause-settled g c = (outcome g (goal.at.returns-clause-settled g c).In_ok-outcome).settled
 
 pub returns-clause-order : goal.returns-clause-order
-returns-clause-order g c = (as_asked _ _ _ c.new-request.ensures c.in_ok-outcome.ensures.outcome).order
+returns-clause-order g c = (outcome g (goal.at.returns-clause-order g c).In_ok-outcome).order
 
 pub returns-clause-capacities : goal.returns-clause-capacities
-returns-clause-capacities g c = (as_asked _ _ _ c.new-request.ensures c.in_ok-outcome.ensures.outcome).capacities
+returns-clause-capacities g c = (outcome g (goal.at.returns-clause-capacities g c).In_ok-outcome).capacities
 
 pub returns-clause-closing : goal.returns-clause-closing
-returns-clause-closing g c = (as_asked _ _ _ c.new-request.ensures c.in_ok-outcome.ensures.outcome).closing
+returns-clause-closing g c = (outcome g (goal.at.returns-clause-closing g c).In_ok-outcome).closing
 
 pub returns-clause-sinks : goal.returns-clause-sinks
-returns-clause-sinks g c = (as_asked _ _ _ c.new-request.ensures c.in_ok-outcome.ensures.outcome).sinks
+returns-clause-sinks g c = (outcome g (goal.at.returns-clause-sinks g c).In_ok-outcome).sinks
 
 pub returns-clause-report : goal.returns-clause-report
-returns-clause-report g c = (as_asked _ _ _ c.new-request.ensures c.in_ok-outcome.ensures.outcome).report
+returns-clause-report g c = (outcome g (goal.at.returns-clause-report g c).In_ok-outcome).report
 
 pub returns-clause-ending : goal.returns-clause-ending
-returns-clause-ending g c = (as_asked _ _ _ c.new-request.ensures c.in_ok-outcome.ensures.outcome).ending
+returns-clause-ending g c = (outcome g (goal.at.returns-clause-ending g c).In_ok-outcome).ending
 
 pub returns-clause-sequential : goal.returns-clause-sequential
-returns-clause-sequential g c = (as_asked _ _ _ c.new-request.ensures c.in_ok-outcome.ensures.outcome).sequential
+returns-clause-sequential g c = (outcome g (goal.at.returns-clause-sequential g c).In_ok-outcome).sequential
 
 pub returns-clause-rooms : goal.returns-clause-rooms
-returns-clause-rooms g c = (as_asked _ _ _ c.new-request.ensures c.in_ok-outcome.ensures.outcome).rooms
+returns-clause-rooms g c = (outcome g (goal.at.returns-clause-rooms g c).In_ok-outcome).rooms
 
 pub returns-clause-complete : goal.returns-clause-complete
-returns-clause-complete g c = (as_asked _ _ _ c.new-request.ensures c.in_ok-outcome.ensures.outcome).complete
+returns-clause-complete g c = (outcome g (goal.at.returns-clause-complete g c).In_ok-outcome).complete
 
 pub returns-clause-keeps : goal.returns-clause-keeps
-returns-clause-keeps g c = search rules
+returns-clause-keeps g c = here g (goal.at.returns-clause-keeps g c).In_ok-outcome (λ o. o.journal.keeps ≡ true) c.outcome_of-outcome.ensures.keeps

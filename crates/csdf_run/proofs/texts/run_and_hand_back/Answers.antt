@@ -1,8 +1,11 @@
-use Rattle.std.proofs.Common.{List, ap, sym, subst, ◌∙◌, inl, inr, refl}
+use Rattle.std.proofs.Common.{◌≡◌, List, ap, sym, subst, ◌∙◌, inl, inr, refl}
 use Rattle.std.specs.Prelude.{ℤ, IfOk}
 use Rattle.std.specs.Global.{Vec}
 use Rattle.std.proofs.lemmas.Result.{IfErr-weaker, IfOk-weaker}
-use Rattle.csdf_floor.specs.Work.{AreFeeds, Work, feeds_in}
+use Rattle.csdf_analysis.specs.Acceptance.{Accepted}
+use Rattle.csdf_journal.specs.View.{is_kept}
+use Rattle.csdf_floor.specs.Outcome.{IsOutcome}
+use Rattle.csdf_floor.specs.Work.{Work, feeds_in}
 use Rattle.csdf_run.specs.Texts.{IsGraphRefusal, TellGraphRun, TellOutcome, texts_in, work_for}
 use Rattle.csdf_run.proofs.FeedTexts.{as_sequential, can_be_run}
 use Rattle.csdf_run.proofs.Lengths.{may_run}
@@ -11,9 +14,7 @@ use Rattle.csdf_run.proofs.texts.run_and_hand_back.Goals as goal
 
 pub new-request-requires-clause-fed : goal.new-request-requires-clause-fed
 new-request-requires-clause-fed g c =
-    let a = c.in-Ok.fed.accepted in
-    subst (λ (feeds : List (Vec ℤ)). AreFeeds a.graph (feeds_in feeds)) (sym c.deref.ensures.value)
-    (can_be_run a.graph (texts_in c.args.feeds.now) (feeds_in c.in-Ok.fed.feeds.items) c.in-Ok.ensures.read.tokens)
+    can_be_run c.in-Ok.fed.accepted.graph (texts_in c.args.feeds.now) (feeds_in c.in-Ok.fed.feeds.items) c.in-Ok.ensures.read.tokens
 
 pub new-request-requires-clause-some_period : goal.new-request-requires-clause-some_period
 new-request-requires-clause-some_period g c =
@@ -28,7 +29,11 @@ new-request-requires-clause-few_firings g c =
 pub returns-clause-run : goal.returns-clause-run
 returns-clause-run g c =
     let a = c.in-Ok.fed.accepted in
-    let w = c.new-request.ensures ∙ ap (λ (feeds : List (Vec ℤ)). work_for a (feeds_in feeds) c.periods_of-periods.result c.args.options.firings) c.deref.ensures.value in
+    let w : Work = work_for a (feeds_in c.in-Ok.fed.feeds.items) c.periods_of-periods.result c.args.options.firings in
+    let same : w.accepted.graph ≡ c.graph.result.now =
+    sym (c.graph.ensures.graph ∙ ap (λ (b : Accepted). b.graph) (c.outcome_of-fed.ensures.fed.accepted ∙ ap (λ (x : Work). x.accepted) c.new-request.ensures)) in
+    let outcome : IfOk c.outcome_of-fed.result.outcome (IsOutcome w) =
+    subst (λ (x : Work). IfOk c.outcome_of-fed.result.outcome (IsOutcome x)) c.new-request.ensures c.outcome_of-fed.ensures.outcome in
     IfOk-weaker c.told_of-texts.result _ _ (λ texts told. record {
       accepted = a;
       feeds = feeds_in c.in-Ok.fed.feeds.items;
@@ -36,8 +41,8 @@ returns-clause-run g c =
       goes_on = c.periods_of-periods.ensures;
       outcome = told.0;
       read = c.in-Ok.ensures.read;
-      told = subst (λ (x : Work). TellOutcome x told.0 texts) w told.1;
-    }) c.told_of-texts.ensures.told
+      told = told.1;
+    }) (c.told_of-texts.ensures.told w same outcome)
 
 pub returns-clause-sequential : goal.returns-clause-sequential
 returns-clause-sequential g c =
@@ -60,4 +65,13 @@ returns-clause-refused g c =
     c.told_of-texts.ensures.failed
 
 pub returns-clause-graph : goal.returns-clause-graph
-returns-clause-graph g c = inr (c.in-Ok.fed.accepted, c.in-Ok.ensures.read.in_room, c.into_graph.ensures)
+returns-clause-graph g c =
+    inr (
+      c.in-Ok.fed.accepted,
+      c.in-Ok.ensures.read.in_room,
+      c.into_graph.ensures
+          ∙ ap (λ (b : Accepted). b.graph) (c.outcome_of-fed.ensures.fed.accepted ∙ ap (λ (x : Work). x.accepted) c.new-request.ensures),
+    )
+
+pub returns-clause-kept : goal.returns-clause-kept
+returns-clause-kept g c = c.told_of-texts.ensures.kept (is_kept c.args.options.keeping) c.outcome_of-fed.ensures.keeps

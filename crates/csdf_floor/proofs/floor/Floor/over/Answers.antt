@@ -1,6 +1,6 @@
 use Rattle.std.proofs.Common.{arith}
 use Rattle.std.proofs.lemmas.Grind.{common_steps}
-use Rattle.std.proofs.Common.{◌≡◌, List, [], ◌++◌, length, ap, sym, subst, ◌∙◌}
+use Rattle.std.proofs.Common.{◌≡◌, List, [], ◌++◌, length, ap, sym, ◌∙◌}
 use Rattle.std.specs.List.{range_with_len}
 use Rattle.csdf_core.specs.Moves.{Move}
 use Rattle.csdf_core.specs.Plan.{Plan}
@@ -11,7 +11,7 @@ use Rattle.csdf_core.proofs.Opening.{alike}
 use Rattle.csdf_floor.specs.Floor.{FloorView, closes}
 use Rattle.csdf_floor.specs.Inside.{AreClosed}
 use Rattle.csdf_floor.proofs.Floors.{between_opened}
-use Rattle.csdf_floor.proofs.floor.Floor.with_journal.Goals as goal
+use Rattle.csdf_floor.proofs.floor.Floor.over.Goals as goal
 
 -- the journal of a floor that has not moved, once all that were due are closed
 closed_first : (old new : FloorView) → old.core.now ≡ present (opening old.core.plan) → old.journal ≡ []
@@ -25,25 +25,18 @@ closed_first old new first empty closed =
 
 pub close_at_first-requires-clause-idle : goal.close_at_first-requires-clause-idle
 close_at_first-requires-clause-idle c a =
-    let first : c.reserve.new.self.shown.core.now ≡ present (opening c.reserve.new.self.shown.core.plan) =
-    subst (λ (f : FloorView). f.core.now ≡ present (opening f.core.plan)) (sym c.in_ok-reserve.ensures.shown) c.in_ok-book.ensures.opening in
-    ap (λ (p : Present). stage p a) first ∙ alike (length c.reserve.new.self.shown.core.plan.sources) a Idle
+    ap (λ (p : Present). stage p a) c.open-book.ensures.opening ∙ alike (length c.open-book.result.shown.core.plan.sources) a Idle
 
 pub invariant_of-result : goal.invariant_of-result
 invariant_of-result c =
-    let first : c.reserve.new.self.shown.core.now ≡ present (opening c.reserve.new.self.shown.core.plan) =
-    subst (λ (f : FloorView). f.core.now ≡ present (opening f.core.plan)) (sym c.in_ok-reserve.ensures.shown) c.in_ok-book.ensures.opening in
-    between_opened c.reserve.new.self.shown c.close_at_first.new.self.shown first c.close_at_first.ensures
+    between_opened c.open-book.result.shown c.close_at_first.new.self.shown c.open-book.ensures.opening c.close_at_first.ensures
 
 pub returns-clause-work : goal.returns-clause-work
 returns-clause-work c = grind (arith, common_steps)
 
 pub returns-clause-journal : goal.returns-clause-journal
 returns-clause-journal c =
-    let first : c.reserve.new.self.shown.core.now ≡ present (opening c.reserve.new.self.shown.core.plan) =
-    subst (λ (f : FloorView). f.core.now ≡ present (opening f.core.plan)) (sym c.in_ok-reserve.ensures.shown) c.in_ok-book.ensures.opening in
-    let empty : c.reserve.new.self.shown.journal ≡ [] = ap (λ (f : FloorView). f.journal) c.in_ok-reserve.ensures.shown ∙ c.in_ok-book.ensures.journal in
-    closed_first c.reserve.new.self.shown c.close_at_first.new.self.shown first empty c.close_at_first.ensures
+    closed_first c.open-book.result.shown c.close_at_first.new.self.shown c.open-book.ensures.opening c.open-book.ensures.journal c.close_at_first.ensures
 
 pub close_at_first-requires-clause-room : goal.close_at_first-requires-clause-room
 close_at_first-requires-clause-room c = grind (arith, common_steps)

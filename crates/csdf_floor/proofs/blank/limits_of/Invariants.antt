@@ -1,6 +1,6 @@
 use Rattle.std.proofs.Common.{◌≡◌, ◌++◌, ◌*◌, ◌≤◌, drop, map}
 use Rattle.std.specs.Prelude.{All}
-use Rattle.csdf_floor.proofs.work.limits_of.Given as goal
+use Rattle.csdf_floor.proofs.blank.limits_of.Given as goal
 
 abbrev pub invariant-loop-actor : goal.invariant-loop-actor
 invariant-loop-actor l = record {

@@ -1,7 +1,7 @@
 use Rattle.std.proofs.lemmas.Grind.{common_steps}
 use Rattle.std.proofs.Common.{arith}
 use Rattle.csdf_floor.proofs.Works.{feed_short}
-use Rattle.csdf_floor.proofs.work.supplies_of.Goals as goal
+use Rattle.csdf_floor.proofs.blank.supplies_of.Goals as goal
 
 pub overflow_cast-len : goal.overflow_cast-len
 overflow_cast-len c = omega (

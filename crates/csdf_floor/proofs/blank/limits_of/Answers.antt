@@ -3,7 +3,7 @@ use Rattle.std.proofs.Common.{◌≡◌, ◌≤◌, ◌*◌, ◌+◌, ◌++◌, 
 use Rattle.std.specs.Prelude.{All}
 use Rattle.std.proofs.lemmas.List.Elements.{All-get_or, All-push}
 use Rattle.csdf_floor.proofs.Loops.{one_more}
-use Rattle.csdf_floor.proofs.work.limits_of.Goals as goal
+use Rattle.csdf_floor.proofs.blank.limits_of.Goals as goal
 
 pub overflow_mul-periods : goal.overflow_mul-periods
 overflow_mul-periods c =

@@ -1,0 +1,150 @@
+//! What a floor begins with.
+
+ghost use Rattle.std.specs.Prelude.{◌≡◌, ◌*◌, ◌≤◌, [], All, IfOk, length, map};
+ghost use Rattle.csdf_core.specs.Plan.{Channel as ChannelModel};
+ghost use Rattle.csdf_core.specs.Shows.{Shows};
+ghost use Rattle.csdf_core.specs.State.{opening};
+ghost use Rattle.csdf_journal.specs.View.{is_kept};
+ghost use Rattle.csdf_floor.specs.Beginnings.{IsBlank};
+ghost use Rattle.csdf_floor.specs.Inside.{AreFeedbacks, first_peaks};
+ghost use Rattle.csdf_floor.specs.Journal.{program_for};
+ghost use Rattle.csdf_floor.specs.Work.{AreFeeds, HasFewFirings, feeds_in};
+
+use crate::fed::Fed;
+use crate::limits::MAX_FEED_TOKENS;
+use crate::lists::Lists;
+use csdf_analysis::Accepted;
+use csdf_core::{Core, Feedback};
+use csdf_journal::{Journal, Keeping};
+use csdf_model::MAX_FIRINGS_PER_ACTOR;
+use std::alloc::{AllocError, Global};
+
+/// All of a book that takes memory, but what it is made over: a core that has not moved, the channel in
+/// which each actor keeps its state, a journal of no moves with room for the closing of each channel, an
+/// empty list for each actor, and an empty buffer.
+#[derive(Drop)]
+pub(crate) struct Blank {
+    pub(crate) core: Core,
+    pub(crate) feedbacks: Vec<Option<Feedback>>,
+    pub(crate) journal: Journal,
+    pub(crate) sinks: Lists,
+    pub(crate) reads: Vec<Vec<i32>>,
+}
+
+/// How many firings each actor makes in so many periods.
+fn limits_of(alloc: Global, accepted: &Accepted, periods: u32) -> Result<Vec<u32>, AllocError>
+    requires { HasFewFirings accepted.now periods }
+    ensures value { IfOk result (λ limits. limits.items ≡ map (λ q. periods * q) accepted.now.q) }
+    ensures few { IfOk result (λ limits. All (λ n. n ≤ MAX_FIRINGS_PER_ACTOR) limits.items) }
+    ensures each_actor { length accepted.now.q ≡ length accepted.now.graph.actors }
+{
+    let firings = accepted.vector().q.as_slice();
+    let mut limits = Vec::new(alloc);
+    for actor in 0..firings.len() {
+        limits.push(periods * firings[actor])?;
+    }
+    Ok(limits)
+}
+
+/// How many tokens there are for each actor.
+fn supplies_of(alloc: Global, feeds: &[Vec<i32>]) -> Result<Vec<u32>, AllocError>
+    requires { All (λ feed. length feed ≤ MAX_FEED_TOKENS) (feeds_in feeds.now) }
+    ensures { IfOk result (λ supply. supply.items ≡ map length (feeds_in feeds.now)) }
+{
+    let mut supply = Vec::new(alloc);
+    for feed in feeds {
+        supply.push(feed.len() as u32)?;
+    }
+    Ok(supply)
+}
+
+/// A core that has not moved, of what is run of these. An error says that memory ran out.
+fn core_of(
+    alloc: Global,
+    accepted: &Accepted,
+    feeds: &[Vec<i32>],
+    periods: u32,
+    firings: Option<u32>,
+) -> Result<Core, AllocError>
+    requires fed { AreFeeds accepted.now.graph (feeds_in feeds.now) }
+    requires few_firings { HasFewFirings accepted.now periods }
+    ensures plan { IfOk result (λ core. core.plan ≡ (program_for accepted.now (feeds_in feeds.now) periods firings).plan) }
+    ensures opening { IfOk result (λ core. Shows core (opening core.plan)) }
+    ensures peaks { IfOk result (λ core. core.peaks ≡ map length (map (λ (c : ChannelModel). c.initial) core.plan.channels)) }
+{
+    let limits = limits_of(alloc, accepted, periods)?;
+    let supply = supplies_of(alloc, feeds)?;
+    Core::new(alloc, accepted, limits, supply, firings)
+}
+
+/// The channel in which each actor keeps its state, where it has one.
+fn feedbacks_of(alloc: Global, core: &Core) -> Result<Vec<Option<Feedback>>, AllocError>
+    ensures { IfOk result (λ feedbacks. AreFeedbacks core.now.plan (length core.now.plan.sources) feedbacks.items) }
+{
+    let mut feedbacks = Vec::new(alloc);
+    for actor in 0..core.actors() {
+        feedbacks.push(core.feedback(actor))?;
+    }
+    Ok(feedbacks)
+}
+
+/// As many empty buffers.
+fn no_reads(alloc: Global, actors: u32) -> Result<Vec<Vec<i32>>, AllocError>
+    ensures { IfOk result (λ reads. length reads.items ≡ actors) }
+{
+    let mut reads = Vec::new(alloc);
+    for _ in 0..actors {
+        reads.push(Vec::new(alloc))?;
+    }
+    Ok(reads)
+}
+
+/// A journal of no moves, with room for so many.
+fn empty_journal(alloc: Global, keeping: Keeping, room: usize) -> Result<Journal, AllocError>
+    ensures moves { IfOk result (λ journal. journal.moves ≡ []) }
+    ensures keeps { IfOk result (λ journal. journal.keeps ≡ is_kept keeping) }
+    ensures room { IfOk result (λ journal. room ≤ journal.room) }
+{
+    let mut journal = Journal::new(alloc, keeping);
+    journal.reserve(room)?;
+    Ok(journal)
+}
+
+/// The parts of a book of this core, which has not moved.
+fn parts_of(alloc: Global, core: Core, keeping: Keeping) -> Result<Blank, AllocError>
+    requires opening { Shows core (opening core.plan) }
+    requires peaks { core.peaks ≡ first_peaks core.plan }
+    ensures blank { IfOk result (IsBlank core.plan) }
+    ensures keeps { IfOk result (λ blank. blank.journal.keeps ≡ is_kept keeping) }
+{
+    let feedbacks = feedbacks_of(alloc, &core)?;
+    let journal = empty_journal(alloc, keeping, core.channels() as usize)?;
+    let sinks = Lists::new(alloc, core.actors())?;
+    let reads = no_reads(alloc, core.actors())?;
+    Ok(Blank {
+        core,
+        feedbacks,
+        journal,
+        sinks,
+        reads,
+    })
+}
+
+impl Blank {
+    /// That of so many periods of the graph over these feeds. An error says that memory ran out.
+    pub(crate) fn of(
+        alloc: Global,
+        fed: &Fed,
+        periods: u32,
+        firings: Option<u32>,
+        keeping: Keeping,
+    ) -> Result<Blank, AllocError>
+        requires fed { AreFeeds fed.now.accepted.graph (feeds_in fed.now.feeds.items) }
+        requires few_firings { HasFewFirings fed.now.accepted periods }
+        ensures blank { IfOk result (IsBlank (program_for fed.now.accepted (feeds_in fed.now.feeds.items) periods firings).plan) }
+        ensures keeps { IfOk result (λ blank. blank.journal.keeps ≡ is_kept keeping) }
+    {
+        let core = core_of(alloc, &fed.accepted, &fed.feeds, periods, firings)?;
+        parts_of(alloc, core, keeping)
+    }
+}
