@@ -431,7 +431,7 @@ impl Core {
         requires actor { actor < length self.now.plan.sources }
         requires few { turn.firing + n ≤ MAX_FIRINGS_PER_ACTOR }
         requires given { given ≡ gifts_of self.now.plan.channels actor turn.firing n }
-        requires small { given ≤ 8192 * n }
+        requires small { given ≤ MAX_TOTAL_PER_FIRING * n }
         ensures { IsTrue result ↔ held self.now.now + reserved self.now.plan self.now.now + growth_of self.now.plan.channels actor turn.firing n
             ≤ self.now.plan.cells }
     {

@@ -15,7 +15,9 @@ ghost use Rattle.std.specs.Prelude.{slice_set};
 use crate::plan::Plan;
 use crate::transfer::{gift_of, put_outputs, raise_peaks};
 use crate::turn::{Turn, turn_after};
-use csdf_model::{MAX_FIRINGS_PER_ACTOR, MAX_PHASES, MAX_TOKENS_PER_FIRING};
+use csdf_model::{
+    MAX_FIRINGS_PER_ACTOR, MAX_PHASES, MAX_TOKENS_PER_FIRING, MAX_TOTAL_PER_FIRING,
+};
 use csdf_pool::Pool;
 
 /// Whether no channel goes from the actor to itself.
@@ -77,7 +79,7 @@ pub(crate) fn growth_in_all(plan: &Plan, actor: u32, turn: Turn, n: u32) -> u64
     requires actor { actor < length plan.now.sources }
     requires few { turn.firing + n ≤ MAX_FIRINGS_PER_ACTOR }
     ensures value { result ≡ growth_of plan.now.channels actor turn.firing n }
-    ensures small { result ≤ 8192 * n }
+    ensures small { result ≤ MAX_TOTAL_PER_FIRING * n }
 {
     plan.gives_few();
     let outputs = plan.outputs(actor);

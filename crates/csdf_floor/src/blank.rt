@@ -16,16 +16,17 @@ use crate::lists::Lists;
 use csdf_analysis::Accepted;
 use csdf_core::{Core, Feedback};
 use csdf_journal::{Journal, Keeping};
-use csdf_model::MAX_FIRINGS_PER_ACTOR;
+use csdf_model::{Graph, MAX_FIRINGS_PER_ACTOR};
 use std::alloc::{AllocError, Global};
 
 /// All of a book that takes memory, but what it is made over: a core that has not moved, the channel in
-/// which each actor keeps its state, a journal of no moves with room for the closing of each channel, an
-/// empty list for each actor, and an empty buffer.
+/// which each actor keeps its state, whether it has channels to itself at all, a journal of no moves with
+/// room for the closing of each channel, an empty list for each actor, and an empty buffer.
 #[derive(Drop)]
 pub(crate) struct Blank {
     pub(crate) core: Core,
     pub(crate) feedbacks: Vec<Option<Feedback>>,
+    pub(crate) loops: Vec<bool>,
     pub(crate) journal: Journal,
     pub(crate) sinks: Lists,
     pub(crate) reads: Vec<Vec<i32>>,
@@ -110,8 +111,26 @@ fn empty_journal(alloc: Global, keeping: Keeping, room: usize) -> Result<Journal
     Ok(journal)
 }
 
+/// Whether each actor has a channel to itself.
+fn loops_of(alloc: Global, graph: &Graph) -> Result<Vec<bool>, AllocError> {
+    let mut loops = vec![in alloc; false; graph.actors().len()]?;
+    for channel in graph.channels() {
+        if channel.from == channel.to
+            && let Some(feeds_itself) = loops.get_mut(channel.from as usize)
+        {
+            *feeds_itself = true;
+        }
+    }
+    Ok(loops)
+}
+
 /// The parts of a book of this core, which has not moved.
-fn parts_of(alloc: Global, core: Core, keeping: Keeping) -> Result<Blank, AllocError>
+fn parts_of(
+    alloc: Global,
+    core: Core,
+    loops: Vec<bool>,
+    keeping: Keeping,
+) -> Result<Blank, AllocError>
     requires opening { Shows core (opening core.plan) }
     requires peaks { core.peaks ≡ first_peaks core.plan }
     ensures blank { IfOk result (IsBlank core.plan) }
@@ -124,6 +143,7 @@ fn parts_of(alloc: Global, core: Core, keeping: Keeping) -> Result<Blank, AllocE
     Ok(Blank {
         core,
         feedbacks,
+        loops,
         journal,
         sinks,
         reads,
@@ -145,6 +165,7 @@ impl Blank {
         ensures keeps { IfOk result (λ blank. blank.journal.keeps ≡ is_kept keeping) }
     {
         let core = core_of(alloc, &fed.accepted, &fed.feeds, periods, firings)?;
-        parts_of(alloc, core, keeping)
+        let loops = loops_of(alloc, fed.accepted.graph())?;
+        parts_of(alloc, core, loops, keeping)
     }
 }

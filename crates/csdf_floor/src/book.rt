@@ -90,11 +90,12 @@ impl Book {
         let Blank {
             core,
             feedbacks,
+            loops,
             journal,
             sinks,
             reads,
         } = blank;
-        let work = Work::new(fed, periods, firings, feedbacks);
+        let work = Work::new(fed, periods, firings, feedbacks, loops);
         Book {
             work,
             core,
@@ -160,36 +161,6 @@ impl Book {
         self.journal.reserve_copy(alloc, tokens)
     }
 
-    /// Makes the buffer of the actor, which is idle, as long as its next firing needs.
-    fn fit_buffer(&mut self, actor: u32) -> Result<(), AllocError>
-        requires exists { actor < length self.old.shown.core.plan.sources }
-        requires idle { stage self.old.shown.core.now actor ≡ Idle }
-        ensures shown { self.new.shown ≡ self.old.shown }
-        ensures rooms { self.new.rooms ≡ self.old.rooms }
-        ensures room { self.new.room ≡ self.old.room }
-        ensures buffer { OnOk result (length (slice_index_or self.new.reads actor [])
-            ≡ need actor (count self.old.shown.core.now actor) self.old.shown.core.plan.channels) }
-    {
-        let need = self.core.need(actor);
-        self.reads[actor as usize].resize(need, 0)
-    }
-
-    /// Makes room in the actor's list, where it is a sink, for what its next firing needs.
-    fn reserve_sink(&mut self, actor: u32) -> Result<(), AllocError>
-        requires { actor < length self.old.shown.core.plan.sources }
-        ensures shown { self.new.shown ≡ self.old.shown }
-        ensures reads { self.new.reads ≡ self.old.reads }
-        ensures room { self.new.room ≡ self.old.room }
-        ensures sink { OnOk result (is_sink_kernel (slice_index_or (program self.old.shown.work).kernels actor Sink) ≡ true
-            → need actor (count self.old.shown.core.now actor) self.old.shown.core.plan.channels ≤ slice_index self.new.rooms actor) }
-    {
-        if !self.work.is_sink(actor) {
-            return Ok(());
-        }
-        let need = self.core.need(actor);
-        self.sinks.reserve(actor, need)
-    }
-
     /// Makes room for all that the actor's next firing begins with.
     pub(crate) fn make_room(&mut self, actor: u32) -> Result<(), AllocError>
         requires exists { actor < length self.old.shown.core.plan.sources }
@@ -197,8 +168,9 @@ impl Book {
         ensures shown { self.new.shown ≡ self.old.shown }
         ensures room { OnOk result (HasRoom self.new actor) }
     {
-        self.fit_buffer(actor)?;
-        self.reserve_sink(actor)?;
+        let need = self.core.need(actor);
+        self.fit_length(actor, need)?;
+        self.reserve_taken(actor, need)?;
         self.reserve(2)
     }
 

@@ -183,7 +183,7 @@ impl Book {
         if self.work.is_source(actor) || !self.core.has_one_phase(actor) {
             return None;
         }
-        if self.feeds_itself(actor) {
+        if self.work.feeds_itself(actor) {
             return None;
         }
         if self.products(actor, most) < heavy {

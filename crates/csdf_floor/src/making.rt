@@ -24,7 +24,7 @@ use std::alloc::{AllocError, Global};
 
 impl Book {
     /// Makes the buffer of the actor, which is idle, this long.
-    fn fit_length(&mut self, actor: u32, needed: usize) -> Result<(), AllocError>
+    pub(crate) fn fit_length(&mut self, actor: u32, needed: usize) -> Result<(), AllocError>
         requires exists { actor < length self.old.shown.core.plan.sources }
         requires idle { stage self.old.shown.core.now actor ≡ Idle }
         ensures shown { self.new.shown ≡ self.old.shown }
@@ -36,7 +36,7 @@ impl Book {
     }
 
     /// Makes room in the actor's list, where it is a sink, for so many tokens.
-    fn reserve_taken(&mut self, actor: u32, needed: usize) -> Result<(), AllocError>
+    pub(crate) fn reserve_taken(&mut self, actor: u32, needed: usize) -> Result<(), AllocError>
         requires { actor < length self.old.shown.core.plan.sources }
         ensures shown { self.new.shown ≡ self.old.shown }
         ensures reads { self.new.reads ≡ self.old.reads }
@@ -469,18 +469,6 @@ impl Book {
         Ok(made)
     }
 
-    /// Whether a channel goes from the actor to itself.
-    pub(crate) fn feeds_itself(&self, actor: u32) -> bool
-        requires { actor < length self.now.shown.core.plan.sources }
-    {
-        for channel in self.work.inputs(actor) {
-            if self.work.producer(*channel) == actor {
-                return true;
-            }
-        }
-        false
-    }
-
     /// Makes the actor's next firings, of which the first may begin, until so many are made or the next
     /// one may not begin: as one block, as one that keeps a state, or one by one where no block can be
     /// had, and then fewer where memory runs out after the first. An actor with a channel to itself may
@@ -511,7 +499,7 @@ impl Book {
         if block.firings == 0 {
             return self.make_singly(actor, most, counts, outputs);
         }
-        if block.firings < most && self.feeds_itself(actor) {
+        if block.firings < most && self.work.feeds_itself(actor) {
             if block.firings == 1 {
                 return self.make_singly(actor, most, counts, outputs);
             }

@@ -31,7 +31,8 @@ use std::marker::Model;
 
 /// What is run: an accepted graph, the contents of its sources' files, for how many periods, and the
 /// limit on all firings where there is one. What each firing would have to look for in the graph again
-/// stands beside them: the channel in which an actor keeps its state.
+/// stands beside them: the channel in which an actor keeps its state, and whether it has a channel to
+/// itself at all.
 #[derive(Drop)]
 pub(crate) struct Work {
     accepted: Accepted,
@@ -39,6 +40,7 @@ pub(crate) struct Work {
     periods: u32,
     firings: Option<u32>,
     feedbacks: Vec<Option<Feedback>>,
+    loops: Vec<bool>,
 }
 
 impl Model for Work {
@@ -91,6 +93,7 @@ impl Work {
         periods: u32,
         firings: Option<u32>,
         feedbacks: Vec<Option<Feedback>>,
+        loops: Vec<bool>,
     ) -> Work
         requires fed { AreFeeds fed.accepted.graph (feeds_in fed.feeds.items) }
         requires some_period { 1 ≤ periods }
@@ -109,6 +112,7 @@ impl Work {
             periods,
             firings,
             feedbacks,
+            loops,
         }
     }
 
@@ -123,6 +127,7 @@ impl Work {
             periods: _,
             firings: _,
             feedbacks: _,
+            loops: _,
         } = self;
         Fed { accepted, feeds }
     }
@@ -133,6 +138,12 @@ impl Work {
         ensures { IfSome result (IsFeedback (program self.now).plan actor) }
     {
         self.feedbacks[actor as usize]
+    }
+
+    /// Whether the actor has a channel to itself. It decides no more than how many firings are made at
+    /// once.
+    pub(crate) fn feeds_itself(&self, actor: u32) -> bool {
+        matches!(self.loops.get(actor as usize), Some(true))
     }
 
     /// The actor's kernel.

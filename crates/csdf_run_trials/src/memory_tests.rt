@@ -10,7 +10,10 @@ use crate::shared::{
 };
 use csdf_analysis::Accepted;
 use csdf_core::Core;
-use csdf_floor::{DeliverFault, Floor, Outcome, RunFault, StartFault};
+use csdf_floor::{
+    DeliverFault, Fed, Floor, Outcome, RunFault, Settled, StartFault, are_feeds, may_run,
+    settle_and_hand_back,
+};
 use csdf_journal::Keeping;
 use csdf_kernel::{Done, Job, Outputs, eval, eval_into};
 use csdf_run::{Open, run_texts};
@@ -229,6 +232,40 @@ fn a_floor_is_driven_to_its_end(rt: HostRuntime) -> Result<(), Fail> {
     let floor = driven(&rt, rt.alloc(), &asked)?;
     let answer = settled(&rt, rt.alloc(), floor, &asked, 1, None, &[1, 1, 1]);
     check_told(&rt, rt.alloc(), &asked.accepted, answer)
+}
+
+// ---- a floor over a graph and feeds that are handed over
+
+/// Asserts that what comes back is what was handed in.
+fn check_fed<R: Abort>(rt: &R, fed: &Fed) {
+    expect_eq(rt, fed.accepted.graph().actors().len(), 3);
+    assert!(rt; fed.feeds.len() == 3);
+    expect_eq(rt, fed.feeds[0].as_slice(), &FEED[..]);
+    expect_eq(rt, fed.feeds[1].len(), 0);
+}
+
+/// A floor over what is asked for, which comes back where memory is wanting.
+fn floor_over<R: Abort>(rt: &R, alloc: Global, asked: Asked) -> Result<Floor, Fail> {
+    let Asked { accepted, feeds } = asked;
+    assert!(rt; are_feeds(accepted.graph(), &feeds));
+    assert!(rt; may_run(&accepted, 1));
+    match Floor::over(alloc, Fed { accepted, feeds }, 1, None, Keeping::Kept) {
+        Ok(floor) => Ok(floor),
+        Err(fed) => {
+            check_fed(rt, &fed);
+            Err(RunFault::Memory.into())
+        }
+    }
+}
+
+#[test]
+fn what_a_floor_was_made_over_comes_back(rt: HostRuntime) -> Result<(), Fail> {
+    let asked = asked_for(rt.alloc(), WIDE, &FEED)?;
+    let mut floor = floor_over(&rt, rt.alloc(), asked)?;
+    fire_all(&rt, rt.alloc(), &mut floor)?;
+    let Settled { fed, outcome } = settle_and_hand_back(rt.alloc(), floor, &[1, 1, 1]);
+    check_fed(&rt, &fed);
+    check_told(&rt, rt.alloc(), &fed.accepted, outcome)
 }
 
 // ---- a floor that keeps no journal, with one job and one list of outputs for all firings
