@@ -15,9 +15,7 @@ ghost use Rattle.std.specs.Prelude.{slice_set};
 use crate::plan::Plan;
 use crate::transfer::{gift_of, put_outputs, raise_peaks};
 use crate::turn::{Turn, turn_after};
-use csdf_model::{
-    MAX_FIRINGS_PER_ACTOR, MAX_PHASES, MAX_TOKENS_PER_FIRING, MAX_TOTAL_PER_FIRING,
-};
+use csdf_model::{MAX_FIRINGS_PER_ACTOR, MAX_PHASES, MAX_TOKENS_PER_FIRING, MAX_TOTAL_PER_FIRING};
 use csdf_pool::Pool;
 
 /// Whether no channel goes from the actor to itself.
