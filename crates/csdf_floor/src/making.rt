@@ -373,6 +373,68 @@ impl Book {
         }
     }
 
+    /// As [`make_more`](Book::make_more), but where blocks are asked for, as many firings as one has that
+    /// has several.
+    fn make_next(
+        &mut self,
+        actor: u32,
+        most: u32,
+        in_blocks: bool,
+        counts: &mut Counts,
+        outputs: &mut Outputs,
+    ) -> u32
+        requires exists { actor < length self.old.shown.core.plan.sources }
+        requires idle { stage self.old.shown.core.now actor ≡ Idle }
+        requires room { length (outputs_at self.old.shown.core.plan.channels actor) ≤ self.old.room }
+        ensures most { result ≤ most }
+        ensures made { HasMade self.old.shown self.new.shown actor result (made_moves self.old.shown actor result) }
+        ensures room { length (outputs_at self.old.shown.core.plan.channels actor) ≤ self.new.room }
+        ensures before { IsHonest (program self.old.shown.work) self.old.shown.journal }
+    {
+        let _ = &self.work;
+        if !in_blocks {
+            return self.make_more(actor, most, counts, outputs);
+        }
+        let block = self.block(actor, most);
+        if block.firings < 2 {
+            return self.make_more(actor, most, counts, outputs);
+        }
+        match self.make(actor, block, counts, outputs) {
+            Ok(()) => block.firings,
+            Err(_error) => 0,
+        }
+    }
+
+    /// Makes the actor's next firings, in blocks or one by one, until so many are made, the next one may
+    /// not begin, or memory runs out, and tells how many they are.
+    fn make_further(
+        &mut self,
+        actor: u32,
+        most: u32,
+        in_blocks: bool,
+        counts: &mut Counts,
+        outputs: &mut Outputs,
+    ) -> u32
+        requires exists { actor < length self.old.shown.core.plan.sources }
+        requires idle { stage self.old.shown.core.now actor ≡ Idle }
+        requires room { length (outputs_at self.old.shown.core.plan.channels actor) ≤ self.old.room }
+        ensures most { result ≤ most }
+        ensures made { HasMade self.old.shown self.new.shown actor result (made_moves self.old.shown actor result) }
+        ensures room { length (outputs_at self.old.shown.core.plan.channels actor) ≤ self.new.room }
+        ensures before { IsHonest (program self.old.shown.work) self.old.shown.journal }
+    {
+        let _ = &self.work;
+        let mut made = 0;
+        for _time in 0..most {
+            let more = self.make_next(actor, most - made, in_blocks, counts, outputs);
+            if more == 0 {
+                break;
+            }
+            made += more;
+        }
+        made
+    }
+
     /// Makes the actor's next firings one by one, of which the first may begin, until so many are made or
     /// the next one may not begin. It makes fewer where memory runs out after the first.
     fn make_singly(
@@ -394,43 +456,7 @@ impl Book {
     {
         let _ = &self.work;
         self.make_one(actor, counts, outputs)?;
-        let mut made = 1;
-        for _firing in 1..most {
-            let more = self.make_more(actor, most - made, counts, outputs);
-            if more == 0 {
-                break;
-            }
-            made += more;
-        }
-        Ok(made)
-    }
-
-    /// Makes the actor's next firings, as many as a block has where it has some, or one as
-    /// [`make_more`](Book::make_more). It tells how many, 0 as there.
-    fn make_next(
-        &mut self,
-        actor: u32,
-        most: u32,
-        counts: &mut Counts,
-        outputs: &mut Outputs,
-    ) -> u32
-        requires exists { actor < length self.old.shown.core.plan.sources }
-        requires idle { stage self.old.shown.core.now actor ≡ Idle }
-        requires room { length (outputs_at self.old.shown.core.plan.channels actor) ≤ self.old.room }
-        ensures most { result ≤ most }
-        ensures made { HasMade self.old.shown self.new.shown actor result (made_moves self.old.shown actor result) }
-        ensures room { length (outputs_at self.old.shown.core.plan.channels actor) ≤ self.new.room }
-        ensures before { IsHonest (program self.old.shown.work) self.old.shown.journal }
-    {
-        let _ = &self.work;
-        let block = self.block(actor, most);
-        if block.firings < 2 {
-            return self.make_more(actor, most, counts, outputs);
-        }
-        match self.make(actor, block, counts, outputs) {
-            Ok(()) => block.firings,
-            Err(_error) => 0,
-        }
+        Ok(1 + self.make_further(actor, most - 1, false, counts, outputs))
     }
 
     /// Makes the block, and further blocks after it, until so many firings are made or the next one may
@@ -458,15 +484,8 @@ impl Book {
     {
         let _ = &self.work;
         self.make(actor, block, counts, outputs)?;
-        let mut made = block.firings;
-        for _block in 1..most {
-            let more = self.make_next(actor, most - made, counts, outputs);
-            if more == 0 {
-                break;
-            }
-            made += more;
-        }
-        Ok(made)
+        let n = block.firings;
+        Ok(n + self.make_further(actor, most - n, true, counts, outputs))
     }
 
     /// Makes the actor's next firings, of which the first may begin, until so many are made or the next

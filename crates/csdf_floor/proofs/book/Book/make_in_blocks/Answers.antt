@@ -1,41 +1,10 @@
-use Rattle.std.proofs.lemmas.Grind.{common_steps}
-use Rattle.std.proofs.Common.{◌≡◌, ◌≤◌, ◌+◌, ℕ, subst, arith, length}
-use Rattle.csdf_core.specs.Plan.{Plan}
-use Rattle.csdf_core.specs.Ports.{outputs_at}
-use Rattle.csdf_floor.specs.Floor.{FloorView}
+use Rattle.std.proofs.Common.{subst}
 use Rattle.csdf_floor.specs.Inside.{BookView, IsBook}
-use Rattle.csdf_floor.specs.Making.{HasMade, made_moves}
 use Rattle.csdf_floor.proofs.MoreFirings.{made_more}
 use Rattle.csdf_floor.proofs.book.Book.make_in_blocks.Goals as goal
 
-pub loop-block-preserved : goal.loop-block-preserved
-loop-block-preserved c =
-    let f : FloorView = c.args.self.now.shown in
-    let mid : FloorView = c.loop-block.self.shown in
-    let a : ℕ = c.args.actor in
-    let book : IsBook f c.args.self.now.reads = subst (λ (b : BookView). IsBook b.shown b.reads) c.self.view_is c.self.invariant in
-    record {
-      some = omega (arith, c.loop-block.invariant.some);
-      most = omega (arith, c.loop-block.invariant.most, c.make_next-more.ensures.most);
-      made = made_more f mid c.make_next-more.new.self.shown a c.loop-block.made c.make_next-more.result book.kept c.make_next-more.ensures.before
-          c.requires.exists c.loop-block.invariant.made c.make_next-more.ensures.made;
-      room = subst (λ (u : Plan). length (outputs_at u.channels a) ≤ c.make_next-more.new.self.room) c.loop-block.invariant.made.plan
-          c.make_next-more.ensures.room;
-    }
-
-pub returns-then-more-eq0-clause-made : goal.returns-then-more-eq0-clause-made
-returns-then-more-eq0-clause-made c =
-    let f : FloorView = c.args.self.now.shown in
-    let mid : FloorView = c.loop-block.self.shown in
-    let a : ℕ = c.args.actor in
-    let book : IsBook f c.args.self.now.reads = subst (λ (b : BookView). IsBook b.shown b.reads) c.self.view_is c.self.invariant in
-    let e : c.loop-block.made + c.make_next-more.result ≡ c.loop-block.made = omega (arith, c.if-more-eq0.true) in
-    subst (λ (n : ℕ). HasMade f c.make_next-more.new.self.shown a n (made_moves f a n)) e
-    (made_more f mid c.make_next-more.new.self.shown a c.loop-block.made c.make_next-more.result book.kept c.make_next-more.ensures.before
-    c.requires.exists c.loop-block.invariant.made c.make_next-more.ensures.made)
-
-pub make_next-more-requires-clause-exists : goal.make_next-more-requires-clause-exists
-make_next-more-requires-clause-exists c = grind (arith, common_steps)
-
-pub returns-then-more-eq0-clause-room : goal.returns-then-more-eq0-clause-room
-returns-then-more-eq0-clause-room c = grind (arith, common_steps)
+pub returns-clause-made : goal.returns-clause-made
+returns-clause-made c =
+    made_more c.args.self.now.shown c.make.new.self.shown c.make_further.new.self.shown c.args.actor c.args.block.firings c.make_further.result
+    (subst (λ (b : BookView). IsBook b.shown b.reads) c.self.view_is c.self.invariant).kept c.make_further.ensures.before c.requires.exists
+    c.in_ok-make.ensures.made c.make_further.ensures.made
