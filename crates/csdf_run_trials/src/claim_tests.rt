@@ -1,9 +1,10 @@
-ghost use Rattle.std.specs.Prelude.{◌≡◌, ◌<◌, ◌≤◌, [], ◌∷◌, length, IfOk};
+ghost use Rattle.std.specs.Prelude.{◌≡◌, ◌+◌, ◌<◌, ◌≤◌, [], ◌∷◌, length, IfOk};
 ghost use Rattle.csdf_claims.specs.Board.{Holds, IsLawful, KeepsAll};
 ghost use Rattle.csdf_claims.specs.Laws.{first_done, second_held};
 
 use crate::shared::expect_eq;
 use csdf_claims::{Board, Lost, Missing, Place};
+use csdf_model::{MAX_ACTORS, MAX_FIRINGS_PER_ACTOR};
 use std::alloc::{AllocError, Global};
 use std::process::Abort;
 use std::sync::Wait;
@@ -29,7 +30,7 @@ const TRIES: u32 = 10_000;
 
 // A board with so many actors and two places.
 fn board_of_two(alloc: Global, actors: u32) -> Result<(Board, Place, Place), AllocError>
-    requires { actors ≤ 64 }
+    requires { actors ≤ MAX_ACTORS }
     ensures { IfOk result (λ r. (r.0.actors ≡ actors) × (r.1.board ≡ r.0.id) × (r.2.board ≡ r.0.id)) }
 {
     let (board, mut p) = Board::new(alloc, actors)?;
@@ -41,7 +42,7 @@ fn board_of_two(alloc: Global, actors: u32) -> Result<(Board, Place, Place), All
 fn win<R: Abort>(rt: &R, board: &Board, place: &mut Place, actor: u32, firing: u32)
     requires place { place.old.board ≡ board.now.id }
     requires actor { actor < board.now.actors }
-    requires firing { firing ≤ 16384000 }
+    requires firing { firing ≤ MAX_FIRINGS_PER_ACTOR }
     ensures board { place.new.board ≡ place.old.board }
     ensures holds { Holds place.new.view actor firing }
 {
@@ -204,7 +205,7 @@ fn finish_block<R: Abort>(rt: &R, board: &Board, place: &mut Place, actor: u32, 
     requires place { place.old.board ≡ board.now.id }
     requires actor { actor < board.now.actors }
     requires some { 1 ≤ count }
-    requires fits { count ≤ 16384001 }
+    requires fits { count ≤ MAX_FIRINGS_PER_ACTOR + 1 }
     ensures board { place.new.board ≡ place.old.board }
 {
     win(rt, board, place, actor, 0);

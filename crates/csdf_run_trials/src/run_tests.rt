@@ -9,7 +9,7 @@ use csdf_analysis::Accepted;
 use csdf_core::Refusal;
 use csdf_floor::{DeliverFault, Ending, Floor, Outcome, RunFault, StartFault};
 use csdf_kernel::{Counts, Done, Inputs, Job};
-use csdf_model::Kernel;
+use csdf_model::{Kernel, MAX_TOTAL_PER_FIRING};
 use csdf_run::Open;
 use std::alloc::Global;
 use std::process::Abort;
@@ -286,7 +286,7 @@ fn expect_taken<R: Abort>(rt: &R, alloc: Global, floor: &mut Floor, done: &Done)
 /// The job, with other inputs in the place of its own.
 fn altered(alloc: Global, job: &Job, inputs: &[i32]) -> Result<Job, Fail>
     requires ready { IsReady job.now }
-    requires few { length inputs.now ≤ 8192 }
+    requires few { length inputs.now ≤ MAX_TOTAL_PER_FIRING }
     ensures { IfOk result IsReady }
 {
     Ok(Job {
@@ -389,7 +389,7 @@ fn altered_tokens_are_not_taken(rt: HostRuntime) -> Result<(), Fail> {
 
 /// A result of a first firing with one output of one token, whatever the floor has started.
 fn other_done(alloc: Global, kernel: Kernel, actor: u32, inputs: &[i32]) -> Result<Done, Fail>
-    requires few { length inputs.now ≤ 8192 }
+    requires few { length inputs.now ≤ MAX_TOTAL_PER_FIRING }
     requires filter { HasFilterInRange kernel }
 {
     let mut counts = Counts::new(alloc);
@@ -412,7 +412,7 @@ fn check_other<R: Abort>(
     actor: u32,
     inputs: &[i32],
 ) -> Result<(), Fail>
-    requires few { length inputs.now ≤ 8192 }
+    requires few { length inputs.now ≤ MAX_TOTAL_PER_FIRING }
     requires filter { HasFilterInRange kernel }
 {
     let done = other_done(alloc, kernel, actor, inputs)?;

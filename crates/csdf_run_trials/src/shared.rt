@@ -9,7 +9,7 @@ use csdf_floor::{Floor, Outcome, RunFault, are_feeds, may_run, printed_report, s
 use csdf_graph::read_graph;
 use csdf_journal::Keeping;
 use csdf_kernel::{Counts, Done, Inputs, Job, eval};
-use csdf_model::Kernel;
+use csdf_model::{Kernel, MAX_TOKENS_PER_FIRING, MAX_TOTAL_PER_FIRING};
 use csdf_run::{Gate, run};
 use std::alloc::Global;
 use std::fmt::Debug;
@@ -128,7 +128,7 @@ fn expect_filter(rt: &impl Abort, kernel: &Kernel)
 /// Asserts that the counts are few and small.
 fn expect_counts(rt: &impl Abort, counts: &[u32])
     ensures few { length counts.now ≤ 128 }
-    ensures small { All (λ n. n ≤ 64) counts.now }
+    ensures small { All (λ n. n ≤ MAX_TOKENS_PER_FIRING) counts.now }
 {
     assert!(rt; counts.len() <= 128);
     assert!(rt; counts.iter().all(|count| *count <= 64));
@@ -137,8 +137,8 @@ fn expect_counts(rt: &impl Abort, counts: &[u32])
 /// The job over the inputs, with counts that were copied.
 fn job_with(alloc: Global, kernel: Kernel, counts: Counts, inputs: &[i32]) -> Result<Job, Fail>
     requires few { length counts.items ≤ 128 }
-    requires small { All (λ n. n ≤ 64) counts.items }
-    requires inputs { length inputs.now ≤ 8192 }
+    requires small { All (λ n. n ≤ MAX_TOKENS_PER_FIRING) counts.items }
+    requires inputs { length inputs.now ≤ MAX_TOTAL_PER_FIRING }
     requires filter { HasFilterInRange kernel }
     ensures { IfOk result IsReady }
 {
@@ -163,7 +163,7 @@ pub(crate) fn job_of(
 {
     expect_filter(rt, &kernel);
     expect_counts(rt, counts);
-    assert!(rt; inputs.len() <= 8192);
+    assert!(rt; inputs.len() <= MAX_TOTAL_PER_FIRING);
     let copy = Counts::from_slice(alloc, counts)?;
     job_with(alloc, kernel, copy, inputs)
 }
