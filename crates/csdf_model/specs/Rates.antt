@@ -1,5 +1,5 @@
 -- How many tokens firings move: a list of rates has one entry for each phase, and is repeated cyclically (Bilsen et al. 1996).
-use Rattle.std.specs.Prelude.{ℕ, zero, suc, ◌+◌, ◌%◌, ◌==◌, if◌then◌else◌, List, length, slice_index, sum_by}
+use Rattle.std.specs.Prelude.{ℕ, zero, suc, ◌+◌, ◌%◌, List, length, slice_index}
 use Rattle.csdf_model.specs.Graph.{Channel}
 
 -- the rate of firing number k
@@ -24,7 +24,3 @@ production c k = rate c.produce k
 
 abbrev pub consumption : Channel → ℕ → ℕ
 consumption c k = rate c.consume k
-
--- how many tokens the first n firings of an actor put into all its outputs
-abbrev pub output_total : List Channel → ℕ → ℕ → ℕ
-output_total channels a n = sum_by (λ (c : Channel). if c.from == a then produced c n else 0) channels
