@@ -1,5 +1,6 @@
 -- What the program tells of the token file of a source in answer to `csdf explain GRAPH DIR`.
 use Rattle.std.specs.Prelude.{ℕ, ◌-◌, Bool, ◌&&◌, nat_lt, if◌then◌else◌, List, [], ◌++◌, length, ℤ, Option, Some, None, Result, Ok, Err, codes, slice_get, unwrap_or}
+use Rattle.csdf_bytes.specs.declared.intake.TheConstants.{INPUT_LIMIT}
 use Rattle.std.specs.Fmt.{decimal}
 use Rattle.std.specs.List.{list_all, slice_split}
 use Rattle.std.specs.Option.{option_map_or}
@@ -60,7 +61,7 @@ long_words = codes "which has more than 16777216 bytes"
 
 -- what is wrong with the bytes of a token file
 abbrev pub wrong_in : List ℕ → Option (List ℕ)
-wrong_in bytes = if nat_lt 16777216 (length bytes) then Some long_words else wrong_by bytes (tokens_in bytes)
+wrong_in bytes = if nat_lt INPUT_LIMIT (length bytes) then Some long_words else wrong_by bytes (tokens_in bytes)
 
 -- what is wrong with a token file, by what was found of it; nothing where all is well
 abbrev pub wrong_with : TokenFile → Option (List ℕ)

@@ -1,5 +1,7 @@
 -- Token text: the tokens that a text of lines holds, and the text that is written for tokens.
 use Rattle.std.specs.Prelude.{ℕ, ◌+◌, ◌^◌, Bool, ◌&&◌, ◌||◌, ◌==◌, nat_lt, if◌then◌else◌, List, [], ◌∷◌, ◌++◌, length, map, reverse, take, ℤ, pos, negsuc}
+use Rattle.csdf_bytes.specs.declared.intake.TheConstants.{INPUT_LIMIT}
+use Rattle.csdf_bytes.specs.declared.tokens.TheConstants.{TOKEN_LIMIT}
 use Rattle.std.specs.Prelude.{neg_ℤ, Result, Ok, Err}
 use Rattle.std.specs.Char.{is_ascii_digit}
 use Rattle.std.specs.Fmt.{signed_decimal}
@@ -95,7 +97,7 @@ tokens_up_to limit entries = no_more_than limit (collected (take (limit + 1) ent
 -- the tokens of a text, or its first fault: 16,777,216 bytes and 1,000,000 tokens at most
 abbrev pub tokens_in : List ℕ → Result (List ℤ) TokenFault
 tokens_in bytes =
-    if nat_lt 16777216 (length bytes) then Err TooMany else tokens_up_to 1000000 (map entry_of (words_from 1 bytes))
+    if nat_lt INPUT_LIMIT (length bytes) then Err TooMany else tokens_up_to TOKEN_LIMIT (map entry_of (words_from 1 bytes))
 
 -- ---- what is written
 

@@ -1,5 +1,6 @@
 -- What the word for a graph file names: standard input where it is `-`, and else a file.
 use Rattle.std.specs.Prelude.{◌≡◌, ◌⊎◌, ◌<◌, ℕ, List, [], ◌∷◌, Bool, true, Option, Ok, Err, IfSome, codes, if◌then◌else◌, length}
+use Rattle.csdf_bytes.specs.declared.intake.TheConstants.{INPUT_LIMIT}
 use Rattle.std.specs.Str.{bytes_eq}
 use Rattle.clap.specs.Words.{Text}
 use Rattle.csdf_bytes.specs.declared.intake.InputFault.{InputFault}
@@ -37,7 +38,7 @@ stream_of word = if is_input word then Input else File word
 -- why standard input was not read: it has failed, or what is left of it, where that is known, is too long
 abbrev pub IsInputFault : Option (List ℕ) → Bool → InputFault → Type 0
 IsInputFault left failed input.Read = failed ≡ true
-IsInputFault left failed input.TooLong = IfSome left (λ all. 16777216 < length all)
+IsInputFault left failed input.TooLong = IfSome left (λ all. INPUT_LIMIT < length all)
 IsInputFault left failed input.Memory = Unit {0}
 
 -- what is asked of files where no bytes come, for this reason

@@ -1,5 +1,6 @@
 -- What is found of a token file, by what the system answers.
 use Rattle.std.specs.Prelude.{◌≡◌, ◌<◌, ℕ, List, Option, IfSome, Result, Ok, Err, length}
+use Rattle.csdf_bytes.specs.declared.intake.TheConstants.{INPUT_LIMIT}
 use Rattle.std.specs.declared.io.ErrorKind.{ErrorKind}
 use Rattle.std.specs.declared.io.ErrorKind.TheVariants as kind
 use Rattle.csdf_answers.specs.declared.fault.ToolFault.{ToolFault}
@@ -18,7 +19,7 @@ unopened _ = Ok Unread
 -- the file is what is left of a device, where that is known: its bytes, or more than may be
 abbrev pub IsReadOf : Option (List ℕ) → TokenFile → Type 0
 IsReadOf left (Bytes bytes) = IfSome left (λ all. bytes.items ≡ all)
-IsReadOf left TooLong = IfSome left (λ all. 16777216 < length all)
+IsReadOf left TooLong = IfSome left (λ all. INPUT_LIMIT < length all)
 IsReadOf left Unread = Unit {0}
 IsReadOf left Missing = ⊥
 IsReadOf left Folder = ⊥

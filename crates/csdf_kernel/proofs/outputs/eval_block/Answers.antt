@@ -1,10 +1,8 @@
-use Rattle.std.proofs.Common.{◌≡◌, ◌≤◌, ◌*◌, ◌∷◌, ◌++◌, [], ℕ, List, slice_index, take, ap, refl, subst, sym, ◌∙◌, arith, ℤ}
+use Rattle.std.proofs.Common.{◌≡◌, ◌≤◌, ◌*◌, ◌∷◌, [], ℕ, List, slice_index, refl, subst, sym, ◌∙◌, arith, ℤ}
 use Rattle.std.specs.Prelude.{OnOk}
 use Rattle.csdf_model.specs.declared.parts.Kernel.{Kernel}
 use Rattle.csdf_model.specs.declared.parts.Kernel.TheVariants.{Fir}
 use Rattle.csdf_kernel.specs.Value.{values_of}
-use Rattle.smallvec.specs.SmallVec.{HasRoomFor}
-use Rattle.std.proofs.lemmas.List.{length-take-le}
 use Rattle.csdf_kernel.proofs.ValueLemmas.{no_counts, one_sum, values_as_read, values_unwritten}
 use Rattle.std.proofs.lemmas.List.Sums.{sum_by-le}
 use Rattle.std.proofs.lemmas.Nat.{mul-le}
