@@ -427,6 +427,7 @@ impl Core {
 
     /// Whether there are cells for what n firings, which give so many tokens, lengthen the actor's
     /// outputs by.
+    #[inline(always)]
     fn has_cells_for(&self, actor: u32, turn: Turn, n: u32, given: u64) -> bool
         requires actor { actor < length self.now.plan.sources }
         requires few { turn.firing + n ≤ MAX_FIRINGS_PER_ACTOR }
@@ -499,6 +500,7 @@ impl Core {
     }
 
     /// How many times over n firings, which give so many tokens, find cells.
+    #[inline(always)]
     fn celled_times(&self, actor: u32, turn: Turn, n: u32, given: u64, most: u32) -> u32
         requires actor { actor < length self.now.plan.sources }
         requires few { 0 < most → turn.firing + n ≤ MAX_FIRINGS_PER_ACTOR }
@@ -773,9 +775,10 @@ impl Core {
     {
         let turn = self.turn(actor);
         self.plan.gives_few();
-        let ahead = look_ahead(&self.plan, actor, turn, n);
-        let needed = need_of(&self.plan, actor, ahead.next);
-        let given = gift_of(&self.plan, actor, ahead.next);
+        let next = turn_ahead(&self.plan, actor, turn, n);
+        let taken = taken_in_all(&self.plan, actor, turn, n);
+        let needed = need_of(&self.plan, actor, next);
+        let given = gift_of(&self.plan, actor, next);
         let plan = &self.plan;
         move_tokens(
             plan,
@@ -784,14 +787,14 @@ impl Core {
             actor,
             turn,
             n,
-            ahead.needed,
+            taken,
             tokens,
         );
         let a = actor as usize;
         self.started += u64::from(n);
-        self.sums[a] += ahead.given;
-        self.counts[a] = ahead.next.firing;
-        self.phases[a] = ahead.next.phase;
+        self.sums[a] += tokens.len() as u64;
+        self.counts[a] = next.firing;
+        self.phases[a] = next.phase;
         self.needs[a] = needed as u32;
         self.gifts[a] = given as u32;
     }

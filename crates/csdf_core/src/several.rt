@@ -34,6 +34,7 @@ pub(crate) fn has_no_loop(plan: &Plan, actor: u32) -> bool
 
 /// Whether a firing gives this input as many tokens as it takes of it, where it comes from the actor
 /// itself.
+#[inline(always)]
 fn gets_back(plan: &Plan, actor: u32, channel: u32) -> bool
     requires { channel < length plan.now.channels }
     ensures { IsTrue result ↔ (from_at plan.now.channels channel ≡ actor → produce_at plan.now.channels channel ≡ consume_at plan.now.channels channel) }

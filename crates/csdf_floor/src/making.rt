@@ -183,6 +183,7 @@ impl Book {
     /// How many of its next firings the actor can make at once, at most so many. None of them reads what
     /// another one writes (else see [`goes_on`](Book::goes_on)). With several phases it may be fewer than
     /// it can make (see [`phased_block`](Book::phased_block)).
+    #[inline(always)]
     pub(crate) fn block(&self, actor: u32, most: u32) -> Block
         requires { actor < length self.now.shown.core.plan.sources }
         ensures most { result.firings ≤ most }
@@ -226,6 +227,7 @@ impl Book {
     }
 
     /// Makes the block: the actor's next firings, at once.
+    #[inline(always)]
     pub(crate) fn make(
         &mut self,
         actor: u32,

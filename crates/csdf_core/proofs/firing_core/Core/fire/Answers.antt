@@ -10,6 +10,7 @@ use Rattle.csdf_core.specs.Blocks.{needs_of, gifts_of, takes_at, takes_in, puts_
 use Rattle.csdf_core.specs.Shows.{Plays}
 use Rattle.csdf_core.specs.Step.{count}
 use Rattle.csdf_core.proofs.AmountLemmas.{amounts_finished}
+use Rattle.csdf_core.proofs.RateTotals.{few_gifts_of}
 use Rattle.csdf_core.proofs.BlockMachines.{Machine, IsGood, machine, view, ins, outs}
 use Rattle.csdf_core.proofs.BlockMoves.{IsBlock, AreFew, room_for, block_of, landed, pool_lands, peaks_land}
 use Rattle.csdf_core.proofs.BlockTokens.{one_needs, hold_same}
@@ -34,7 +35,7 @@ move_tokens-requires-clause-tokens c =
     let k : ℕ = count (now_in c.self.inside) a in
     let finds : FindsAll plan (now_in c.self.inside) a k c.args.n = rw (← c.self.view_is) at c.requires.can in
     let firing : c.turn-turn.result.firing ≡ k = rw (← c.self.view_is) at c.turn-turn.ensures.firing in
-    let needed : c.look_ahead-ahead.result.needed ≡ needs_of plan.channels a k c.args.n = c.look_ahead-ahead.ensures.needed
+    let needed : c.taken_in_all-taken.result ≡ needs_of plan.channels a k c.args.n = c.taken_in_all-taken.ensures
     ∙ ap (λ (x : ℕ). needs_of plan.channels a x c.args.n) firing in
     λ plain. subst (λ (x : ℕ). HoldAll (tokens_in c.self.inside.pool) (λ _. x) (inputs_at plan.channels a)) (sym needed)
     (hold_same (tokens_in c.self.inside.pool) (takes_at plan.channels k c.args.n) (λ _. needs_of plan.channels a k c.args.n) (inputs_at plan.channels a)
@@ -64,7 +65,10 @@ overflow_add-index_mut c =
     let low = c.self.invariant.sound.small c.args.actor there in
     let first : c.turn-turn.result.firing ≡ count (now_in c.self.inside) c.args.actor = rw (← c.self.view_is) at c.turn-turn.ensures.firing in
     let few_before = c.turn-turn.ensures.few in
-    omega (arith, old, low, first, few_before, c.look_ahead-ahead.ensures.small, c.ranges.n.fits)
+    let all : length c.args.tokens.now ≡ gifts_of c.self.inside.plan.channels c.args.actor (count (now_in c.self.inside) c.args.actor) c.args.n =
+    rw (← c.self.view_is) at c.requires.all in
+    let few = few_gifts_of c.self.inside.plan.channels c.args.actor (c.gives_few.ensures c.args.actor) (count (now_in c.self.inside) c.args.actor) c.args.n in
+    omega (arith, old, low, first, few_before, all, few, c.ranges.n.fits)
 
 -- where all has come to
 module _ (c : After-index_mut) where
@@ -104,14 +108,11 @@ module _ (c : After-index_mut) where
   firing : c.turn-turn.result.firing ≡ k
   firing = rw (← c.self.view_is) at c.turn-turn.ensures.firing
 
-  needed : c.look_ahead-ahead.result.needed ≡ needs_of plan.channels a k n
-  needed = c.look_ahead-ahead.ensures.needed ∙ ap (λ (x : ℕ). needs_of plan.channels a x n) firing
+  needed : c.taken_in_all-taken.result ≡ needs_of plan.channels a k n
+  needed = c.taken_in_all-taken.ensures ∙ ap (λ (x : ℕ). needs_of plan.channels a x n) firing
 
-  given : c.look_ahead-ahead.result.given ≡ gifts_of plan.channels a k n
-  given = c.look_ahead-ahead.ensures.given ∙ ap (λ (x : ℕ). gifts_of plan.channels a x n) firing
-
-  next : c.look_ahead-ahead.result.next.firing ≡ k + n
-  next = c.look_ahead-ahead.ensures.firing ∙ ap (λ (x : ℕ). x + n) firing
+  next : c.turn_ahead-next.result.firing ≡ k + n
+  next = c.turn_ahead-next.ensures.firing ∙ ap (λ (x : ℕ). x + n) firing
 
   summed : a < length c.self.inside.sums.items
   summed = let t = c.self.invariant.sound.tallied in let there = finds.there in omega (arith, t, there)
@@ -122,13 +123,13 @@ module _ (c : After-index_mut) where
   abbrev there : Machine
   there = record {
     now = record {
-      counts = set c.self.inside.counts.items c.args.actor c.look_ahead-ahead.result.next.firing;
+      counts = set c.self.inside.counts.items c.args.actor c.turn_ahead-next.result.firing;
       stages = c.self.inside.stages.items;
       opens = c.self.inside.opens.items;
       tokens = tokens_in c.move_tokens.new.pool;
     };
     peaks = (with_items c.self.inside.peaks c.move_tokens.new.peaks).items;
-    sums = set c.self.inside.sums.items c.args.actor (c.index_mut.result.now + c.look_ahead-ahead.result.given);
+    sums = set c.self.inside.sums.items c.args.actor (c.index_mut.result.now + length c.args.tokens.now);
     started = c.self.inside.started + c.from.result;
     kept = c.self.inside.reserved;
     pool = c.move_tokens.new.pool;
@@ -153,9 +154,9 @@ module _ (c : After-index_mut) where
   lands =
       let old : c.index_mut.result.now ≡ get_or c.self.inside.sums.items c.args.actor 0 = c.index_mut.ensures.value
       ∙ get_or_default c.self.inside.sums.items c.args.actor c.index_mut.result.now 0 summed in
-      let sum : c.index_mut.result.now + c.look_ahead-ahead.result.given ≡
+      let sum : c.index_mut.result.now + length c.args.tokens.now ≡
       get_or c.self.inside.sums.items c.args.actor 0 + gifts_of c.self.inside.plan.channels c.args.actor k c.args.n =
-      (let g = given in omega (arith, old, g)) in
+      (let g = all in omega (arith, old, g)) in
       landed plan a k n c.args.tokens.now m made.0 made.1 there.now.counts there.sums there.peaks there.started there.pool
       (ap (set c.self.inside.counts.items c.args.actor) next)
       (ap (set c.self.inside.sums.items c.args.actor) sum)
@@ -170,10 +171,10 @@ invariant_of-self c =
     let within : c.args.actor < length plan.sources = (finds at).there in
     let counted : c.args.actor < length c.self.inside.counts.items = (let e = c.self.invariant.sound.fit.counted in omega (arith, e, within)) in
     record {
-      phases = phases_finished plan c.self.inside.counts.items c.self.inside.phases.items c.args.actor c.look_ahead-ahead.result.next.firing
-          c.look_ahead-ahead.result.next.phase c.self.invariant.phases within counted c.look_ahead-ahead.ensures.in_phase c.look_ahead-ahead.ensures.low;
+      phases = phases_finished plan c.self.inside.counts.items c.self.inside.phases.items c.args.actor c.turn_ahead-next.result.firing
+          c.turn_ahead-next.result.phase c.self.invariant.phases within counted c.turn_ahead-next.ensures.in_phase c.turn_ahead-next.ensures.low;
       amounts = amounts_finished plan c.self.inside.counts.items c.self.inside.needs.items c.self.inside.gifts.items c.args.actor
-          c.look_ahead-ahead.result.next.firing c.need_of-needed.result c.gift_of-given.result c.self.invariant.amounts within counted
+          c.turn_ahead-next.result.firing c.need_of-needed.result c.gift_of-given.result c.self.invariant.amounts within counted
           c.need_of-needed.ensures.value c.gift_of-given.ensures.value c.need_of-needed.ensures.small c.gift_of-given.ensures.small;
       sound = (subst (IsGood plan) (lands at) (made at).1.good).sound;
     }
@@ -240,8 +241,8 @@ need_of-needed-requires-clause-actor c = grind (arith, common_steps)
 pub move_tokens-requires-clause-same : goal.move_tokens-requires-clause-same
 move_tokens-requires-clause-same c = grind (arith, common_steps)
 
-pub look_ahead-ahead-requires-clause-in_phase : goal.look_ahead-ahead-requires-clause-in_phase
-look_ahead-ahead-requires-clause-in_phase c = grind (arith, common_steps)
+pub turn_ahead-next-requires-clause-in_phase : goal.turn_ahead-next-requires-clause-in_phase
+turn_ahead-next-requires-clause-in_phase c = grind (arith, common_steps)
 
-pub look_ahead-ahead-requires-clause-actor : goal.look_ahead-ahead-requires-clause-actor
-look_ahead-ahead-requires-clause-actor c = grind (arith, common_steps)
+pub turn_ahead-next-requires-clause-actor : goal.turn_ahead-next-requires-clause-actor
+turn_ahead-next-requires-clause-actor c = grind (arith, common_steps)
