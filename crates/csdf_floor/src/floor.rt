@@ -242,10 +242,11 @@ impl Floor {
     /// Makes the actor's next firings, where it stands at this firing, and closes its outputs where it
     /// makes no firing more. It answers how many they are: at most so many, and at least one where
     /// `most` is. It goes on until so many are made, the next one is refused, or memory runs out after
-    /// the first. Firings are made in blocks by an actor of one phase, and by one of several phases that
-    /// can make some; else one by one. Of an actor with channels to itself a block has as many firings
-    /// as the tokens in these suffice for, and the next block follows; where they suffice for one, it
-    /// has several only where they are the state of an actor of one phase.
+    /// the first; an actor with a channel to itself may also be left after a block. Firings are made in
+    /// blocks by an actor of one phase, and by one of several phases that can make some; else one by one.
+    /// Of an actor with channels to itself a block has as many firings as the tokens in these suffice
+    /// for, unless they are the state of an actor of one phase; and where these are few, its firings are
+    /// made one by one.
     ///
     /// The refusals are those of [`Floor::start`], and a refusal changes nothing that a reader shows.
     /// The lists are only worked in.

@@ -22,6 +22,9 @@ use csdf_kernel::{Counts, Outputs, eval_block};
 use csdf_model::{MAX_CHANNELS, MAX_TOKENS_PER_FIRING, MAX_TOTAL_PER_FIRING};
 use std::alloc::{AllocError, Global};
 
+/// From how many firings on an actor with a channel to itself makes a block, where it could go on.
+const LONG_LOOP: u32 = 4;
+
 impl Book {
     /// Makes the buffer of the actor, which is idle, this long.
     pub(crate) fn fit_length(&mut self, actor: u32, needed: usize) -> Result<(), AllocError>
@@ -183,7 +186,6 @@ impl Book {
     /// How many of its next firings the actor can make at once, at most so many. None of them reads what
     /// another one writes (else see [`goes_on`](Book::goes_on)). With several phases it may be fewer than
     /// it can make (see [`phased_block`](Book::phased_block)).
-    #[inline(always)]
     pub(crate) fn block(&self, actor: u32, most: u32) -> Block
         requires { actor < length self.now.shown.core.plan.sources }
         ensures most { result.firings ≤ most }
@@ -227,7 +229,6 @@ impl Book {
     }
 
     /// Makes the block: the actor's next firings, at once.
-    #[inline(always)]
     pub(crate) fn make(
         &mut self,
         actor: u32,
@@ -375,68 +376,6 @@ impl Book {
         }
     }
 
-    /// As [`make_more`](Book::make_more), but where blocks are asked for, as many firings as one has that
-    /// has several.
-    fn make_next(
-        &mut self,
-        actor: u32,
-        most: u32,
-        in_blocks: bool,
-        counts: &mut Counts,
-        outputs: &mut Outputs,
-    ) -> u32
-        requires exists { actor < length self.old.shown.core.plan.sources }
-        requires idle { stage self.old.shown.core.now actor ≡ Idle }
-        requires room { length (outputs_at self.old.shown.core.plan.channels actor) ≤ self.old.room }
-        ensures most { result ≤ most }
-        ensures made { HasMade self.old.shown self.new.shown actor result (made_moves self.old.shown actor result) }
-        ensures room { length (outputs_at self.old.shown.core.plan.channels actor) ≤ self.new.room }
-        ensures before { IsHonest (program self.old.shown.work) self.old.shown.journal }
-    {
-        let _ = &self.work;
-        if !in_blocks {
-            return self.make_more(actor, most, counts, outputs);
-        }
-        let block = self.block(actor, most);
-        if block.firings < 2 {
-            return self.make_more(actor, most, counts, outputs);
-        }
-        match self.make(actor, block, counts, outputs) {
-            Ok(()) => block.firings,
-            Err(_error) => 0,
-        }
-    }
-
-    /// Makes the actor's next firings, in blocks or one by one, until so many are made, the next one may
-    /// not begin, or memory runs out, and tells how many they are.
-    fn make_further(
-        &mut self,
-        actor: u32,
-        most: u32,
-        in_blocks: bool,
-        counts: &mut Counts,
-        outputs: &mut Outputs,
-    ) -> u32
-        requires exists { actor < length self.old.shown.core.plan.sources }
-        requires idle { stage self.old.shown.core.now actor ≡ Idle }
-        requires room { length (outputs_at self.old.shown.core.plan.channels actor) ≤ self.old.room }
-        ensures most { result ≤ most }
-        ensures made { HasMade self.old.shown self.new.shown actor result (made_moves self.old.shown actor result) }
-        ensures room { length (outputs_at self.old.shown.core.plan.channels actor) ≤ self.new.room }
-        ensures before { IsHonest (program self.old.shown.work) self.old.shown.journal }
-    {
-        let _ = &self.work;
-        let mut made = 0;
-        for _time in 0..most {
-            let more = self.make_next(actor, most - made, in_blocks, counts, outputs);
-            if more == 0 {
-                break;
-            }
-            made += more;
-        }
-        made
-    }
-
     /// Makes the actor's next firings one by one, of which the first may begin, until so many are made or
     /// the next one may not begin. It makes fewer where memory runs out after the first.
     fn make_singly(
@@ -458,43 +397,35 @@ impl Book {
     {
         let _ = &self.work;
         self.make_one(actor, counts, outputs)?;
-        Ok(1 + self.make_further(actor, most - 1, false, counts, outputs))
+        let mut made = 1;
+        for _firing in 1..most {
+            let more = self.make_more(actor, most - made, counts, outputs);
+            if more == 0 {
+                break;
+            }
+            made += more;
+        }
+        Ok(made)
     }
 
-    /// Makes the block, and further blocks after it, until so many firings are made or the next one may
-    /// not begin. It makes fewer where memory runs out after the first block.
-    fn make_in_blocks(
-        &mut self,
-        actor: u32,
-        block: Block,
-        most: u32,
-        counts: &mut Counts,
-        outputs: &mut Outputs,
-    ) -> Result<u32, AllocError>
-        requires exists { actor < length self.old.shown.core.plan.sources }
-        requires idle { stage self.old.shown.core.now actor ≡ Idle }
-        requires can { CanFire self.old.shown.core.plan self.old.shown.core.now actor block.firings }
-        requires needed { block.needed ≡ needs_of self.old.shown.core.plan.channels actor (count self.old.shown.core.now actor) block.firings }
-        requires given { block.given ≡ gifts_of self.old.shown.core.plan.channels actor (count self.old.shown.core.now actor) block.firings }
-        requires some { 0 < block.firings }
-        requires most { block.firings ≤ most }
-        ensures some { IfOk result (λ n. 0 < n) }
-        ensures most { IfOk result (λ n. n ≤ most) }
-        ensures made { IfOk result (λ n. HasMade self.old.shown self.new.shown actor n (made_moves self.old.shown actor n)) }
-        ensures room { OnOk result (length (outputs_at self.old.shown.core.plan.channels actor) ≤ self.new.room) }
-        ensures unchanged { OnErr result (self.new.shown ≡ self.old.shown) }
+    /// Whether the actor makes the block, and does not make its firings one by one. An actor with a channel
+    /// to itself may begin again after a block, since its firings give back what they took. So a short
+    /// block is not worth a call of its own there.
+    fn takes_block(&self, actor: u32, block: Block, most: u32) -> bool
+        ensures { IsTrue result → 0 < block.firings }
     {
-        let _ = &self.work;
-        self.make(actor, block, counts, outputs)?;
-        let n = block.firings;
-        Ok(n + self.make_further(actor, most - n, true, counts, outputs))
+        if block.firings == 0 {
+            return false;
+        }
+        if block.firings < LONG_LOOP.min(most) {
+            return !self.work.feeds_itself(actor);
+        }
+        true
     }
 
-    /// Makes the actor's next firings, of which the first may begin, until so many are made or the next
-    /// one may not begin: as one block, as one that keeps a state, or one by one where no block can be
-    /// had, and then fewer where memory runs out after the first. An actor with a channel to itself may
-    /// begin again after a block, since its firings give back what they took: it goes on in blocks, or
-    /// one by one where a block has no more than one.
+    /// Makes the actor's next firings, of which the first may begin: as one block, as one that keeps a
+    /// state, or, where no block can be had or it is not worth it, one by one until so many are made or the
+    /// next one may not begin, and then fewer where memory runs out after the first.
     pub(crate) fn make_many(
         &mut self,
         actor: u32,
@@ -517,14 +448,8 @@ impl Book {
             return Ok(firings);
         }
         let block = self.block(actor, most);
-        if block.firings == 0 {
+        if !self.takes_block(actor, block, most) {
             return self.make_singly(actor, most, counts, outputs);
-        }
-        if block.firings < most && self.work.feeds_itself(actor) {
-            if block.firings == 1 {
-                return self.make_singly(actor, most, counts, outputs);
-            }
-            return self.make_in_blocks(actor, block, most, counts, outputs);
         }
         self.make(actor, block, counts, outputs)?;
         Ok(block.firings)

@@ -69,9 +69,9 @@ const DELAY: &str = r#"actor = [
   { name = "c", kernel = "sink" },
 ]
 channel = [
-  { name = "x", from = "a", to = "b", produce = [1], consume = [1], capacity = 3 },
+  { name = "x", from = "a", to = "b", produce = [1], consume = [1], capacity = 4 },
   { name = "s", from = "b", to = "b", produce = [1], consume = [1], initial = [1, 2, 3, 4, 5, 6, 7, 8] },
-  { name = "y", from = "b", to = "c", produce = [1], consume = [1], capacity = 3 },
+  { name = "y", from = "b", to = "c", produce = [1], consume = [1], capacity = 4 },
 ]
 "#;
 
@@ -295,8 +295,8 @@ const DELAYS: [Delayed; 5] = [
     Delayed {
         graph: DELAY,
         feed: &[5, -6, 7, 8],
-        block: 3,
-        wanted: "3 3 3 1 1 1 [][][6, -4, 10, 12]",
+        block: 4,
+        wanted: "4 4 4 [][][6, -4, 10, 12]",
     },
     // 5 + 1 + 2 + 3, -6 + 4 + 5 + 6, and then 7 + 7 + 8 + 11, of which the 11 came first
     Delayed {
@@ -346,7 +346,7 @@ fn check_delayed(rt: &impl Abort, alloc: Global, delayed: &Delayed) -> Result<()
     Ok(())
 }
 
-/// One block follows another here, and fewer are made where memory runs out after the first. So
+/// Some of these are made one by one, and then fewer where memory runs out after the first. So
 /// `tests/memory/run` leaves this one out.
 #[test]
 fn firings_with_delay_lines_are_made_at_once(rt: HostRuntime) -> Result<(), Fail> {
