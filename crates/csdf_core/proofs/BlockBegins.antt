@@ -126,6 +126,11 @@ module _ (plan : Plan) (p : Present) (a n : ℕ) (fit : IsFit plan p) (h : Finds
       ∙ ap (λ (b : Bool). first_of (when b Stopped ∷ when (lacks_cells plan p a) NoCells ∷ [])) not_stopped
       ∙ ap (λ (b : Bool). first_of (when false Stopped ∷ when b NoCells ∷ [])) enough_cells
 
+-- an actor that can make some firings begins the first of them
+pub begins_some : (plan : Plan) (p : Present) (a n : ℕ) → IsFit plan p → 0 < n → FindsAll plan p a (count p a) n → refusal plan p (Begin a) ≡ None
+begins_some plan p a zero fit some h = absurd (omega arith)
+begins_some plan p a (suc n) fit some h = begins_next plan p a n fit h
+
 -- ---- fewer firings move no more
 
 pub gifts_fewer : (channels : List Channel) (a k m n : ℕ) → m ≤ n → gifts_of channels a k m ≤ gifts_of channels a k n

@@ -309,3 +309,9 @@ module _ (plan : Plan) (a own : ℕ) (keeps : KeepsState plan a own) where
           | inr e ↦
               (let s = fills_other cs own (suc k) n c e.0 in let t = fills_other cs own k (suc n) c e.0 in omega (arith, s, t, x, y))
         ] in r)) grown room
+
+-- an actor that can go on with some firings begins the first of them
+pub goes_some : (plan : Plan) (p : Present) (a own n : ℕ) → IsFit plan p → 0 < n → KeepsState plan a own → GoesOn plan p a own (count p a) n
+    → refusal plan p (Begin a) ≡ None
+goes_some plan p a own zero fit some keeps h = absurd (omega arith)
+goes_some plan p a own (suc n) fit some keeps h = goes_next plan a own keeps p n fit h

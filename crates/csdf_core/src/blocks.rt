@@ -17,69 +17,10 @@ use crate::several::{
     fire_each, growth_in, growth_in_all, has_no_loop, have_room_each, hold_each, is_steady,
 };
 use crate::stage::Stage;
-use crate::transfer::{gift_of, need_of, raise_peaks};
+use crate::transfer::raise_peaks;
 use crate::turn::{Turn, turn_ahead};
 use csdf_model::{MAX_FIRINGS_PER_ACTOR, MAX_PHASES, MAX_TOTAL_PER_FIRING};
 use csdf_pool::Pool;
-
-/// What so many firings of an actor move in all, and the firing after them.
-#[derive(Clone, Copy)]
-pub(crate) struct Ahead {
-    pub(crate) next: Turn,
-    pub(crate) needed: u64,
-    pub(crate) given: u64,
-}
-
-/// How many tokens n firings take in all, from this one on.
-fn taken_in_all(plan: &Plan, actor: u32, turn: Turn, n: u32) -> u64
-    requires actor { actor < length plan.now.sources }
-    requires few { turn.firing + n ≤ MAX_FIRINGS_PER_ACTOR }
-    ensures { result ≡ needs_of plan.now.channels actor turn.firing n }
-{
-    let inputs = plan.inputs(actor);
-    let mut sum = 0;
-    for channel in inputs {
-        sum += plan.taken(*channel, turn.firing, n);
-    }
-    sum
-}
-
-/// How many tokens n firings give in all, from this one on.
-fn given_in_all(plan: &Plan, actor: u32, turn: Turn, n: u32) -> u64
-    requires actor { actor < length plan.now.sources }
-    requires few { turn.firing + n ≤ MAX_FIRINGS_PER_ACTOR }
-    ensures value { result ≡ gifts_of plan.now.channels actor turn.firing n }
-    ensures small { result ≤ MAX_TOTAL_PER_FIRING * n }
-{
-    plan.gives_few();
-    let outputs = plan.outputs(actor);
-    let mut sum = 0;
-    for channel in outputs {
-        sum += plan.given(*channel, turn.firing, n);
-    }
-    sum
-}
-
-/// What n firings move, from this one on.
-#[inline(always)]
-pub(crate) fn look_ahead(plan: &Plan, actor: u32, turn: Turn, n: u32) -> Ahead
-    requires actor { actor < length plan.now.sources }
-    requires in_phase { IsInPhase plan.now.channels actor turn.firing turn.phase }
-    requires low { turn.phase < MAX_PHASES }
-    requires few { turn.firing + n ≤ MAX_FIRINGS_PER_ACTOR }
-    ensures firing { result.next.firing ≡ turn.firing + n }
-    ensures in_phase { IsInPhase plan.now.channels actor result.next.firing result.next.phase }
-    ensures low { result.next.phase < MAX_PHASES }
-    ensures needed { result.needed ≡ needs_of plan.now.channels actor turn.firing n }
-    ensures given { result.given ≡ gifts_of plan.now.channels actor turn.firing n }
-    ensures small { result.given ≤ MAX_TOTAL_PER_FIRING * n }
-{
-    Ahead {
-        next: turn_ahead(plan, actor, turn, n),
-        needed: taken_in_all(plan, actor, turn, n),
-        given: given_in_all(plan, actor, turn, n),
-    }
-}
 
 /// A number of firings that an actor can make one after the other, and how many tokens they read
 /// and write in all.
@@ -545,7 +486,7 @@ impl Core {
             return limited;
         }
         let turn = self.turn(actor);
-        let given = given_in_all(&self.plan, actor, turn, phases);
+        let given = self.given_ahead(actor, phases);
         let rounds = limited / phases;
         let held = held_rounds(&self.plan, &self.pool, actor, turn.firing, phases, rounds);
         let roomy = room_rounds(&self.plan, &self.pool, actor, turn.firing, phases, held);
@@ -560,13 +501,11 @@ impl Core {
         ensures needed { result.needed ≡ needs_of self.now.plan.channels actor (count self.now.now actor) n }
         ensures given { result.given ≡ gifts_of self.now.plan.channels actor (count self.now.now actor) n }
     {
-        let turn = self.turn(actor);
         let _limit = self.plan.limit(actor);
-        let ahead = look_ahead(&self.plan, actor, turn, n);
         Block {
             firings: n,
-            needed: ahead.needed,
-            given: ahead.given,
+            needed: self.needed_ahead(actor, n),
+            given: self.given_ahead(actor, n),
         }
     }
 
@@ -735,7 +674,7 @@ impl Core {
         if !have_room_each(&self.plan, &self.pool, actor, turn, n) {
             return false;
         }
-        let given = given_in_all(&self.plan, actor, turn, n);
+        let given = self.given_ahead(actor, n);
         if !self.has_supply(actor, given) {
             return false;
         }
@@ -776,9 +715,9 @@ impl Core {
         let turn = self.turn(actor);
         self.plan.gives_few();
         let next = turn_ahead(&self.plan, actor, turn, n);
-        let taken = taken_in_all(&self.plan, actor, turn, n);
-        let needed = need_of(&self.plan, actor, next);
-        let given = gift_of(&self.plan, actor, next);
+        let taken = self.needed_ahead(actor, n);
+        let needed = self.need_at(actor, next);
+        let given = self.gift_at(actor, next);
         let plan = &self.plan;
         move_tokens(
             plan,

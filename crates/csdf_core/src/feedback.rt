@@ -17,7 +17,7 @@ ghost use Rattle.csdf_core.specs.Rows.{gift};
 ghost use Rattle.csdf_core.specs.Shows.{Plays};
 ghost use Rattle.csdf_core.specs.Step.{count, stage};
 
-use crate::blocks::{held_times, look_ahead, room_times, times};
+use crate::blocks::{held_times, room_times, times};
 use crate::firing_core::Core;
 use crate::first_refusal::is_at;
 use crate::going::put_lasting;
@@ -25,8 +25,8 @@ use crate::plan::Plan;
 use crate::readiness::first_closed;
 use crate::several::drop_tokens;
 use crate::stage::Stage;
-use crate::transfer::{gift_of, need_of, raise_peaks};
-use crate::turn::Turn;
+use crate::transfer::raise_peaks;
+use crate::turn::{Turn, turn_ahead};
 use csdf_model::{MAX_FIRINGS_PER_ACTOR, MAX_TOKENS_PER_FIRING};
 use csdf_pool::Pool;
 
@@ -408,17 +408,17 @@ impl Core {
     {
         let turn = self.turn(actor);
         self.plan.gives_few();
-        let ahead = look_ahead(&self.plan, actor, turn, n);
-        let needed = need_of(&self.plan, actor, ahead.next);
-        let given = gift_of(&self.plan, actor, ahead.next);
+        let next = turn_ahead(&self.plan, actor, turn, n);
+        let needed = self.need_at(actor, next);
+        let given = self.gift_at(actor, next);
         let plan = &self.plan;
         move_on(plan, &mut self.pool, actor, feedback, turn, n, tokens);
         raise_peaks(plan, &self.pool, &mut self.peaks, actor);
         let a = actor as usize;
         self.started += u64::from(n);
-        self.sums[a] += ahead.given;
-        self.counts[a] = ahead.next.firing;
-        self.phases[a] = ahead.next.phase;
+        self.sums[a] += tokens.len() as u64;
+        self.counts[a] = next.firing;
+        self.phases[a] = next.phase;
         self.needs[a] = needed as u32;
         self.gifts[a] = given as u32;
     }

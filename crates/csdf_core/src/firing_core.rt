@@ -57,8 +57,8 @@ impl Core {
     ghost use Rattle.csdf_core.specs.Step.{is_open, given, reserved, count, stage};
     ghost use Rattle.csdf_core.specs.Phases.{IsInPhase};
     ghost use Rattle.csdf_core.specs.Rows.{need, gift};
-    ghost use Rattle.csdf_core.specs.Ports.{tokens_at};
-    ghost use Rattle.csdf_core.specs.Plan.{Channel as ChannelModel};
+    ghost use Rattle.csdf_core.specs.Ports.{inputs_at, outputs_at, tokens_at};
+    ghost use Rattle.csdf_core.specs.Plan.{Channel as ChannelModel, from_at, to_at};
     ghost use Rattle.csdf_core.specs.Planned.{plan_for};
     ghost use Rattle.csdf_core.specs.Transfers.{opening_pool};
 
@@ -122,6 +122,30 @@ impl Core {
         self.plan.channels() as u32
     }
 
+    /// The channels that end at the actor, in file order.
+    #[inline]
+    pub fn inputs(&self, actor: u32) -> &[u32]
+        requires { actor < length self.now.plan.sources }
+        ensures value { result.now ≡ inputs_at self.now.plan.channels actor }
+        ensures own { All (λ c. to_at self.now.plan.channels c ≡ actor) result.now }
+        ensures within { All (λ c. c < length self.now.plan.channels) result.now }
+        ensures few { length result.now ≤ MAX_CHANNELS }
+    {
+        self.plan.inputs(actor)
+    }
+
+    /// The channels that begin at the actor, in file order.
+    #[inline]
+    pub fn outputs(&self, actor: u32) -> &[u32]
+        requires { actor < length self.now.plan.sources }
+        ensures value { result.now ≡ outputs_at self.now.plan.channels actor }
+        ensures own { All (λ c. from_at self.now.plan.channels c ≡ actor) result.now }
+        ensures within { All (λ c. c < length self.now.plan.channels) result.now }
+        ensures few { length result.now ≤ MAX_CHANNELS }
+    {
+        self.plan.outputs(actor)
+    }
+
     /// How many firings of the actor are finished.
     #[inline]
     pub fn fired(&self, actor: u32) -> u32
@@ -134,7 +158,7 @@ impl Core {
 
     /// The actor's next firing.
     #[inline(always)]
-    pub(crate) fn turn(&self, actor: u32) -> Turn
+    pub fn turn(&self, actor: u32) -> Turn
         requires { actor < length self.now.plan.sources }
         ensures firing { result.firing ≡ count self.now.now actor }
         ensures in_phase { IsInPhase self.now.plan.channels actor result.firing result.phase }

@@ -1,6 +1,7 @@
 //! The moves of firings over one shared pool of cells.
 #![tactic(auto)]
 
+mod ahead;
 mod blocks;
 mod feedback;
 mod filling;
@@ -29,3 +30,4 @@ pub use moves::Move;
 pub use playing::{Played, Reply, play, play_on};
 pub use refusal::Refusal;
 pub use stage::Stage;
+pub use turn::Turn;

@@ -5,7 +5,7 @@ ghost use Rattle.std.specs.Prelude.{◌≡◌, ◌≢◌, Some, None, Ok, ◌+�
 use crate::firing_core::Core;
 use crate::refusal::Refusal;
 use crate::stage::Stage;
-use crate::transfer::{gift_of, need_of, put_outputs, raise_peaks, take_inputs};
+use crate::transfer::{put_outputs, raise_peaks, take_inputs};
 use crate::turn::turn_after;
 
 /// A move of a firing, or the closing of a channel.
@@ -160,8 +160,8 @@ impl Core {
         let turn = self.turn(actor);
         let written = self.gives(actor) as u64;
         let next = turn_after(&self.plan, actor, turn);
-        let need = need_of(&self.plan, actor, next);
-        let gift = gift_of(&self.plan, actor, next);
+        let need = self.need_at(actor, next);
+        let gift = self.gift_at(actor, next);
         let a = actor as usize;
         self.sums[a] += written;
         self.counts[a] = next.firing;

@@ -7,10 +7,12 @@ use crate::plan::Plan;
 use csdf_model::{MAX_FIRINGS_PER_ACTOR, MAX_PHASES};
 
 /// A firing of an actor, by its number, and the phase that it is in.
-#[derive(Clone, Copy)]
-pub(crate) struct Turn {
-    pub(crate) firing: u32,
-    pub(crate) phase: u32,
+#[derive(Clone, Copy, Debug, PartialEq, Eq)]
+pub struct Turn {
+    /// Its number; an actor's first firing has number 0.
+    pub firing: u32,
+    /// The phase that it is in, from 0 on.
+    pub phase: u32,
 }
 
 /// The actor's firing after this one: after the last phase comes the first.

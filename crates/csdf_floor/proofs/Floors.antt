@@ -38,6 +38,15 @@ floor_is f reads b between = record {
   between = between;
 }
 
+-- ---- an answer to a start tells whether the begin is accepted, and is told by it
+
+pub started : {T : Type 0} (o : Option Refusal) (answer : T) → o ≡ None → IsStartAnswer (option_map Refused o) (Ok answer)
+started o answer e = subst (λ (x : Option Refusal). IsStartAnswer (option_map Refused x) (Ok answer)) (sym e) tt
+
+pub accepted_of : {T : Type 0} (o : Option Refusal) (answer : T) → IsStartAnswer (option_map Refused o) (Ok answer) → o ≡ None
+accepted_of None answer is = refl
+accepted_of (Some why) answer is = absurd (cc)
+
 -- ---- before any firing
 
 all_idle : (n a : ℕ) → get_or (replicate n Idle) a Idle ≡ Idle

@@ -16,13 +16,13 @@ use Rattle.csdf_analysis.specs.Repetition.{IsRepetition}
 use Rattle.csdf_analysis.proofs.BoundLemmas.{firing_fits, phases_within}
 use Rattle.csdf_kernel.specs.Value.{HasFilterInRange}
 use Rattle.csdf_core.specs.Planned.{is_source_kernel}
-use Rattle.csdf_core.specs.Plan.{Channel, gives_of, to_at}
+use Rattle.csdf_core.specs.Plan.{Channel, Plan, gives_of, to_at}
 use Rattle.csdf_core.specs.Ports.{give_at, outputs_at}
 use Rattle.csdf_core.specs.Step.{producer}
 use Rattle.csdf_core.specs.Playable.{IsPlayable}
 use Rattle.csdf_core.proofs.MadePlans.{playable_made}
 use Rattle.csdf_core.proofs.PlanLemmas.{seen_at}
-use Rattle.csdf_floor.specs.Journal.{program_for}
+use Rattle.csdf_floor.specs.Journal.{Program, output_counts, program_for}
 use Rattle.std.proofs.lemmas.Bool.Decides.{eqb_tells, leb_tells}
 use Rattle.csdf_floor.specs.Work.{AreFeeds, FewInThousand, HasFewFirings, IsFeed, feed_of, Work, IsWork, program, feeds_in}
 
@@ -102,6 +102,14 @@ productions a k cs outputs is =
     ap (give_at cs k) e
     ∙ get_or-map (λ (c : Channel). rate c.produce k) cs j d 0 lt
     ∙ sym (ap (λ b. cond b (rate (get_or cs j d).produce k) 0) own))
+
+-- the same of counts that are read from a core of the program's plan
+pub counted : (w : Program) (u : Plan) (a k : ℕ) (counts : List ℕ) → u ≡ w.plan
+    → counts ≡ map (give_at u.channels k) (outputs_at u.channels a) → counts ≡ output_counts w a k
+counted w u a k counts same is =
+    is
+    ∙ ap (λ (x : Plan). map (give_at x.channels k) (outputs_at x.channels a)) same
+    ∙ productions a k w.plan.channels (outputs_at w.plan.channels a) refl
 
 -- the contents of one of the vectors
 pub feed_short : (feeds : List (Vec ℤ)) (n i : ℕ) (x : Vec ℤ) → All (λ feed. length feed ≤ n) (feeds_in feeds) → i < length feeds → x ≡ get_or feeds i x

@@ -23,6 +23,7 @@ ghost use Rattle.csdf_floor.specs.Inside.{AreClosed, HasGiven, HasRoom, HasTaken
 ghost use Rattle.csdf_floor.specs.Beginnings.{IsBlank};
 
 use crate::blank::Blank;
+use crate::counts::{are_counts, put_counts};
 use crate::fed::Fed;
 use crate::lists::Lists;
 use crate::outcome::ChannelReport;
@@ -309,7 +310,7 @@ impl Book {
         ensures value { result ≡ length (outputs_at self.now.shown.core.plan.channels actor) }
         ensures few { result ≤ MAX_CHANNELS }
     {
-        self.work.outputs(actor).len()
+        self.core.outputs(actor).len()
     }
 
     /// The output of the actor that has this place among them.
@@ -320,7 +321,7 @@ impl Book {
         ensures channel { result < length self.now.shown.core.plan.channels }
         ensures producer { producer self.now.shown.core.plan result ≡ actor }
     {
-        self.work.outputs(actor)[place]
+        self.core.outputs(actor)[place]
     }
 
     /// Closes the outputs of the actor, which is idle, where it makes no firing more.
@@ -434,7 +435,17 @@ impl Book {
         ensures few { OnOk result (length counts.new.items ≤ MAX_CHANNELS) }
         ensures small { OnOk result (All (λ n. n ≤ MAX_TOKENS_PER_FIRING) counts.new.items) }
     {
-        self.work.counts_into(actor, self.core.fired(actor), counts)
+        let turn = self.core.turn(actor);
+        put_counts(&self.core, actor, turn, counts)
+    }
+
+    /// Whether these are what the actor's next firing writes to each output, in file order.
+    pub(crate) fn are_counts(&self, actor: u32, counts: &[u32]) -> bool
+        requires { actor < length self.now.shown.core.plan.sources }
+        ensures { IsTrue result ↔ (counts.now ≡ output_counts (program self.now.shown.work) actor (count self.now.shown.core.now actor)) }
+    {
+        let turn = self.core.turn(actor);
+        are_counts(&self.core, actor, turn, counts)
     }
 
     /// How many tokens the actor's next firing computes from.
@@ -520,9 +531,7 @@ impl Book {
             && self.has_read(actor)
             && job.firing == self.core.fired(actor)
             && is_same_kernel(&job.kernel, self.work.kernel(actor))
-            && self
-                .work
-                .are_counts(actor, job.firing, job.counts.as_slice())
+            && self.are_counts(actor, job.counts.as_slice())
             && self.are_inputs(actor, job.inputs.as_slice())
     }
 }

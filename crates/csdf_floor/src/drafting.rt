@@ -1,6 +1,6 @@
 //! Drafts of an actor's next firings, and how firings are made from them.
 
-ghost use Rattle.std.specs.Prelude.{◌≡◌, ◌↔◌, ◌<◌, ◌≤◌, ◌*◌, IsTrue, IfOk, IfSome, OnOk, OnErr, None, [], false, true, length, slice_index_or};
+ghost use Rattle.std.specs.Prelude.{◌≡◌, ◌↔◌, ◌<◌, ◌≤◌, ◌*◌, IsTrue, IfOk, IfSome, OnOk, OnErr, None, [], false, true, length, option_map, slice_index_or};
 ghost use Rattle.csdf_model.specs.declared.parts.Kernel.TheVariants.{Sink};
 ghost use Rattle.csdf_core.specs.declared.stage.Stage.TheVariants.{Idle};
 ghost use Rattle.csdf_core.specs.Blocks.{AreReadEach, CanFire, needs_of};
@@ -9,12 +9,15 @@ ghost use Rattle.csdf_core.specs.Phases.{HasPhases};
 ghost use Rattle.csdf_core.specs.Ports.{outputs_at};
 ghost use Rattle.csdf_core.specs.Rows.{need};
 ghost use Rattle.csdf_core.specs.Step.{count, is_source, refusal, stage};
+ghost use Rattle.csdf_floor.specs.declared.fault.StartFault.TheVariants.{Refused};
+ghost use Rattle.csdf_floor.specs.Floor.{IsStartAnswer};
 ghost use Rattle.csdf_floor.specs.Drafts.{IsDraftOf, Suits, products_of, taps_of};
 ghost use Rattle.csdf_floor.specs.Making.{HasMade, made_moves};
 ghost use Rattle.csdf_floor.specs.Work.{program};
 
 use crate::book::Book;
 use crate::draft::Draft;
+use crate::fault::StartFault;
 use crate::same::are_same_tokens;
 use csdf_core::{Block, Core};
 use csdf_kernel::{Counts, Outputs};
@@ -72,8 +75,7 @@ impl Book {
         if !self.core.has_one_phase(actor) || !self.core.can_fire(actor, n) {
             return false;
         }
-        let fired = self.core.fired(actor);
-        if !self.work.are_counts(actor, fired, draft.counts()) {
+        if !self.are_counts(actor, draft.counts()) {
             return false;
         }
         let needed = self.needed(actor, n);
@@ -111,16 +113,19 @@ impl Book {
     }
 
     /// Makes the firings of the draft, where they are the actor's next ones and were evaluated. False
-    /// where not; then nothing is made.
+    /// where not; then nothing is made. An error comes only where the first may begin.
     fn make_drafted(&mut self, alloc: Global, actor: u32, draft: &Draft) -> Result<bool, AllocError>
         requires exists { actor < length self.old.shown.core.plan.sources }
+        ensures begins { IfOk result (λ is_made. IsTrue is_made
+            → refusal self.old.shown.core.plan self.old.shown.core.now (Begin actor) ≡ None) }
+        ensures may_begin { OnErr result (refusal self.old.shown.core.plan self.old.shown.core.now (Begin actor) ≡ None) }
         ensures made { IfOk result (λ is_made. IsTrue is_made
             → HasMade self.old.shown self.new.shown actor draft.now.firings (made_moves self.old.shown actor draft.now.firings)) }
         ensures room { IfOk result (λ is_made. IsTrue is_made → length (outputs_at self.old.shown.core.plan.channels actor) ≤ self.new.room) }
         ensures none { IfOk result (λ is_made. is_made ≡ false → self.new.shown ≡ self.old.shown) }
         ensures unchanged { OnErr result (self.new.shown ≡ self.old.shown) }
     {
-        if !draft.is_made || !self.suits(actor, draft) {
+        if !draft.is_made || !self.may_begin(actor) || !self.suits(actor, draft) {
             return Ok(false);
         }
         self.make_suited(alloc, actor, draft)
@@ -135,11 +140,10 @@ impl Book {
         draft: Option<&Draft>,
         counts: &mut Counts,
         outputs: &mut Outputs,
-    ) -> Result<u32, AllocError>
+    ) -> Result<u32, StartFault>
         requires exists { actor < length self.old.shown.core.plan.sources }
-        requires idle { stage self.old.shown.core.now actor ≡ Idle }
-        requires accepted { refusal self.old.shown.core.plan self.old.shown.core.now (Begin actor) ≡ None }
         requires some { 0 < most }
+        ensures answer { IsStartAnswer (option_map Refused (refusal self.old.shown.core.plan self.old.shown.core.now (Begin actor))) result }
         ensures some { IfOk result (λ n. 0 < n) }
         ensures most { IfOk result (λ n. n ≤ most) }
         ensures made { IfOk result (λ n. HasMade self.old.shown self.new.shown actor n (made_moves self.old.shown actor n)) }
@@ -218,8 +222,7 @@ impl Book {
             return Ok(());
         };
         let n = block.firings;
-        self.work
-            .counts_into(actor, self.core.fired(actor), &mut draft.counts)?;
+        self.counts_into(actor, &mut draft.counts)?;
         let needed = self.needed(actor, n);
         read_ahead(&self.core, actor, n, needed, &mut draft.inputs)?;
         draft.kernel = *self.work.kernel(actor);

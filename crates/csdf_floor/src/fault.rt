@@ -36,6 +36,17 @@ impl From<AllocError> for StartFault {
     }
 }
 
+impl From<Refusal> for StartFault {
+    ghost use Rattle.std.specs.Prelude.{◌≡◌};
+    ghost use Rattle.csdf_floor.specs.declared.fault.StartFault.TheVariants.{Refused};
+
+    ghost from_gives = { λ refusal fault. fault ≡ Refused refusal };
+
+    fn from(refusal: Refusal) -> StartFault {
+        StartFault::Refused(refusal)
+    }
+}
+
 impl From<AllocError> for DeliverFault {
     ghost use Rattle.std.specs.Prelude.{◌≡◌};
     ghost use Rattle.csdf_floor.specs.declared.fault.DeliverFault.TheVariants.{Memory};

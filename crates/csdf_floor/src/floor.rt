@@ -1,12 +1,13 @@
 //! The floor on which firings are started and their results delivered.
 
-ghost use Rattle.std.specs.Prelude.{◌≡◌, ◌≢◌, ◌<◌, ◌≤◌, ◌++◌, ◌↔◌, [], ◌∷◌, All, Err, IsTrue, IfErr, IfOk, IfSome, OnOk, OnErr, length, map, true, false};
+ghost use Rattle.std.specs.Prelude.{◌≡◌, ◌≢◌, ◌<◌, ◌≤◌, ◌++◌, ◌↔◌, [], ◌∷◌, All, Err, IsTrue, IfErr, IfOk, IfSome, None, OnOk, OnErr, Some, length, map, option_map, true, false};
+ghost use Rattle.csdf_floor.specs.declared.fault.StartFault.TheVariants.{Refused};
 ghost use Rattle.std.specs.List.{range_with_len};
 ghost use Rattle.csdf_core.specs.Moves.{Begin, Read, move_of};
 ghost use Rattle.csdf_core.specs.Ports.{outputs_at};
 ghost use Rattle.csdf_core.specs.Shows.{Shows};
 ghost use Rattle.csdf_core.specs.State.{opening, present};
-ghost use Rattle.csdf_core.specs.Step.{is_open, is_over, IsQuiet};
+ghost use Rattle.csdf_core.specs.Step.{is_open, is_over, refusal, IsQuiet};
 ghost use Rattle.csdf_journal.specs.View.{is_kept, told};
 ghost use Rattle.csdf_kernel.specs.Value.{HasFilterInRange, value_of};
 ghost use Rattle.csdf_floor.specs.declared.fault.DeliverFault.TheVariants.{Memory};
@@ -177,9 +178,12 @@ impl Floor {
         self.book.sinks()
     }
 
-    /// Why the actor's firing of this number can't be started, memory aside.
-    fn start_refusal(&self, actor: u32, firing: u32) -> Option<StartFault>
-        ensures { result ≡ start_refusal self.now actor firing }
+    /// Why this is not the actor's next firing.
+    fn place_fault(&self, actor: u32, firing: u32) -> Option<StartFault>
+        ensures some { IfSome result (λ fault. start_refusal self.now actor firing ≡ Some fault) }
+        ensures exists { result ≡ None → actor < length self.now.core.plan.sources }
+        ensures none { result ≡ None → start_refusal self.now actor firing
+            ≡ option_map Refused (refusal self.now.core.plan self.now.core.now (Begin actor)) }
     {
         let core = self.book.core();
         if actor >= core.actors() {
@@ -189,7 +193,17 @@ impl Floor {
         if fired != firing {
             return Some(StartFault::Moved(fired));
         }
-        match core.can_begin(actor) {
+        None
+    }
+
+    /// Why the actor's firing of this number can't be started, memory aside.
+    fn start_refusal(&self, actor: u32, firing: u32) -> Option<StartFault>
+        ensures { result ≡ start_refusal self.now actor firing }
+    {
+        if let Some(fault) = self.place_fault(actor, firing) {
+            return Some(fault);
+        }
+        match self.book.core().can_begin(actor) {
             Ok(()) => None,
             Err(refusal) => Some(StartFault::Refused(refusal)),
         }
@@ -333,10 +347,11 @@ impl Floor {
         ensures none { IfOk result (λ n. n ≡ 0 → self.new ≡ self.old) }
         ensures unchanged { OnErr result (self.new ≡ self.old) }
     {
-        if let Some(refused) = self.start_refusal(actor, firing) {
+        if let Some(refused) = self.place_fault(actor, firing) {
             return Err(refused);
         }
         if most == 0 {
+            self.book.core().can_begin(actor)?;
             return Ok(0);
         }
         let n = self

@@ -4,6 +4,7 @@
 
 mod blank;
 mod book;
+mod counts;
 mod draft;
 mod drafting;
 mod ending;

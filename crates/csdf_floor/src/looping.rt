@@ -99,8 +99,7 @@ impl Book {
         ensures width { self.new.width ≡ self.old.width }
         ensures values { OnOk result (AreOwnValues self.old.shown actor n outputs.new.items) }
     {
-        self.work
-            .counts_into(actor, self.core.fired(actor), counts)?;
+        self.counts_into(actor, counts)?;
         let kernel = self.work.kernel(actor);
         let buffer = &mut self.reads[actor as usize];
         own_values(
@@ -133,15 +132,7 @@ impl Book {
         ensures room { OnOk result (self.old.room ≤ self.new.room + 4 * n) }
         ensures unchanged { OnErr result (self.new.shown ≡ self.old.shown) }
     {
-        note_firings(
-            &self.work,
-            &self.core,
-            &mut self.journal,
-            alloc,
-            actor,
-            n,
-            tokens,
-        )?;
+        note_firings(&self.core, &mut self.journal, alloc, actor, n, tokens)?;
         self.core.go_on(actor, feedback, n, tokens);
         Ok(())
     }

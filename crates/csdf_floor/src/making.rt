@@ -1,6 +1,6 @@
 //! Several firings of one actor, made at once or one after another.
 
-ghost use Rattle.std.specs.Prelude.{◌≡◌, ◌≤◌, ◌+◌, ◌*◌, ◌++◌, false, length, ◌↔◌, IsTrue, All, ◌<◌, [], None, true, IfOk, OnOk, OnErr, slice_index, slice_index_or};
+ghost use Rattle.std.specs.Prelude.{◌≡◌, ◌≤◌, ◌+◌, ◌*◌, ◌++◌, false, length, ◌↔◌, IsTrue, All, ◌<◌, [], None, true, IfOk, OnOk, OnErr, option_map, slice_index, slice_index_or};
 ghost use Rattle.csdf_floor.specs.Making.{HasMade, amount_of, made_moves, made_value};
 ghost use Rattle.csdf_model.specs.declared.parts.Kernel.TheVariants.{Sink};
 ghost use Rattle.csdf_core.specs.declared.stage.Stage.TheVariants.{Idle};
@@ -13,9 +13,12 @@ ghost use Rattle.csdf_core.specs.State.{present};
 ghost use Rattle.csdf_core.specs.Step.{count, given, is_source, stage, refusal};
 ghost use Rattle.csdf_floor.specs.Journal.{IsHonest, inputs, output_counts, value};
 ghost use Rattle.csdf_floor.specs.Work.{program, is_sink_kernel};
+ghost use Rattle.csdf_floor.specs.declared.fault.StartFault.TheVariants.{Refused};
+ghost use Rattle.csdf_floor.specs.Floor.{IsStartAnswer};
 ghost use Rattle.csdf_floor.specs.Inside.{HasRoom};
 
 use crate::book::Book;
+use crate::fault::StartFault;
 use crate::noting::note_firings;
 use csdf_core::Block;
 use csdf_kernel::{Counts, Outputs, eval_block};
@@ -87,8 +90,7 @@ impl Book {
         ensures { OnOk result (outputs.new.items ≡ made_value (program self.now.shown.work) actor (count self.now.shown.core.now actor) n
             (slice_index_or self.now.reads actor [])) }
     {
-        self.work
-            .counts_into(actor, self.core.fired(actor), counts)?;
+        self.counts_into(actor, counts)?;
         let kernel = self.work.kernel(actor);
         let need = self.core.need(actor);
         let buffer = &self.reads[actor as usize];
@@ -110,8 +112,7 @@ impl Book {
         ensures { OnOk result (outputs.new.items ≡ made_value (program self.now.shown.work) actor (count self.now.shown.core.now actor) n
             (slice_index_or self.now.reads actor [])) }
     {
-        self.work
-            .counts_into(actor, self.core.fired(actor), counts)?;
+        self.counts_into(actor, counts)?;
         let kernel = self.work.kernel(actor);
         let each = self.core.gives(actor);
         let used = self.core.written(actor) as usize;
@@ -167,15 +168,7 @@ impl Book {
         ensures unchanged { OnErr result (self.new.shown ≡ self.old.shown) }
         ensures room_stays { OnErr result (self.old.room ≤ self.new.room) }
     {
-        note_firings(
-            &self.work,
-            &self.core,
-            &mut self.journal,
-            alloc,
-            actor,
-            n,
-            tokens,
-        )?;
+        note_firings(&self.core, &mut self.journal, alloc, actor, n, tokens)?;
         self.core.fire(actor, n, tokens);
         let is_sink = self.work.is_sink(actor);
         let taken = &self.reads[actor as usize];
@@ -342,7 +335,7 @@ impl Book {
     }
 
     /// Whether the actor's next firing may begin.
-    fn may_begin(&self, actor: u32) -> bool
+    pub(crate) fn may_begin(&self, actor: u32) -> bool
         ensures { IsTrue result ↔ (refusal self.now.shown.core.plan self.now.shown.core.now (Begin actor) ≡ None) }
     {
         let _ = &self.work;
@@ -423,35 +416,38 @@ impl Book {
         true
     }
 
-    /// Makes the actor's next firings, of which the first may begin: as one block, as one that keeps a
-    /// state, or, where no block can be had or it is not worth it, one by one until so many are made or the
-    /// next one may not begin, and then fewer where memory runs out after the first.
+    /// Makes the actor's next firings: as one block, as one that keeps a state, or, where no block can be
+    /// had or it is not worth it, one by one until so many are made or the next one may not begin, and then
+    /// fewer where memory runs out after the first. Whether the first may begin is asked only where no
+    /// block tells it.
     pub(crate) fn make_many(
         &mut self,
         actor: u32,
         most: u32,
         counts: &mut Counts,
         outputs: &mut Outputs,
-    ) -> Result<u32, AllocError>
+    ) -> Result<u32, StartFault>
         requires exists { actor < length self.old.shown.core.plan.sources }
-        requires idle { stage self.old.shown.core.now actor ≡ Idle }
-        requires accepted { refusal self.old.shown.core.plan self.old.shown.core.now (Begin actor) ≡ None }
         requires some { 0 < most }
+        ensures answer { IsStartAnswer (option_map Refused (refusal self.old.shown.core.plan self.old.shown.core.now (Begin actor))) result }
         ensures some { IfOk result (λ n. 0 < n) }
         ensures most { IfOk result (λ n. n ≤ most) }
         ensures made { IfOk result (λ n. HasMade self.old.shown self.new.shown actor n (made_moves self.old.shown actor n)) }
         ensures room { OnOk result (length (outputs_at self.old.shown.core.plan.channels actor) ≤ self.new.room) }
         ensures unchanged { OnErr result (self.new.shown ≡ self.old.shown) }
     {
+        self.core.begins(actor);
         if let Some((feedback, firings)) = self.goes_on(actor, most) {
             self.make_on(actor, feedback, firings, counts, outputs)?;
             return Ok(firings);
         }
         let block = self.block(actor, most);
-        if !self.takes_block(actor, block, most) {
-            return self.make_singly(actor, most, counts, outputs);
+        if self.takes_block(actor, block, most) {
+            self.make(actor, block, counts, outputs)?;
+            return Ok(block.firings);
         }
-        self.make(actor, block, counts, outputs)?;
-        Ok(block.firings)
+        self.core.can_begin(actor)?;
+        let n = self.make_singly(actor, most, counts, outputs)?;
+        Ok(n)
     }
 }

@@ -4,15 +4,17 @@
 ghost use Rattle.std.specs.Prelude.{◌≡◌, ◌+◌, ◌++◌, ◌^◌, ◌<◌, ◌≤◌, [], false, true, IfOk, OnOk, length, slice_index_or, slice_range};
 ghost use Rattle.smallvec.specs.SmallVec.{HasRoomFor};
 ghost use Rattle.csdf_core.specs.Blocks.{CanFire, gifts_of, needs_of};
+ghost use Rattle.csdf_core.specs.Phases.{IsInPhase};
 ghost use Rattle.csdf_core.specs.Rows.{gift};
 ghost use Rattle.csdf_core.specs.Step.{count, given, is_source};
 ghost use Rattle.csdf_floor.specs.Making.{amount_of, amounts_of, made_value, phase_value, phase_values};
 ghost use Rattle.csdf_floor.specs.Work.{feed_of, program};
 
 use crate::book::Book;
+use crate::counts::put_counts;
 use crate::limits::MAX_FEED_TOKENS;
 use crate::work::Work;
-use csdf_core::Block;
+use csdf_core::{Block, Core, Turn};
 use csdf_kernel::{Counts, Outputs, push_value};
 use csdf_model::{MAX_FIRINGS_PER_ACTOR, MAX_TOTAL_PER_FIRING};
 use std::alloc::AllocError;
@@ -21,96 +23,108 @@ use std::alloc::AllocError;
 const LONG_BLOCK: u32 = 8;
 
 impl Work {
-    /// How many tokens the firing computes from.
-    fn amount(&self, actor: u32, firing: u32) -> usize
-        requires { actor < length self.now.accepted.graph.actors }
-        ensures value { result ≡ amount_of (program self.now) actor firing }
+    /// How many tokens the firing computes from. The core is one of this work.
+    fn amount(&self, core: &Core, actor: u32, turn: Turn) -> usize
+        requires exists { actor < length self.now.accepted.graph.actors }
+        requires plan { core.now.plan ≡ (program self.now).plan }
+        requires in_phase { IsInPhase core.now.plan.channels actor turn.firing turn.phase }
+        ensures value { result ≡ amount_of (program self.now) actor turn.firing }
         ensures small { result ≤ MAX_TOTAL_PER_FIRING }
     {
         if self.is_source(actor) {
-            return self.gift(actor, firing);
+            return core.gift_at(actor, turn);
         }
-        self.need(actor, firing)
+        core.need_at(actor, turn)
     }
 
     /// The kernel's value of the firing, at the end of a list that has room for it, and how many of the
-    /// tokens it computes from: the first of them.
+    /// tokens it computes from: the first of them. The core is one of this work.
     fn push_phase(
         &self,
+        core: &Core,
         actor: u32,
-        firing: u32,
+        turn: Turn,
         tokens: &[i32],
         counts: &mut Counts,
         outputs: &mut Outputs,
     ) -> Result<usize, AllocError>
         requires exists { actor < length self.now.accepted.graph.actors }
-        requires tokens { amount_of (program self.now) actor firing ≤ length tokens.now }
-        requires room { HasRoomFor outputs.old (gift actor firing (program self.now).plan.channels) }
-        ensures amount { IfOk result (λ amount. amount ≡ amount_of (program self.now) actor firing) }
-        ensures items { OnOk result (outputs.new.items ≡ outputs.old.items ++ phase_value (program self.now) actor firing tokens.now) }
+        requires plan { core.now.plan ≡ (program self.now).plan }
+        requires in_phase { IsInPhase core.now.plan.channels actor turn.firing turn.phase }
+        requires tokens { amount_of (program self.now) actor turn.firing ≤ length tokens.now }
+        requires room { HasRoomFor outputs.old (gift actor turn.firing (program self.now).plan.channels) }
+        ensures amount { IfOk result (λ amount. amount ≡ amount_of (program self.now) actor turn.firing) }
+        ensures items { OnOk result (outputs.new.items ≡ outputs.old.items ++ phase_value (program self.now) actor turn.firing tokens.now) }
         ensures capacity { OnOk result (outputs.new.capacity ≡ outputs.old.capacity) }
     {
-        self.counts_into(actor, firing, counts)?;
-        let amount = self.amount(actor, firing);
+        put_counts(core, actor, turn, counts)?;
+        let amount = self.amount(core, actor, turn);
         let kernel = self.kernel(actor);
         push_value(outputs, kernel, counts.as_slice(), &tokens[..amount]);
         Ok(amount)
     }
 
-    /// The kernel's values of n firings of the actor, from this one on, end to end, at the end of a list
-    /// that has room for them. They compute from these tokens, one after the other.
+    /// The kernel's values of the actor's next n firings, end to end, at the end of a list that has room
+    /// for them. They compute from these tokens, one after the other. The core is one of this work.
     fn push_phases(
         &self,
+        core: &Core,
         actor: u32,
-        first: u32,
         n: u32,
         tokens: &[i32],
         counts: &mut Counts,
         outputs: &mut Outputs,
     ) -> Result<(), AllocError>
         requires exists { actor < length self.now.accepted.graph.actors }
-        requires few { first + n ≤ MAX_FIRINGS_PER_ACTOR }
-        requires tokens { amounts_of (program self.now) actor first n ≤ length tokens.now }
-        requires room { HasRoomFor outputs.old (gifts_of (program self.now).plan.channels actor first n) }
-        ensures { OnOk result (outputs.new.items ≡ outputs.old.items ++ phase_values (program self.now) actor first n tokens.now) }
+        requires plan { core.now.plan ≡ (program self.now).plan }
+        requires few { count core.now.now actor + n ≤ MAX_FIRINGS_PER_ACTOR }
+        requires tokens { amounts_of (program self.now) actor (count core.now.now actor) n ≤ length tokens.now }
+        requires room { HasRoomFor outputs.old (gifts_of (program self.now).plan.channels actor (count core.now.now actor) n) }
+        ensures { OnOk result (outputs.new.items ≡ outputs.old.items
+            ++ phase_values (program self.now) actor (count core.now.now actor) n tokens.now) }
     {
+        let first = core.fired(actor);
         let last = first + n;
+        let mut turn = core.turn(actor);
         let mut at = 0;
-        for firing in first..last {
-            at += self.push_phase(actor, firing, &tokens[at..], counts, outputs)?;
+        for _firing in first..last {
+            at += self.push_phase(core, actor, turn, &tokens[at..], counts, outputs)?;
+            turn = core.turn_after(actor, turn);
         }
         Ok(())
     }
+}
 
-    /// How many firings of the actor, from this one on and at most so many, read no more than `held`
-    /// tokens in all and write no more than `room`, and what they move.
-    fn reach(&self, actor: u32, first: u32, most: u32, held: u64, room: u64) -> Block
-        requires exists { actor < length self.now.accepted.graph.actors }
-        requires few { first + most < 2 ^ 32 }
-        ensures most { result.firings ≤ most }
-        ensures needed { result.needed ≡ needs_of (program self.now).plan.channels actor first result.firings }
-        ensures given { result.given ≡ gifts_of (program self.now).plan.channels actor first result.firings }
-    {
-        let mut needed = 0;
-        let mut given = 0;
-        for firings in 0..most {
-            let reads = needed + self.need(actor, first + firings) as u64;
-            let writes = given + self.gift(actor, first + firings) as u64;
-            if reads > held || writes > room {
-                return Block {
-                    firings,
-                    needed,
-                    given,
-                };
-            }
-            needed = reads;
-            given = writes;
+/// How many of the actor's next firings, at most so many, read no more than `held` tokens in all and
+/// write no more than `room`, and what they move.
+fn reach(core: &Core, actor: u32, most: u32, held: u64, room: u64) -> Block
+    requires exists { actor < length core.now.plan.sources }
+    requires few { count core.now.now actor + most ≤ MAX_FIRINGS_PER_ACTOR }
+    ensures most { result.firings ≤ most }
+    ensures needed { result.needed ≡ needs_of core.now.plan.channels actor (count core.now.now actor) result.firings }
+    ensures given { result.given ≡ gifts_of core.now.plan.channels actor (count core.now.now actor) result.firings }
+{
+    let mut turn = core.turn(actor);
+    let mut needed = 0;
+    let mut given = 0;
+    for firings in 0..most {
+        let reads = needed + core.need_at(actor, turn) as u64;
+        let writes = given + core.gift_at(actor, turn) as u64;
+        if reads > held || writes > room {
+            return Block {
+                firings,
+                needed,
+                given,
+            };
         }
-        Block {
-            firings: most,
-            needed,
-            given,
-        }
+        needed = reads;
+        given = writes;
+        turn = core.turn_after(actor, turn);
+    }
+    Block {
+        firings: most,
+        needed,
+        given,
     }
 }
 
@@ -120,7 +134,7 @@ impl Book {
     fn held(&self, actor: u32) -> u64
         requires { actor < length self.now.shown.core.plan.sources }
     {
-        let inputs = self.work.inputs(actor);
+        let inputs = self.core.inputs(actor);
         match inputs.len() {
             0 => u64::MAX,
             1 => u64::from(self.core.len(inputs[0])),
@@ -133,7 +147,7 @@ impl Book {
     fn room(&self, actor: u32) -> u64
         requires { actor < length self.now.shown.core.plan.sources }
     {
-        let outputs = self.work.outputs(actor);
+        let outputs = self.core.outputs(actor);
         match outputs.len() {
             0 => u64::MAX,
             1 => {
@@ -149,7 +163,7 @@ impl Book {
     pub(crate) fn is_wide_and_long(&self, actor: u32) -> bool
         requires { actor < length self.now.shown.core.plan.sources }
     {
-        if self.work.inputs(actor).len() <= 1 && self.work.outputs(actor).len() <= 1 {
+        if self.core.inputs(actor).len() <= 1 && self.core.outputs(actor).len() <= 1 {
             return false;
         }
         self.core.can_fire(actor, LONG_BLOCK)
@@ -179,9 +193,8 @@ impl Book {
         if room < 2 * self.core.gives(actor) as u64 {
             return none;
         }
-        let first = self.core.fired(actor);
-        let most = most.min(u32::MAX - first);
-        let block = self.work.reach(actor, first, most, held, room);
+        let left = MAX_FIRINGS_PER_ACTOR - self.core.fired(actor);
+        let block = reach(&self.core, actor, most.min(left), held, room);
         if block.firings < 2 || !self.core.can_fire(actor, block.firings) {
             return none;
         }
@@ -222,7 +235,7 @@ impl Book {
         ensures { OnOk result (outputs.new.items ≡ made_value (program self.now.shown.work) actor (count self.now.shown.core.now actor) block.firings
             (slice_index_or self.now.reads actor [])) }
     {
-        let first = self.core.fired(actor);
+        let _ = &self.work;
         let written = block.given as usize;
         outputs.clear();
         if written == 0 {
@@ -231,6 +244,6 @@ impl Book {
         outputs.reserve(written)?;
         let tokens = self.block_inputs(actor, written);
         self.work
-            .push_phases(actor, first, block.firings, tokens, counts, outputs)
+            .push_phases(&self.core, actor, block.firings, tokens, counts, outputs)
     }
 }

@@ -8,8 +8,6 @@ ghost use Rattle.csdf_core.specs.Feedback.{IsFeedback};
 ghost use Rattle.csdf_core.specs.Headline.{capacity_of};
 ghost use Rattle.csdf_core.specs.Planned.{is_source_kernel, with_capacity};
 ghost use Rattle.csdf_core.specs.Plan.{consume_at, produce_at, to_at};
-ghost use Rattle.csdf_core.specs.Ports.{give_at, inputs_at, outputs_at, take_at};
-ghost use Rattle.csdf_core.specs.Rows.{gift, need};
 ghost use Rattle.csdf_core.specs.Step.{is_source, producer};
 ghost use Rattle.csdf_kernel.specs.Value.{HasFilterInRange};
 ghost use Rattle.csdf_floor.specs.Inside.{AreFeedbacks};
@@ -171,26 +169,6 @@ impl Work {
         is_sink(self.kernel(actor))
     }
 
-    /// The channels that begin at the actor, in file order.
-    pub(crate) fn outputs(&self, actor: u32) -> &[u32]
-        requires { actor < length self.now.accepted.graph.actors }
-        ensures value { result.now ≡ outputs_at (program self.now).plan.channels actor }
-        ensures within { All (λ c. c < length (program self.now).plan.channels) result.now }
-        ensures few { length result.now ≤ MAX_CHANNELS }
-    {
-        self.accepted.graph().outputs(actor)
-    }
-
-    /// The channels that end at the actor, in file order.
-    pub(crate) fn inputs(&self, actor: u32) -> &[u32]
-        requires { actor < length self.now.accepted.graph.actors }
-        ensures value { result.now ≡ inputs_at (program self.now).plan.channels actor }
-        ensures within { All (λ c. c < length (program self.now).plan.channels) result.now }
-        ensures few { length result.now ≤ MAX_CHANNELS }
-    {
-        self.accepted.graph().inputs(actor)
-    }
-
     /// The channel as the graph has it.
     fn channel(&self, channel: u32) -> &Channel
         requires { channel < length (program self.now).plan.channels }
@@ -236,93 +214,12 @@ impl Work {
         self.channel(channel).consumed(firings) as u32
     }
 
-    /// How many tokens the firing of its producer puts into the channel.
-    fn production(&self, channel: u32, firing: u32) -> u32
-        requires { channel < length (program self.now).plan.channels }
-        ensures value { result ≡ give_at (program self.now).plan.channels firing channel }
-        ensures small { result ≤ MAX_TOKENS_PER_FIRING }
-    {
-        self.channel(channel).production(firing)
-    }
-
-    /// How many tokens the firing of its consumer takes out of the channel.
-    fn consumption(&self, channel: u32, firing: u32) -> u32
-        requires { channel < length (program self.now).plan.channels }
-        ensures value { result ≡ take_at (program self.now).plan.channels firing channel }
-        ensures small { result ≤ MAX_TOKENS_PER_FIRING }
-    {
-        self.channel(channel).consumption(firing)
-    }
-
-    /// How many tokens the firing of the actor reads.
-    pub(crate) fn need(&self, actor: u32, firing: u32) -> usize
-        requires { actor < length self.now.accepted.graph.actors }
-        ensures value { result ≡ need actor firing (program self.now).plan.channels }
-        ensures small { result ≤ MAX_TOTAL_PER_FIRING }
-    {
-        let mut sum = 0;
-        for channel in self.inputs(actor) {
-            sum += self.consumption(*channel, firing) as usize;
-        }
-        sum
-    }
-
-    /// How many tokens the firing of the actor writes.
-    pub(crate) fn gift(&self, actor: u32, firing: u32) -> usize
-        requires { actor < length self.now.accepted.graph.actors }
-        ensures value { result ≡ gift actor firing (program self.now).plan.channels }
-        ensures small { result ≤ MAX_TOTAL_PER_FIRING }
-    {
-        let mut sum = 0;
-        for channel in self.outputs(actor) {
-            sum += self.production(*channel, firing) as usize;
-        }
-        sum
-    }
-
     /// How many tokens the channel may hold.
     pub(crate) fn capacity(&self, channel: u32) -> u32
         requires { channel < length (program self.now).plan.channels }
         ensures { result ≡ capacity_of (program self.now).plan channel }
     {
         self.accepted.capacities()[channel as usize]
-    }
-
-    /// How many tokens the firing writes to each output, in file order, in the place of what the list
-    /// holds.
-    pub(crate) fn counts_into(
-        &self,
-        actor: u32,
-        firing: u32,
-        counts: &mut Counts,
-    ) -> Result<(), AllocError>
-        requires { actor < length self.now.accepted.graph.actors }
-        ensures value { OnOk result (counts.new.items ≡ output_counts (program self.now) actor firing) }
-        ensures few { OnOk result (length counts.new.items ≤ MAX_CHANNELS) }
-        ensures small { OnOk result (All (λ n. n ≤ MAX_TOKENS_PER_FIRING) counts.new.items) }
-    {
-        counts.clear();
-        for channel in self.outputs(actor) {
-            counts.push(self.production(*channel, firing))?;
-        }
-        Ok(())
-    }
-
-    /// Whether these are what the firing writes to each output, in file order.
-    pub(crate) fn are_counts(&self, actor: u32, firing: u32, counts: &[u32]) -> bool
-        requires { actor < length self.now.accepted.graph.actors }
-        ensures { IsTrue result ↔ (counts.now ≡ output_counts (program self.now) actor firing) }
-    {
-        let outputs = self.outputs(actor);
-        if counts.len() != outputs.len() {
-            return false;
-        }
-        for i in 0..outputs.len() {
-            if counts[i] != self.production(outputs[i], firing) {
-                return false;
-            }
-        }
-        true
     }
 
     /// So many tokens for the actor from this place on, or as many as there are.

@@ -23,8 +23,7 @@ returns c =
     let n : ℕ = c.args.n in
     let k : ℕ = count p a in
     let firing : c.turn-turn.result.firing ≡ k = rw (← c.self.view_is) at c.turn-turn.ensures.firing in
-    let given : c.given_in_all-given.result ≡ gifts_of plan.channels a k n = c.given_in_all-given.ensures.value
-    ∙ ap (λ (x : ℕ). gifts_of plan.channels a x n) firing in
+    let given : c.given_ahead-given.result ≡ gifts_of plan.channels a k n = rw (← c.self.view_is) at c.given_ahead-given.ensures.value in
     let supply = rw (← c.self.view_is) at (c.if-not-has_supply.ensures.0 refl) in
     let cells = rw (← c.self.view_is) at (c.if-not-has_cells_for.ensures.0 refl) in
     rw (← c.self.view_is) (
@@ -55,8 +54,7 @@ returns-then-not-has_supply c =
     let n : ℕ = c.args.n in
     let k : ℕ = count p a in
     let firing : c.turn-turn.result.firing ≡ k = rw (← c.self.view_is) at c.turn-turn.ensures.firing in
-    let given : c.given_in_all-given.result ≡ gifts_of plan.channels a k n = c.given_in_all-given.ensures.value
-    ∙ ap (λ (x : ℕ). gifts_of plan.channels a x n) firing in
+    let given : c.given_ahead-given.result ≡ gifts_of plan.channels a k n = rw (← c.self.view_is) at c.given_ahead-given.ensures.value in
     let short = rw (← c.self.view_is) at c.if-not-has_supply.ensures.1 in
     rw (← c.self.view_is)
     (λ e. absurd (cc), λ h. short (λ source. (let s = h.supply source in omega (arith, s, given, given_more plan a k n))))
@@ -90,8 +88,8 @@ have_room_each-requires-clause-actor c = grind (arith, common_steps)
 pub hold_each-requires-clause-actor : goal.hold_each-requires-clause-actor
 hold_each-requires-clause-actor c = grind (arith, common_steps)
 
-pub given_in_all-given-requires-clause-actor : goal.given_in_all-given-requires-clause-actor
-given_in_all-given-requires-clause-actor c = grind (arith, common_steps)
+pub given_ahead-given-requires-clause-actor : goal.given_ahead-given-requires-clause-actor
+given_ahead-given-requires-clause-actor c = grind (arith, common_steps)
 
 pub have_room_each-requires-clause-same : goal.have_room_each-requires-clause-same
 have_room_each-requires-clause-same c = grind (arith, common_steps)

@@ -39,15 +39,15 @@ invariant_of-self c =
     (let g = rw (← c.self.view_is) at c.gives-written.ensures.sum in let s = c.gives-written.ensures.small in omega (arith, g, s)) in
     let within : a < length plan.sources = (finishes plan p a none).there in
     let counted : a < length c.self.inside.counts.items = (let e = c.self.invariant.sound.fit.counted in omega (arith, e, within)) in
-    let taken : c.need_of-need.result ≡ need a c.turn_after-next.result.firing plan.channels = search rules in
-    let given : c.gift_of-gift.result ≡ gift a c.turn_after-next.result.firing plan.channels = search rules in
+    let taken : c.need_at-need.result ≡ need a c.turn_after-next.result.firing plan.channels = rw (← c.self.view_is) at c.need_at-need.ensures.value in
+    let given : c.gift_at-gift.result ≡ gift a c.turn_after-next.result.firing plan.channels = rw (← c.self.view_is) at c.gift_at-gift.ensures.value in
     record {
       phases = phases_finished plan c.self.inside.counts.items c.self.inside.phases.items a c.turn_after-next.result.firing c.turn_after-next.result.phase
           c.self.invariant.phases within counted (subst (λ n. IsInPhase plan.channels a n c.turn_after-next.result.phase) (sym c.turn_after-next.ensures.firing)
           c.turn_after-next.ensures.in_phase) c.turn_after-next.ensures.low;
       amounts = amounts_finished plan c.self.inside.counts.items c.self.inside.needs.items c.self.inside.gifts.items a c.turn_after-next.result.firing
-          c.need_of-need.result c.gift_of-gift.result c.self.invariant.amounts within counted taken given
-          c.need_of-need.ensures.small c.gift_of-gift.ensures.small;
+          c.need_at-need.result c.gift_at-gift.result c.self.invariant.amounts within counted taken given
+          c.need_at-need.ensures.small c.gift_at-gift.ensures.small;
       sound = subst (λ n. IsSound plan (record {
         counts = set c.self.inside.counts.items a n;
         stages = set c.self.inside.stages.items a Idle;
@@ -112,17 +112,17 @@ index_mut-requires-2 c = grind (arith, common_steps)
 pub index_mut-requires : goal.index_mut-requires
 index_mut-requires c = grind (arith, common_steps)
 
-pub gift_of-gift-requires-clause-actor : goal.gift_of-gift-requires-clause-actor
-gift_of-gift-requires-clause-actor c = grind (arith, common_steps)
+pub gift_at-gift-requires-clause-actor : goal.gift_at-gift-requires-clause-actor
+gift_at-gift-requires-clause-actor c = grind (arith, common_steps)
 
-pub gift_of-gift-requires-clause-in_phase : goal.gift_of-gift-requires-clause-in_phase
-gift_of-gift-requires-clause-in_phase c = grind (arith, common_steps)
+pub gift_at-gift-requires-clause-in_phase : goal.gift_at-gift-requires-clause-in_phase
+gift_at-gift-requires-clause-in_phase c = grind (arith, common_steps)
 
-pub need_of-need-requires-clause-actor : goal.need_of-need-requires-clause-actor
-need_of-need-requires-clause-actor c = grind (arith, common_steps)
+pub need_at-need-requires-clause-actor : goal.need_at-need-requires-clause-actor
+need_at-need-requires-clause-actor c = grind (arith, common_steps)
 
-pub need_of-need-requires-clause-in_phase : goal.need_of-need-requires-clause-in_phase
-need_of-need-requires-clause-in_phase c = grind (arith, common_steps)
+pub need_at-need-requires-clause-in_phase : goal.need_at-need-requires-clause-in_phase
+need_at-need-requires-clause-in_phase c = grind (arith, common_steps)
 
 pub turn_after-next-requires-clause-actor : goal.turn_after-next-requires-clause-actor
 turn_after-next-requires-clause-actor c = grind (arith, common_steps)

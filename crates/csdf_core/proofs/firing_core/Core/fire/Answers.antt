@@ -34,9 +34,7 @@ move_tokens-requires-clause-tokens c =
     let a : ℕ = c.args.actor in
     let k : ℕ = count (now_in c.self.inside) a in
     let finds : FindsAll plan (now_in c.self.inside) a k c.args.n = rw (← c.self.view_is) at c.requires.can in
-    let firing : c.turn-turn.result.firing ≡ k = rw (← c.self.view_is) at c.turn-turn.ensures.firing in
-    let needed : c.taken_in_all-taken.result ≡ needs_of plan.channels a k c.args.n = c.taken_in_all-taken.ensures
-    ∙ ap (λ (x : ℕ). needs_of plan.channels a x c.args.n) firing in
+    let needed : c.needed_ahead-taken.result ≡ needs_of plan.channels a k c.args.n = rw (← c.self.view_is) at c.needed_ahead-taken.ensures in
     λ plain. subst (λ (x : ℕ). HoldAll (tokens_in c.self.inside.pool) (λ _. x) (inputs_at plan.channels a)) (sym needed)
     (hold_same (tokens_in c.self.inside.pool) (takes_at plan.channels k c.args.n) (λ _. needs_of plan.channels a k c.args.n) (inputs_at plan.channels a)
     (one_needs plan.channels a k c.args.n plain.one_in) finds.tokens)
@@ -108,8 +106,8 @@ module _ (c : After-index_mut) where
   firing : c.turn-turn.result.firing ≡ k
   firing = rw (← c.self.view_is) at c.turn-turn.ensures.firing
 
-  needed : c.taken_in_all-taken.result ≡ needs_of plan.channels a k n
-  needed = c.taken_in_all-taken.ensures ∙ ap (λ (x : ℕ). needs_of plan.channels a x n) firing
+  needed : c.needed_ahead-taken.result ≡ needs_of plan.channels a k n
+  needed = rw (← c.self.view_is) at c.needed_ahead-taken.ensures
 
   next : c.turn_ahead-next.result.firing ≡ k + n
   next = c.turn_ahead-next.ensures.firing ∙ ap (λ (x : ℕ). x + n) firing
@@ -174,8 +172,9 @@ invariant_of-self c =
       phases = phases_finished plan c.self.inside.counts.items c.self.inside.phases.items c.args.actor c.turn_ahead-next.result.firing
           c.turn_ahead-next.result.phase c.self.invariant.phases within counted c.turn_ahead-next.ensures.in_phase c.turn_ahead-next.ensures.low;
       amounts = amounts_finished plan c.self.inside.counts.items c.self.inside.needs.items c.self.inside.gifts.items c.args.actor
-          c.turn_ahead-next.result.firing c.need_of-needed.result c.gift_of-given.result c.self.invariant.amounts within counted
-          c.need_of-needed.ensures.value c.gift_of-given.ensures.value c.need_of-needed.ensures.small c.gift_of-given.ensures.small;
+          c.turn_ahead-next.result.firing c.need_at-needed.result c.gift_at-given.result c.self.invariant.amounts within counted
+          (rw (← c.self.view_is) at c.need_at-needed.ensures.value) (rw (← c.self.view_is) at c.gift_at-given.ensures.value)
+          c.need_at-needed.ensures.small c.gift_at-given.ensures.small;
       sound = (subst (IsGood plan) (lands at) (made at).1.good).sound;
     }
 
@@ -226,17 +225,17 @@ move_tokens-requires-clause-few c = grind (arith, common_steps)
 pub move_tokens-requires-clause-partition : goal.move_tokens-requires-clause-partition
 move_tokens-requires-clause-partition c = grind (arith, common_steps)
 
-pub gift_of-given-requires-clause-in_phase : goal.gift_of-given-requires-clause-in_phase
-gift_of-given-requires-clause-in_phase c = grind (arith, common_steps)
+pub gift_at-given-requires-clause-in_phase : goal.gift_at-given-requires-clause-in_phase
+gift_at-given-requires-clause-in_phase c = grind (arith, common_steps)
 
-pub gift_of-given-requires-clause-actor : goal.gift_of-given-requires-clause-actor
-gift_of-given-requires-clause-actor c = grind (arith, common_steps)
+pub gift_at-given-requires-clause-actor : goal.gift_at-given-requires-clause-actor
+gift_at-given-requires-clause-actor c = grind (arith, common_steps)
 
-pub need_of-needed-requires-clause-in_phase : goal.need_of-needed-requires-clause-in_phase
-need_of-needed-requires-clause-in_phase c = grind (arith, common_steps)
+pub need_at-needed-requires-clause-in_phase : goal.need_at-needed-requires-clause-in_phase
+need_at-needed-requires-clause-in_phase c = grind (arith, common_steps)
 
-pub need_of-needed-requires-clause-actor : goal.need_of-needed-requires-clause-actor
-need_of-needed-requires-clause-actor c = grind (arith, common_steps)
+pub need_at-needed-requires-clause-actor : goal.need_at-needed-requires-clause-actor
+need_at-needed-requires-clause-actor c = grind (arith, common_steps)
 
 pub move_tokens-requires-clause-same : goal.move_tokens-requires-clause-same
 move_tokens-requires-clause-same c = grind (arith, common_steps)

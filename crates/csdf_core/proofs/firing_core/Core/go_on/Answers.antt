@@ -22,12 +22,13 @@ use Rattle.csdf_core.proofs.GoingTokens.{cells_for}
 use Rattle.csdf_core.proofs.GoneOn.{others_left, good_there, plays_there}
 use Rattle.csdf_core.proofs.OnePhase.{gifts_times}
 use Rattle.csdf_core.proofs.PhaseLemmas.{phases_finished}
+use Rattle.csdf_core.proofs.RateTotals.{few_gifts_of}
 use Rattle.csdf_core.proofs.SoundLemmas.{few_started}
 use Rattle.csdf_core.proofs.firing_core.Core.go_on.Goals as goal
-use Rattle.csdf_core.proofs.firing_core.Core.go_on.Goals.{After-look_ahead-ahead, After-index_mut}
+use Rattle.csdf_core.proofs.firing_core.Core.go_on.Goals.{After-turn_ahead-next, After-index_mut}
 
 -- what is known at the beginning
-module _ (c : After-look_ahead-ahead) where
+module _ (c : After-turn_ahead-next) where
   abbrev pub early_plan : Plan
   early_plan = c.self.inside.plan
 
@@ -77,22 +78,22 @@ module _ (c : After-look_ahead-ahead) where
       omega (arith, r, t)
 
 pub move_on-requires-clause-own : goal.move_on-requires-clause-own
-move_on-requires-clause-own c = (early_told (goal.at.move_on-requires-clause-own c).After-look_ahead-ahead).keeps.there
+move_on-requires-clause-own c = (early_told (goal.at.move_on-requires-clause-own c).After-turn_ahead-next).keeps.there
 
 pub move_on-requires-clause-state : goal.move_on-requires-clause-state
 move_on-requires-clause-state c =
-    let at : After-look_ahead-ahead = (goal.at.move_on-requires-clause-state c).After-look_ahead-ahead in
+    let at : After-turn_ahead-next = (goal.at.move_on-requires-clause-state c).After-turn_ahead-next in
     let s = (early_finds at).state in
     omega (arith, early_taken at, s)
 
 pub move_on-requires-clause-other : goal.move_on-requires-clause-other
 move_on-requires-clause-other c =
-    let at : After-look_ahead-ahead = (goal.at.move_on-requires-clause-other c).After-look_ahead-ahead in
+    let at : After-turn_ahead-next = (goal.at.move_on-requires-clause-other c).After-turn_ahead-next in
     other_there (early_plan at).channels (early_a at) (early_own at) c.args.feedback.is_first c.args.feedback.other (early_told at).order
 
 pub move_on-requires-clause-enough : goal.move_on-requires-clause-enough
 move_on-requires-clause-enough c =
-    let at : After-look_ahead-ahead = (goal.at.move_on-requires-clause-enough c).After-look_ahead-ahead in
+    let at : After-turn_ahead-next = (goal.at.move_on-requires-clause-enough c).After-turn_ahead-next in
     let ts : List (List ℤ) = tokens_in c.self.inside.pool in
     let left : List ℤ = drop c.args.feedback.taken (tokens_at ts c.args.feedback.channel) in
     subst (λ (x : ℕ). IfSome c.args.feedback.other (λ d. c.args.n * take_at (early_plan at).channels x d
@@ -101,12 +102,12 @@ move_on-requires-clause-enough c =
 
 pub move_on-requires-clause-all : goal.move_on-requires-clause-all
 move_on-requires-clause-all c =
-    let at : After-look_ahead-ahead = (goal.at.move_on-requires-clause-all c).After-look_ahead-ahead in
+    let at : After-turn_ahead-next = (goal.at.move_on-requires-clause-all c).After-turn_ahead-next in
     early_all at ∙ ap (λ (x : ℕ). c.args.n * gift c.args.actor x (early_plan at).channels) (sym (early_firing at))
 
 pub move_on-requires-clause-room : goal.move_on-requires-clause-room
 move_on-requires-clause-room c =
-    let at : After-look_ahead-ahead = (goal.at.move_on-requires-clause-room c).After-look_ahead-ahead in
+    let at : After-turn_ahead-next = (goal.at.move_on-requires-clause-room c).After-turn_ahead-next in
     subst (λ (x : ℕ). 0 < c.args.n → sum_by (lasts_at (early_plan at).channels (early_own at) x c.args.n) (outputs_at (early_plan at).channels (early_a at))
     ≤ length c.self.inside.pool.free + c.args.feedback.taken) (sym (early_firing at)) (early_room at)
 
@@ -115,12 +116,15 @@ overflow_add-self c = omega (arith, few_started _ _ _ _ _ _ _ c.self.invariant.s
 
 pub overflow_add-index_mut : goal.overflow_add-index_mut
 overflow_add-index_mut c =
-    let at : After-look_ahead-ahead = (goal.at.overflow_add-index_mut c).After-look_ahead-ahead in
+    let at : After-turn_ahead-next = (goal.at.overflow_add-index_mut c).After-turn_ahead-next in
     let old : c.index_mut.result.now ≡ get_or c.self.inside.sums.items c.args.actor 0 = c.index_mut.ensures.value
     ∙ get_or_default c.self.inside.sums.items c.args.actor c.index_mut.result.now 0 (early_summed at) in
     let low = c.self.invariant.sound.small c.args.actor (early_finds at).there in
     let few_before = c.turn-turn.ensures.few in
-    omega (arith, old, low, early_firing at, few_before, c.look_ahead-ahead.ensures.small, c.ranges.n.fits)
+    let all : length c.args.tokens.now ≡ gifts_of c.self.inside.plan.channels c.args.actor (count (now_in c.self.inside) c.args.actor) c.args.n =
+    rw (← c.self.view_is) at c.requires.all in
+    let few = few_gifts_of c.self.inside.plan.channels c.args.actor (c.gives_few.ensures c.args.actor) (count (now_in c.self.inside) c.args.actor) c.args.n in
+    omega (arith, old, low, early_firing at, few_before, all, few, c.ranges.n.fits)
 
 -- where all has come to
 module _ (c : After-index_mut) where
@@ -172,29 +176,27 @@ module _ (c : After-index_mut) where
   abbrev there : Machine
   there = record {
     now = record {
-      counts = set c.self.inside.counts.items c.args.actor c.look_ahead-ahead.result.next.firing;
+      counts = set c.self.inside.counts.items c.args.actor c.turn_ahead-next.result.firing;
       stages = c.self.inside.stages.items;
       opens = c.self.inside.opens.items;
       tokens = tokens_in c.move_on.new.pool;
     };
     peaks = (with_items c.self.inside.peaks c.raise_peaks.new.peaks).items;
-    sums = set c.self.inside.sums.items c.args.actor (c.index_mut.result.now + c.look_ahead-ahead.result.given);
+    sums = set c.self.inside.sums.items c.args.actor (c.index_mut.result.now + length c.args.tokens.now);
     started = c.self.inside.started + c.from.result;
     kept = c.self.inside.reserved;
     pool = c.move_on.new.pool;
   }
 
   counts_are : there.now.counts ≡ set m.now.counts a (k + n)
-  counts_are = ap (set c.self.inside.counts.items c.args.actor) (c.look_ahead-ahead.ensures.firing ∙ ap (λ (x : ℕ). x + n) firing)
+  counts_are = ap (set c.self.inside.counts.items c.args.actor) (c.turn_ahead-next.ensures.firing ∙ ap (λ (x : ℕ). x + n) firing)
 
   sums_are : there.sums ≡ set m.sums a (get_or m.sums a 0 + gifts_of plan.channels a k n)
   sums_are =
       let old : c.index_mut.result.now ≡ get_or c.self.inside.sums.items c.args.actor 0 = c.index_mut.ensures.value
       ∙ get_or_default c.self.inside.sums.items c.args.actor c.index_mut.result.now 0 summed in
-      let given : c.look_ahead-ahead.result.given ≡ gifts_of plan.channels a k n = c.look_ahead-ahead.ensures.given
-      ∙ ap (λ (x : ℕ). gifts_of plan.channels a x n) firing in
-      let sum : c.index_mut.result.now + c.look_ahead-ahead.result.given ≡
-      get_or c.self.inside.sums.items c.args.actor 0 + gifts_of plan.channels a k n = omega (arith, old, given) in
+      let sum : c.index_mut.result.now + length c.args.tokens.now ≡
+      get_or c.self.inside.sums.items c.args.actor 0 + gifts_of plan.channels a k n = (let g = all in omega (arith, old, g)) in
       ap (set c.self.inside.sums.items c.args.actor) sum
 
   peaks_are : there.peaks ≡ raise_over (outs plan a) (tokens_in c.move_on.new.pool) m.peaks
@@ -225,11 +227,12 @@ invariant_of-self c =
     let within : c.args.actor < length plan.sources = (finds here).there in
     let counted : c.args.actor < length c.self.inside.counts.items = (let e = c.self.invariant.sound.fit.counted in omega (arith, e, within)) in
     record {
-      phases = phases_finished plan c.self.inside.counts.items c.self.inside.phases.items c.args.actor c.look_ahead-ahead.result.next.firing
-          c.look_ahead-ahead.result.next.phase c.self.invariant.phases within counted c.look_ahead-ahead.ensures.in_phase c.look_ahead-ahead.ensures.low;
+      phases = phases_finished plan c.self.inside.counts.items c.self.inside.phases.items c.args.actor c.turn_ahead-next.result.firing
+          c.turn_ahead-next.result.phase c.self.invariant.phases within counted c.turn_ahead-next.ensures.in_phase c.turn_ahead-next.ensures.low;
       amounts = amounts_finished plan c.self.inside.counts.items c.self.inside.needs.items c.self.inside.gifts.items c.args.actor
-          c.look_ahead-ahead.result.next.firing c.need_of-needed.result c.gift_of-given.result c.self.invariant.amounts within counted
-          c.need_of-needed.ensures.value c.gift_of-given.ensures.value c.need_of-needed.ensures.small c.gift_of-given.ensures.small;
+          c.turn_ahead-next.result.firing c.need_at-needed.result c.gift_at-given.result c.self.invariant.amounts within counted
+          (rw (← c.self.view_is) at c.need_at-needed.ensures.value) (rw (← c.self.view_is) at c.gift_at-given.ensures.value)
+          c.need_at-needed.ensures.small c.gift_at-given.ensures.small;
       sound = (good_now here).sound;
     }
 
@@ -267,26 +270,26 @@ move_on-requires-clause-actor c = grind (arith, common_steps)
 pub move_on-requires-clause-partition : goal.move_on-requires-clause-partition
 move_on-requires-clause-partition c = grind (arith, common_steps)
 
-pub gift_of-given-requires-clause-in_phase : goal.gift_of-given-requires-clause-in_phase
-gift_of-given-requires-clause-in_phase c = grind (arith, common_steps)
+pub gift_at-given-requires-clause-in_phase : goal.gift_at-given-requires-clause-in_phase
+gift_at-given-requires-clause-in_phase c = grind (arith, common_steps)
 
-pub gift_of-given-requires-clause-actor : goal.gift_of-given-requires-clause-actor
-gift_of-given-requires-clause-actor c = grind (arith, common_steps)
+pub gift_at-given-requires-clause-actor : goal.gift_at-given-requires-clause-actor
+gift_at-given-requires-clause-actor c = grind (arith, common_steps)
 
-pub need_of-needed-requires-clause-in_phase : goal.need_of-needed-requires-clause-in_phase
-need_of-needed-requires-clause-in_phase c = grind (arith, common_steps)
+pub need_at-needed-requires-clause-in_phase : goal.need_at-needed-requires-clause-in_phase
+need_at-needed-requires-clause-in_phase c = grind (arith, common_steps)
 
-pub need_of-needed-requires-clause-actor : goal.need_of-needed-requires-clause-actor
-need_of-needed-requires-clause-actor c = grind (arith, common_steps)
+pub need_at-needed-requires-clause-actor : goal.need_at-needed-requires-clause-actor
+need_at-needed-requires-clause-actor c = grind (arith, common_steps)
 
-pub look_ahead-ahead-requires-clause-in_phase : goal.look_ahead-ahead-requires-clause-in_phase
-look_ahead-ahead-requires-clause-in_phase c = grind (arith, common_steps)
+pub turn_ahead-next-requires-clause-in_phase : goal.turn_ahead-next-requires-clause-in_phase
+turn_ahead-next-requires-clause-in_phase c = grind (arith, common_steps)
 
 pub move_on-requires-clause-same : goal.move_on-requires-clause-same
 move_on-requires-clause-same c = grind (arith, common_steps)
 
-pub look_ahead-ahead-requires-clause-actor : goal.look_ahead-ahead-requires-clause-actor
-look_ahead-ahead-requires-clause-actor c = grind (arith, common_steps)
+pub turn_ahead-next-requires-clause-actor : goal.turn_ahead-next-requires-clause-actor
+turn_ahead-next-requires-clause-actor c = grind (arith, common_steps)
 
 pub overflow_cast-given : goal.overflow_cast-given
 overflow_cast-given c = grind (arith, common_steps)

@@ -1,6 +1,13 @@
-use Rattle.std.proofs.Common.{arith}
-use Rattle.std.proofs.lemmas.Grind.{common_steps}
+use Rattle.csdf_floor.specs.Work.{program}
+use Rattle.csdf_floor.proofs.Makings.{on_ok}
+use Rattle.csdf_floor.proofs.Works.{counted}
+use Rattle.std.proofs.Common.{ap, ◌∙◌}
+use Rattle.csdf_core.specs.Step.{count}
+use Rattle.csdf_floor.specs.Journal.{output_counts}
 use Rattle.csdf_floor.proofs.book.Book.counts_into.Goals as goal
 
-pub counts_into-requires : goal.counts_into-requires
-counts_into-requires c = grind (arith, common_steps)
+pub returns-clause-value : goal.returns-clause-value
+returns-clause-value c =
+    rw (← c.self.view_is) (on_ok c.put_counts.result _ _
+    (λ e. counted (program c.self.inside.work) c.self.inside.core.plan c.args.actor c.turn-turn.result.firing c.put_counts.new.counts.items
+    c.self.invariant.kept.plan e ∙ ap (output_counts (program c.self.inside.work) c.args.actor) c.turn-turn.ensures.firing) c.put_counts.ensures.value)

@@ -64,8 +64,8 @@ pub returns : goal.returns
 returns c =
     let at : After-part-feed = (goal.at.returns c).After-part-feed in
     let w : Program = program c.self.inside.work in
-    let counts : c.as_slice.result.now ≡ output_counts w c.args.actor (k at) = c.as_slice.ensures ∙ c.in_ok-counts_into.ensures.value
-    ∙ ap (output_counts w c.args.actor) c.fired.ensures.value in
+    let counts : c.as_slice.result.now ≡ output_counts w c.args.actor (k at) = c.as_slice.ensures
+    ∙ (rw (← c.self.view_is) at c.in_ok-counts_into.ensures.value) in
     let tokens : List ℤ = get_or (feeds_in c.self.inside.reads.items) c.args.actor [] in
     let whole : values_of c.kernel-kernel.result.now c.as_slice.result.now c.gives-each.result c.args.n c.part-feed.result.now
     ≡ made_value w c.args.actor (k at) c.args.n tokens =

@@ -1,12 +1,9 @@
 use Rattle.std.proofs.lemmas.Grind.{common_steps}
-use Rattle.std.proofs.Common.{length, ap, sym, ◌∙◌, arith}
-use Rattle.csdf_core.specs.Plan.{Plan}
-use Rattle.csdf_core.specs.Ports.{outputs_at}
+use Rattle.std.proofs.Common.{length, ap, arith}
 use Rattle.csdf_floor.proofs.book.Book.output_count.Goals as goal
 
 pub returns-clause-value : goal.returns-clause-value
-returns-clause-value c = rw (← c.self.view_is) (ap length (c.outputs.ensures.value
-    ∙ ap (λ (u : Plan). outputs_at u.channels c.args.actor) (sym c.self.invariant.kept.plan)))
+returns-clause-value c = rw (← c.self.view_is) (ap length c.outputs.ensures.value)
 
 pub outputs-requires : goal.outputs-requires
 outputs-requires c = grind (arith, common_steps)

@@ -31,7 +31,7 @@ module _ (c : After-as_mut_slice) where
   told = subst (λ (u : Plan). IsFeedback u a c.args.feedback) c.self.invariant.kept.plan here
 
   pub counts : c.as_slice.result.now ≡ output_counts p a k
-  counts = c.as_slice.ensures ∙ c.in_ok-counts_into.ensures.value ∙ ap (output_counts p a) c.fired.ensures.value
+  counts = c.as_slice.ensures ∙ (rw (← c.self.view_is) at c.in_ok-counts_into.ensures.value)
 
   pub fits : c.args.feedback.before + c.args.feedback.taken ≤ sum c.as_slice.result.now
   fits =

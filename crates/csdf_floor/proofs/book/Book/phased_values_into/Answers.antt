@@ -9,10 +9,10 @@ use Rattle.csdf_floor.specs.Work.{feeds_in, program}
 use Rattle.csdf_floor.proofs.Makings.{on_ok}
 use Rattle.csdf_floor.proofs.PhaseValues.{AreInputs, block_long, block_short, block_values, few_numbers, none_written}
 use Rattle.csdf_floor.proofs.book.Book.phased_values_into.Goals as goal
-use Rattle.csdf_floor.proofs.book.Book.phased_values_into.Goals.{After-fired-first, After-block_inputs-tokens}
+use Rattle.csdf_floor.proofs.book.Book.phased_values_into.Goals.{After-clear, After-block_inputs-tokens}
 
 -- what the book shows
-module _ (c : After-fired-first) where
+module _ (c : After-clear) where
   abbrev p : Program
   p = program c.self.inside.work
 
@@ -42,20 +42,19 @@ module _ (c : After-fired-first) where
 
 pub returns-then-written-eq0 : goal.returns-then-written-eq0
 returns-then-written-eq0 c =
-    let at : After-fired-first = (goal.at.returns-then-written-eq0 c).After-fired-first in
+    let at : After-clear = (goal.at.returns-then-written-eq0 c).After-clear in
     rw (← c.self.view_is) (c.clear.ensures.items
     ∙ none_written (p at) c.args.actor (k at) (n at) (tokens at) (sym (written at) ∙ c.if-written-eq0.true))
 
 pub block_inputs-tokens-requires-clause-small : goal.block_inputs-tokens-requires-clause-small
 block_inputs-tokens-requires-clause-small c =
-    let at : After-fired-first = (goal.at.block_inputs-tokens-requires-clause-small c).After-fired-first in
+    let at : After-clear = (goal.at.block_inputs-tokens-requires-clause-small c).After-clear in
     rw (← c.self.view_is) (block_short c.self.inside.work c.args.actor (k at) (n at) c.args.block.given c.self.invariant.work (written at) (can at).supply)
 
 pub push_phases-requires-clause-few : goal.push_phases-requires-clause-few
 push_phases-requires-clause-few c =
-    let at : After-fired-first = (goal.at.push_phases-requires-clause-few c).After-fired-first in
-    subst (λ (i : ℕ). i + n at ≤ 16384000) (sym c.fired-first.ensures.value)
-    (few_numbers c.self.inside.work c.args.actor (k at) (n at) c.self.invariant.work (can at).limit)
+    let at : After-clear = (goal.at.push_phases-requires-clause-few c).After-clear in
+    few_numbers c.self.inside.work c.args.actor (k at) (n at) c.self.invariant.work (can at).limit
 
 -- what the firings compute from
 inputs_are : (c : After-block_inputs-tokens)
@@ -68,20 +67,18 @@ inputs_are c = record {
 
 pub push_phases-requires-clause-tokens : goal.push_phases-requires-clause-tokens
 push_phases-requires-clause-tokens c =
-    let at : After-fired-first = (goal.at.push_phases-requires-clause-tokens c).After-fired-first in
+    let at : After-clear = (goal.at.push_phases-requires-clause-tokens c).After-clear in
     let from = inputs_are (goal.at.push_phases-requires-clause-tokens c).After-block_inputs-tokens in
-    subst (λ (i : ℕ). amounts_of (p at) c.args.actor i (n at) ≤ length c.block_inputs-tokens.result.now) (sym c.fired-first.ensures.value)
-    (block_long c.self.inside.work c.args.actor (k at) (n at) c.args.block.given (tokens at) c.block_inputs-tokens.result.now (written at) from
-    (can at).supply (long at))
+    block_long c.self.inside.work c.args.actor (k at) (n at) c.args.block.given (tokens at) c.block_inputs-tokens.result.now (written at) from
+    (can at).supply (long at)
 
 pub returns : goal.returns
 returns c =
-    let at : After-fired-first = (goal.at.returns c).After-fired-first in
+    let at : After-clear = (goal.at.returns c).After-clear in
     let from = inputs_are (goal.at.returns c).After-block_inputs-tokens in
     let xs : List ℤ = c.block_inputs-tokens.result.now in
-    let whole : c.reserve.new.self.items ++ phase_values (p at) c.args.actor c.fired-first.result (n at) xs
+    let whole : c.reserve.new.self.items ++ phase_values (p at) c.args.actor (k at) (n at) xs
     ≡ made_value (p at) c.args.actor (k at) (n at) (tokens at) =
-    ap₂ (λ (ys : List ℤ) (i : ℕ). ys ++ phase_values (p at) c.args.actor i (n at) xs) (c.in_ok-reserve.ensures.items ∙ c.clear.ensures.items)
-    c.fired-first.ensures.value
+    ap (λ (ys : List ℤ). ys ++ phase_values (p at) c.args.actor (k at) (n at) xs) (c.in_ok-reserve.ensures.items ∙ c.clear.ensures.items)
     ∙ block_values (p at) c.args.actor (k at) (n at) c.args.block.given (tokens at) xs (written at) from in
     rw (← c.self.view_is) (on_ok c.push_phases.result _ _ (λ e. e ∙ whole) c.push_phases.ensures)

@@ -48,8 +48,8 @@ returns c =
     let k : ℕ = count c.self.inside.core.now c.args.actor in
     let tokens : List ℤ = get_or (feeds_in c.self.inside.reads.items) c.args.actor [] in
     let other : is_source (program c.self.inside.work).plan c.args.actor ≡ false = rw (← c.self.view_is) at c.requires.other in
-    let counts : c.as_slice.result.now ≡ output_counts (program c.self.inside.work) c.args.actor k = c.as_slice.ensures ∙ c.in_ok-counts_into.ensures.value
-    ∙ ap (output_counts (program c.self.inside.work) c.args.actor) c.fired.ensures.value in
+    let counts : c.as_slice.result.now ≡ output_counts (program c.self.inside.work) c.args.actor k = c.as_slice.ensures
+    ∙ (rw (← c.self.view_is) at c.in_ok-counts_into.ensures.value) in
     let needed : c.need-need.result ≡ need c.args.actor k (program c.self.inside.work).plan.channels = c.need-need.ensures.value
     ∙ ap (λ (u : Plan). need c.args.actor k u.channels) c.self.invariant.kept.plan in
     let phases : HasPhases (program c.self.inside.work).plan.channels c.args.actor 1 =

@@ -1,16 +1,22 @@
 use Rattle.std.proofs.lemmas.Grind.{common_steps}
-use Rattle.std.proofs.Common.{◌≡◌, None, sym, subst, ◌∙◌, arith}
+use Rattle.std.proofs.Common.{◌≡◌, None, ap, sym, subst, ◌∙◌, arith}
+use Rattle.std.specs.Prelude.{option_map}
+use Rattle.csdf_core.specs.Moves.{Begin}
+use Rattle.csdf_core.specs.Step.{refusal}
+use Rattle.csdf_floor.specs.declared.fault.StartFault.TheVariants.{Refused}
 use Rattle.csdf_core.proofs.Booked.{can_begin}
 use Rattle.csdf_floor.specs.Floor.{FloorView, start_refusal}
-use Rattle.csdf_floor.proofs.Floors.{MayStart, may_start}
+use Rattle.csdf_floor.proofs.Floors.{MayStart, accepted_of, may_start}
 use Rattle.csdf_floor.proofs.MadeFloors.{between_made, not_over}
 use Rattle.csdf_floor.proofs.floor.Floor.make_with.Goals as goal
 
 pub invariant_of-self-2 : goal.invariant_of-self-2
 invariant_of-self-2 c =
-    let none : start_refusal c.args.self.now c.args.actor c.args.firing ≡ None = sym c.start_refusal.ensures ∙ c.in_default.is in
-    let may : MayStart c.self.inside.book.shown c.args.actor c.args.firing = subst (λ (f : FloorView). MayStart f c.args.actor c.args.firing)
-    (sym c.self.view_is) (may_start c.args.self.now c.args.actor c.args.firing none) in
+    let accepted : refusal c.self.inside.book.shown.core.plan c.self.inside.book.shown.core.now (Begin c.args.actor) ≡ None =
+    accepted_of _ c.in_ok-n.n c.in_ok-n.ensures.answer in
+    let none : start_refusal c.self.inside.book.shown c.args.actor c.args.firing ≡ None =
+    (rw (← c.self.view_is) at (c.place_fault.ensures.none c.in_default.is)) ∙ ap (option_map Refused) accepted in
+    let may : MayStart c.self.inside.book.shown c.args.actor c.args.firing = may_start c.self.inside.book.shown c.args.actor c.args.firing none in
     let can = can_begin c.self.inside.book.shown.core.plan c.self.inside.book.shown.core.now c.args.actor may.accepted in
     between_made c.self.inside.book.shown c.make_many_from.new.self.shown c.close_outputs.new.self.shown c.args.actor c.in_ok-n.n _
     c.self.invariant can.idle (not_over c.self.inside.book.shown.core.plan c.self.inside.book.shown.core.now c.args.actor may.accepted)

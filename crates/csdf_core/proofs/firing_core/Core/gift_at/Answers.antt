@@ -1,0 +1,13 @@
+use Rattle.std.proofs.Common.{subst, ◌∙◌}
+use Rattle.csdf_core.specs.Inside.{now_in}
+use Rattle.csdf_core.specs.Phases.{HasPhases}
+use Rattle.csdf_core.specs.Step.{count}
+use Rattle.csdf_core.proofs.OnePhase.{same_gift}
+use Rattle.csdf_core.proofs.firing_core.Core.gift_at.Goals as goal
+
+pub returns-then-phases-eq1-clause-value : goal.returns-then-phases-eq1-clause-value
+returns-then-phases-eq1-clause-value c =
+    let has = subst (HasPhases c.self.inside.plan.channels c.args.actor) c.if-phases-eq1.true c.phases.ensures.phases in
+    let gives = rw (← c.self.view_is) at c.gives.ensures.sum in
+    rw (← c.self.view_is)
+    (gives ∙ same_gift c.self.inside.plan.channels c.args.actor has (count (now_in c.self.inside) c.args.actor) c.args.turn.firing)

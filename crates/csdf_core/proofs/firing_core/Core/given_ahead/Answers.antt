@@ -1,0 +1,14 @@
+use Rattle.std.proofs.Common.{◌≡◌, ◌*◌, ℕ, ap₂, subst, sym, ◌∙◌, arith}
+use Rattle.csdf_core.specs.Blocks.{gifts_of}
+use Rattle.csdf_core.specs.Inside.{now_in}
+use Rattle.csdf_core.specs.Phases.{HasPhases}
+use Rattle.csdf_core.specs.Step.{count}
+use Rattle.csdf_core.proofs.OnePhase.{gifts_times}
+use Rattle.csdf_core.proofs.firing_core.Core.given_ahead.Goals as goal
+
+pub returns-then-phases-eq1-clause-value : goal.returns-then-phases-eq1-clause-value
+returns-then-phases-eq1-clause-value c =
+    let has = subst (HasPhases c.self.inside.plan.channels c.args.actor) c.if-phases-eq1.true c.phases.ensures.phases in
+    let gives = rw (← c.self.view_is) at c.gives.ensures.sum in
+    rw (← c.self.view_is) (ap₂ (λ (x y : ℕ). x * y) c.from.ensures gives
+    ∙ sym (gifts_times c.self.inside.plan.channels c.args.actor has (count (now_in c.self.inside) c.args.actor) c.args.n))

@@ -1,0 +1,146 @@
+//! What the next firings of an actor take and give in all.
+//!
+//! Most actors have one phase: each of their firings takes and gives as much as the next one does, so
+//! that nothing is looked up or added up.
+
+ghost use Rattle.std.specs.Prelude.{ℕ, ◌≡◌, ◌+◌, ◌*◌, ◌<◌, ◌≤◌, None, length};
+ghost use Rattle.csdf_core.specs.Blocks.{needs_of, gifts_of};
+ghost use Rattle.csdf_core.specs.Phases.{IsInPhase};
+ghost use Rattle.csdf_core.specs.Rows.{need, gift};
+
+use crate::firing_core::Core;
+use crate::plan::Plan;
+use crate::transfer::{gift_of, need_of};
+use crate::turn::{Turn, turn_after};
+use csdf_model::{MAX_FIRINGS_PER_ACTOR, MAX_PHASES, MAX_TOKENS_PER_FIRING, MAX_TOTAL_PER_FIRING};
+
+/// How many tokens n firings take in all, from this one on.
+fn taken_in_all(plan: &Plan, actor: u32, turn: Turn, n: u32) -> u64
+    requires actor { actor < length plan.now.sources }
+    requires few { turn.firing + n ≤ MAX_FIRINGS_PER_ACTOR }
+    ensures { result ≡ needs_of plan.now.channels actor turn.firing n }
+{
+    let inputs = plan.inputs(actor);
+    let mut sum = 0;
+    for channel in inputs {
+        sum += plan.taken(*channel, turn.firing, n);
+    }
+    sum
+}
+
+/// How many tokens n firings give in all, from this one on.
+fn given_in_all(plan: &Plan, actor: u32, turn: Turn, n: u32) -> u64
+    requires actor { actor < length plan.now.sources }
+    requires few { turn.firing + n ≤ MAX_FIRINGS_PER_ACTOR }
+    ensures value { result ≡ gifts_of plan.now.channels actor turn.firing n }
+    ensures small { result ≤ MAX_TOTAL_PER_FIRING * n }
+{
+    plan.gives_few();
+    let outputs = plan.outputs(actor);
+    let mut sum = 0;
+    for channel in outputs {
+        sum += plan.given(*channel, turn.firing, n);
+    }
+    sum
+}
+
+impl Core {
+    ghost use Rattle.csdf_core.specs.Plan.{from_at};
+    ghost use Rattle.csdf_core.specs.Ports.{give_at};
+    ghost use Rattle.csdf_core.specs.Step.{count, refusal};
+    ghost use Rattle.csdf_core.specs.Blocks.{CanFire};
+    ghost use Rattle.csdf_core.specs.Feedback.{CanGoOn, KeepsState};
+    ghost use Rattle.csdf_core.specs.Moves.{Begin};
+
+    /// How many tokens the actor's next n firings take in all.
+    #[inline(always)]
+    pub(crate) fn needed_ahead(&self, actor: u32, n: u32) -> u64
+        requires actor { actor < length self.now.plan.sources }
+        requires few { count self.now.now actor + n ≤ MAX_FIRINGS_PER_ACTOR }
+        ensures { result ≡ needs_of self.now.plan.channels actor (count self.now.now actor) n }
+    {
+        if self.plan.phases(actor) == 1 {
+            return u64::from(n) * self.need(actor) as u64;
+        }
+        taken_in_all(&self.plan, actor, self.turn(actor), n)
+    }
+
+    /// How many tokens the actor's next n firings give in all.
+    #[inline(always)]
+    pub(crate) fn given_ahead(&self, actor: u32, n: u32) -> u64
+        requires actor { actor < length self.now.plan.sources }
+        requires few { count self.now.now actor + n ≤ MAX_FIRINGS_PER_ACTOR }
+        ensures value { result ≡ gifts_of self.now.plan.channels actor (count self.now.now actor) n }
+        ensures small { result ≤ MAX_TOTAL_PER_FIRING * n }
+    {
+        if self.plan.phases(actor) == 1 {
+            return u64::from(n) * self.gives(actor) as u64;
+        }
+        given_in_all(&self.plan, actor, self.turn(actor), n)
+    }
+
+    /// How many tokens the actor's firing takes.
+    #[inline(always)]
+    pub fn need_at(&self, actor: u32, turn: Turn) -> usize
+        requires actor { actor < length self.now.plan.sources }
+        requires in_phase { IsInPhase self.now.plan.channels actor turn.firing turn.phase }
+        ensures value { result ≡ need actor turn.firing self.now.plan.channels }
+        ensures small { result ≤ MAX_TOTAL_PER_FIRING }
+    {
+        if self.plan.phases(actor) == 1 {
+            return self.need(actor);
+        }
+        need_of(&self.plan, actor, turn)
+    }
+
+    /// How many tokens the actor's firing gives.
+    #[inline(always)]
+    pub fn gift_at(&self, actor: u32, turn: Turn) -> usize
+        requires actor { actor < length self.now.plan.sources }
+        requires in_phase { IsInPhase self.now.plan.channels actor turn.firing turn.phase }
+        ensures value { result ≡ gift actor turn.firing self.now.plan.channels }
+        ensures small { result ≤ MAX_TOTAL_PER_FIRING }
+    {
+        if self.plan.phases(actor) == 1 {
+            return self.gives(actor);
+        }
+        gift_of(&self.plan, actor, turn)
+    }
+
+    /// How many tokens the actor's firing puts into this output.
+    #[inline]
+    pub fn gives_at(&self, actor: u32, channel: u32, turn: Turn) -> u32
+        requires channel { channel < length self.now.plan.channels }
+        requires own { from_at self.now.plan.channels channel ≡ actor }
+        requires in_phase { IsInPhase self.now.plan.channels actor turn.firing turn.phase }
+        ensures value { result ≡ give_at self.now.plan.channels turn.firing channel }
+        ensures small { result ≤ MAX_TOKENS_PER_FIRING }
+    {
+        self.plan.gives(channel, turn)
+    }
+
+    /// The firing after this one.
+    #[inline]
+    pub fn turn_after(&self, actor: u32, turn: Turn) -> Turn
+        requires actor { actor < length self.now.plan.sources }
+        requires in_phase { IsInPhase self.now.plan.channels actor turn.firing turn.phase }
+        requires low { turn.phase < MAX_PHASES }
+        requires few { turn.firing ≤ MAX_FIRINGS_PER_ACTOR }
+        ensures firing { result.firing ≡ turn.firing + 1 }
+        ensures in_phase { IsInPhase self.now.plan.channels actor result.firing result.phase }
+        ensures low { result.phase < MAX_PHASES }
+    {
+        turn_after(&self.plan, actor, turn)
+    }
+
+    /// A law: an actor that can make its next firing at once, alone or with those after it, may begin it.
+    /// The call does nothing.
+    pub fn begins(&self, actor: u32)
+        ensures fires { (n : ℕ) → 0 < n → CanFire self.now.plan self.now.now actor n
+            → refusal self.now.plan self.now.now (Begin actor) ≡ None }
+        ensures goes_on { (own n : ℕ) → 0 < n → KeepsState self.now.plan actor own → CanGoOn self.now.plan self.now.now actor own n
+            → refusal self.now.plan self.now.now (Begin actor) ≡ None }
+    {
+        let _plan = &self.plan;
+    }
+}
