@@ -21,7 +21,6 @@ use std::marker::Model;
 /// A machine whose moves are those of firings, over one pool of cells that all channels share.
 ///
 /// A refused move changes nothing. Tokens that were read are not kept.
-#[derive(Drop)]
 pub struct Core {
     pub(crate) plan: Plan,
     pub(crate) counts: Vec<u32>,
@@ -37,6 +36,25 @@ pub struct Core {
     pub(crate) started: u64,
     pub(crate) reserved: u64,
     pub(crate) pool: Pool,
+}
+
+impl Drop for Core {
+    fn drop(self) {
+        let Core {
+            plan: _,
+            counts: _,
+            phases: _,
+            needs: _,
+            gifts: _,
+            stages: _,
+            opens: _,
+            sums: _,
+            peaks: _,
+            started: _,
+            reserved: _,
+            pool: _,
+        } = self;
+    }
 }
 
 impl Model for Core {

@@ -112,5 +112,6 @@ pub fn play(
 {
     let mut core = Core::new(alloc, accepted, limits, supply, firings)?;
     let replies = play_on(&mut core, alloc, moves)?;
+    let _plan = &core.plan;
     Ok(Played { core, replies })
 }

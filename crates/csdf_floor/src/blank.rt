@@ -1,6 +1,6 @@
 //! What a floor begins with.
 
-ghost use Rattle.std.specs.Prelude.{◌≡◌, ◌*◌, ◌≤◌, [], All, IfOk, length, map};
+ghost use Rattle.std.specs.Prelude.{◌≡◌, ◌*◌, ◌≤◌, [], All, IfOk, length, map, replicate};
 ghost use Rattle.csdf_core.specs.Plan.{Channel as ChannelModel};
 ghost use Rattle.csdf_core.specs.Shows.{Shows};
 ghost use Rattle.csdf_core.specs.State.{opening};
@@ -124,6 +124,16 @@ fn loops_of(alloc: Global, graph: &Graph) -> Result<Vec<bool>, AllocError> {
     Ok(loops)
 }
 
+/// What the sinks of so many actors took, and what the actors read: nothing.
+fn no_tokens(alloc: Global, actors: u32) -> Result<(Lists, Vec<Vec<i32>>), AllocError>
+    ensures sinks { IfOk result (λ lists. lists.0.lists ≡ replicate actors []) }
+    ensures reads { IfOk result (λ lists. length lists.1.items ≡ actors) }
+{
+    let sinks = Lists::new(alloc, actors)?;
+    let reads = no_reads(alloc, actors)?;
+    Ok((sinks, reads))
+}
+
 /// The parts of a book of this core, which has not moved.
 fn parts_of(
     alloc: Global,
@@ -138,8 +148,7 @@ fn parts_of(
 {
     let feedbacks = feedbacks_of(alloc, &core)?;
     let journal = empty_journal(alloc, keeping, core.channels() as usize)?;
-    let sinks = Lists::new(alloc, core.actors())?;
-    let reads = no_reads(alloc, core.actors())?;
+    let (sinks, reads) = no_tokens(alloc, core.actors())?;
     Ok(Blank {
         core,
         feedbacks,
