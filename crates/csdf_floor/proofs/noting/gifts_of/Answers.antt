@@ -1,7 +1,6 @@
 use Rattle.std.proofs.Common.{◌+◌, ℕ, ◌≡◌, List, ap, ◌∙◌, arith}
 use Rattle.csdf_core.specs.Plan.{Channel}
 use Rattle.csdf_core.specs.Rows.{gift}
-use Rattle.csdf_core.specs.Step.{count}
 use Rattle.csdf_floor.proofs.Notings.{gifts_on}
 use Rattle.csdf_floor.proofs.noting.gifts_of.Goals as goal
 

@@ -1,5 +1,4 @@
-use Rattle.std.proofs.Common.{◌≡◌, ◌*◌, ℕ, ap₂, subst, sym, ◌∙◌, arith}
-use Rattle.csdf_core.specs.Blocks.{gifts_of}
+use Rattle.std.proofs.Common.{◌*◌, ℕ, ap₂, subst, sym, ◌∙◌}
 use Rattle.csdf_core.specs.Inside.{now_in}
 use Rattle.csdf_core.specs.Phases.{HasPhases}
 use Rattle.csdf_core.specs.Step.{count}

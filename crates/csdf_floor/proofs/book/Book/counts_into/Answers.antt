@@ -2,7 +2,6 @@ use Rattle.csdf_floor.specs.Work.{program}
 use Rattle.csdf_floor.proofs.Makings.{on_ok}
 use Rattle.csdf_floor.proofs.Works.{counted}
 use Rattle.std.proofs.Common.{ap, ◌∙◌}
-use Rattle.csdf_core.specs.Step.{count}
 use Rattle.csdf_floor.specs.Journal.{output_counts}
 use Rattle.csdf_floor.proofs.book.Book.counts_into.Goals as goal
 

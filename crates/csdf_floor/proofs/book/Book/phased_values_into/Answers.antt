@@ -1,10 +1,10 @@
-use Rattle.std.proofs.Common.{◌≡◌, ◌+◌, ◌≤◌, ◌++◌, ℕ, List, [], length, get_or, ap, ap₂, subst, sym, ◌∙◌}
+use Rattle.std.proofs.Common.{◌≡◌, ◌++◌, ℕ, List, [], length, get_or, ap, subst, sym, ◌∙◌}
 use Rattle.std.specs.Prelude.{ℤ}
 use Rattle.csdf_core.specs.Blocks.{CanFire, gifts_of, needs_of}
 use Rattle.csdf_core.specs.Plan.{Plan}
 use Rattle.csdf_core.specs.Step.{count}
 use Rattle.csdf_floor.specs.Journal.{Program}
-use Rattle.csdf_floor.specs.Making.{amounts_of, made_value, phase_values}
+use Rattle.csdf_floor.specs.Making.{made_value, phase_values}
 use Rattle.csdf_floor.specs.Work.{feeds_in, program}
 use Rattle.csdf_floor.proofs.Makings.{on_ok}
 use Rattle.csdf_floor.proofs.PhaseValues.{AreInputs, block_long, block_short, block_values, few_numbers, none_written}

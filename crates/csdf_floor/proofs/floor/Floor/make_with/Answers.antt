@@ -1,11 +1,11 @@
 use Rattle.std.proofs.lemmas.Grind.{common_steps}
-use Rattle.std.proofs.Common.{◌≡◌, None, ap, sym, subst, ◌∙◌, arith}
+use Rattle.std.proofs.Common.{◌≡◌, None, ap, ◌∙◌, arith}
 use Rattle.std.specs.Prelude.{option_map}
 use Rattle.csdf_core.specs.Moves.{Begin}
 use Rattle.csdf_core.specs.Step.{refusal}
 use Rattle.csdf_floor.specs.declared.fault.StartFault.TheVariants.{Refused}
 use Rattle.csdf_core.proofs.Booked.{can_begin}
-use Rattle.csdf_floor.specs.Floor.{FloorView, start_refusal}
+use Rattle.csdf_floor.specs.Floor.{start_refusal}
 use Rattle.csdf_floor.proofs.Floors.{MayStart, accepted_of, may_start}
 use Rattle.csdf_floor.proofs.MadeFloors.{between_made, not_over}
 use Rattle.csdf_floor.proofs.floor.Floor.make_with.Goals as goal
