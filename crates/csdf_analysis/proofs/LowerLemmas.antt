@@ -53,6 +53,9 @@ first_initial g q whole i c is =
     subst (λ b. length c.initial ≤ b) (sym (bound_at (first_bound q) g.channels i c is))
     (fits_capacity c.capacity c (full_capacity q c) (at (IsChannel g.actors) g.channels i c whole.fitting.channels is).capacity (omega arith))
 
+pub full_initial : (channels : List Channel) (q : List ℕ) → HoldInitial channels (full_capacities q channels)
+full_initial channels q i c is = subst (λ b. length c.initial ≤ b) (sym (bound_at (full_capacity q) channels i c is)) (omega arith)
+
 -- capacities that agree with the given ones complete a period only where the first bounds do
 first_completes : (channels : List Channel) (q w : List ℕ) → CompletesPeriod channels q w → Agrees channels w
     → CompletesPeriod channels q (first_bounds q channels)

@@ -16,11 +16,20 @@ use std::marker::Model;
 
 /// A graph with the firings of each actor in a period, and the actors that a firing of each may
 /// make able.
-#[derive(Drop)]
 pub(crate) struct Net<'a> {
     graph: &'a Graph,
     firings: &'a [u32],
     neighbours: Vec<u64>,
+}
+
+impl Drop for Net<'_> {
+    fn drop(self) {
+        let Net {
+            graph: _,
+            firings: _,
+            neighbours: _,
+        } = self;
+    }
 }
 
 impl<'a> Model for Net<'a> {

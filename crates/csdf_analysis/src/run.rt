@@ -11,18 +11,30 @@ ghost use Rattle.csdf_analysis.specs.Running.{CanComplete, HasRoom, HasTokens, I
 
 use crate::mask::{lowest, without_actor};
 use crate::net::Net;
+use crate::stall::{Stall, Wait};
 use csdf_model::MAX_CAPACITY;
 use std::alloc::{AllocError, Global};
 
 /// Where a run stands: the capacities that bound it, how often each actor has fired and in which
 /// phase it is, how many tokens each channel holds, and the number of all firings so far.
-#[derive(Drop)]
 pub(crate) struct Run {
     pub(crate) bounds: Vec<u32>,
     pub(crate) counts: Vec<u32>,
     phases: Vec<u32>,
     pub(crate) lengths: Vec<u32>,
     pub(crate) firings: u32,
+}
+
+impl Drop for Run {
+    fn drop(self) {
+        let Run {
+            bounds: _,
+            counts: _,
+            phases: _,
+            lengths: _,
+            firings: _,
+        } = self;
+    }
 }
 
 /// How many tokens each channel begins with.
@@ -284,5 +296,24 @@ impl Run {
         let producer = net.channel(number).from;
         self.bounds[number as usize] = self.filled(net, number);
         self.step(net, producer, waiting);
+    }
+
+    /// Where the run stands, with what its actors wait for there.
+    pub(crate) fn into_stall(self, waits: Vec<Option<Wait>>) -> Stall
+        ensures { result ≡ record { bounds = self.bounds; counts = self.counts; held = self.lengths; waits = waits } }
+    {
+        let Run {
+            bounds,
+            counts,
+            phases: _,
+            lengths,
+            firings: _,
+        } = self;
+        Stall {
+            bounds,
+            counts,
+            held: lengths,
+            waits,
+        }
     }
 }

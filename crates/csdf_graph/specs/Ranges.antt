@@ -9,6 +9,7 @@ use Rattle.csdf_model.specs.declared.limits.TheConstants.{MAX_INITIAL_TOKENS, MA
 use Rattle.csdf_model.specs.declared.parts.Kernel.{Kernel}
 use Rattle.csdf_model.specs.declared.parts.Kernel.TheVariants as kernel
 use Rattle.csdf_graph.specs.declared.ranges.RangedChannel.{RangedChannel as RangedCode}
+use Rattle.csdf_graph.specs.declared.ranges.RangedLists.{RangedLists as ListsCode}
 use Rattle.csdf_graph.specs.declared.ranges.Ranged.{Ranged as FileCode}
 use Rattle.csdf_model.specs.Graph.{Actor, actor_view}
 use Rattle.csdf_graph.specs.Shape.{KernelDraft, source, sink, copy, sum, fir, ActorDraft, ChannelDraft, Draft}
@@ -81,6 +82,22 @@ tokens_within zs = if nat_le (length zs) MAX_INITIAL_TOKENS then all_some (signe
 abbrev pub capacity_within : ℕ → Option ℤ → Option (Option ℕ)
 capacity_within held None = Some None
 capacity_within held (Some z) = option_map Some (number_within (max 1 held) MAX_CAPACITY z)
+
+-- the lists of a channel, in range
+pub record RangedLists : Type 0 where
+  pub produce : List ℕ
+  pub consume : List ℕ
+  pub initial : List ℤ
+
+abbrev pub lists_view : ListsCode → RangedLists
+lists_view l = record { produce = l.produce.items; consume = l.consume.items; initial = l.initial.items }
+
+unfoldable pub lists_within : ChannelDraft → Option RangedLists
+lists_within d = do
+  produce ← rates_within d.produce
+  consume ← rates_within d.consume
+  initial ← tokens_within d.initial
+  Some (record { produce = produce; consume = consume; initial = initial })
 
 unfoldable pub channel_within : ChannelDraft → Option RangedChannel
 channel_within d = do

@@ -9,6 +9,7 @@ use Rattle.csdf_graph.specs.declared.shape.KernelDraft.{KernelDraft as KernelCod
 use Rattle.csdf_graph.specs.declared.shape.KernelDraft.TheVariants as code
 use Rattle.csdf_graph.specs.declared.shape.ActorDraft.{ActorDraft as ActorCode}
 use Rattle.csdf_graph.specs.declared.shape.ChannelDraft.{ChannelDraft as ChannelCode}
+use Rattle.csdf_graph.specs.declared.shape.ChannelLists.{ChannelLists as ListsCode}
 use Rattle.csdf_graph.specs.declared.shape.FileTables.{FileTables}
 use Rattle.csdf_graph.specs.declared.shape.Draft.{Draft as DraftCode}
 use Rattle.toml.specs.View.{table_view}
@@ -91,6 +92,22 @@ channel_view d = record {
 
 abbrev pub channel_keys : List (List ℕ)
 channel_keys = codes "name" ∷ codes "from" ∷ codes "to" ∷ codes "produce" ∷ codes "consume" ∷ codes "initial" ∷ codes "capacity" ∷ []
+
+-- the lists of a channel
+pub record ChannelLists : Type 0 where
+  pub produce : List ℤ
+  pub consume : List ℤ
+  pub initial : List ℤ
+
+abbrev pub lists_view : ListsCode → ChannelLists
+lists_view l = record { produce = l.produce.items; consume = l.consume.items; initial = l.initial.items }
+
+unfoldable pub lists_of : Members → Option ChannelLists
+lists_of ms = do
+  produce ← integers_at (codes "produce") ms
+  consume ← integers_at (codes "consume") ms
+  initial ← integers_or_none (codes "initial") ms
+  Some (record { produce = produce; consume = consume; initial = initial })
 
 unfoldable pub channel_of : Members → Option ChannelDraft
 channel_of ms = if has_only channel_keys ms then (do

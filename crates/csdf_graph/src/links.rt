@@ -33,8 +33,12 @@ fn linked(
     requires { length names.now.keys ≤ MAX_ACTORS }
     ensures { Reads channel_view result (linked (map string_bytes names.now.keys) (ranged_view channel.entry)) }
 {
-    let from = end_of(names, channel.from).ok_or(Misfit::Fault)?;
-    let to = end_of(names, channel.to).ok_or(Misfit::Fault)?;
+    let Some(from) = end_of(names, channel.from) else {
+        return Err(Misfit::Fault);
+    };
+    let Some(to) = end_of(names, channel.to) else {
+        return Err(Misfit::Fault);
+    };
     Ok(Channel {
         name: String::from_str(alloc, channel.name)?,
         from,

@@ -62,20 +62,38 @@ fn is_free(name: &str, taken: &IndexSet<String>) -> bool
     is_name(name) && !taken.contains(name)
 }
 
+/// Names that differ, each with its place as its number.
+pub(crate) struct Names {
+    pub(crate) numbers: IndexSet<String>,
+}
+
+impl Drop for Names {
+    fn drop(self) {
+        let Names { numbers: _ } = self;
+    }
+}
+
+impl Names {
+    pub(crate) fn into_numbers(self) -> IndexSet<String>
+        ensures { result ≡ self.numbers }
+    {
+        let Names { numbers } = self;
+        numbers
+    }
+}
+
 /// The names in order, so that each has its place as its number.
-pub(crate) fn numbered(
-    alloc: Global,
-    kind: Kind,
-    names: &[&str],
-) -> Result<IndexSet<String>, GraphFault>
-    ensures { Gives (λ s. map string_bytes s.keys) result (names_of kind (map (λ n. n.now) names.now)) }
+pub(crate) fn numbered(alloc: Global, kind: Kind, names: &[&str]) -> Result<Names, GraphFault>
+    ensures { Gives (λ n. map string_bytes n.numbers.keys) result (names_of kind (map (λ n. n.now) names.now)) }
 {
-    let mut numbers = IndexSet::new(alloc);
+    let mut taken = Names {
+        numbers: IndexSet::new(alloc),
+    };
     for (place, name) in names.iter().enumerate() {
-        if !is_free(name, &numbers) {
+        if !is_free(name, &taken.numbers) {
             return Err(GraphFault::Name(kind.at(fault_place(place))));
         }
-        numbers.insert(String::from_str(alloc, name)?)?;
+        taken.numbers.insert(String::from_str(alloc, name)?)?;
     }
-    Ok(numbers)
+    Ok(taken)
 }

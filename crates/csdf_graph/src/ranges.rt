@@ -6,7 +6,7 @@ ghost use Rattle.csdf_graph.specs.Tree.{all_some};
 ghost use Rattle.csdf_model.specs.Graph.{actor_view};
 ghost use Rattle.csdf_graph.specs.Shape.{kernel_view, actor_view as draft_of_actor, channel_view as draft_of_channel, draft_view};
 ghost use Rattle.csdf_graph.specs.Ranges.{number_within, signed_within, weights_within, kernel_within, actor_within, tokens_within, capacity_within};
-ghost use Rattle.csdf_graph.specs.Ranges.{initial_count, cells_within, channel_within, ranged_view, ranged_actor, ranged_channel, file_view, range_of};
+ghost use Rattle.csdf_graph.specs.Ranges.{initial_count, cells_within, lists_view, lists_within, channel_within, ranged_view, ranged_actor, ranged_channel, file_view, range_of};
 
 use crate::fault::{At, GraphFault, Misfit, answer_of, fault_place};
 use crate::shape::{ActorDraft, ChannelDraft, Draft, KernelDraft};
@@ -133,8 +133,12 @@ fn kernel_within(draft: &KernelDraft) -> Option<Kernel>
 fn actor_within(alloc: Global, draft: &ActorDraft<'_>) -> Result<Actor, Misfit>
     ensures { Reads actor_view result (actor_within (draft_of_actor draft.now)) }
 {
-    let kernel = kernel_within(&draft.kernel).ok_or(Misfit::Fault)?;
-    let phases = number_within(1, MAX_PHASES, draft.phases).ok_or(Misfit::Fault)?;
+    let Some(kernel) = kernel_within(&draft.kernel) else {
+        return Err(Misfit::Fault);
+    };
+    let Some(phases) = number_within(1, MAX_PHASES, draft.phases) else {
+        return Err(Misfit::Fault);
+    };
     let name = String::from_str(alloc, draft.name)?;
     Ok(Actor {
         name,
@@ -187,22 +191,50 @@ fn capacity_within(held: usize, capacity: Option<i64>) -> Option<Option<u32>>
     }
 }
 
-#[tactic(auto, unfolding(crate::specs::Ranges::channel_within))]
+/// The lists of a channel, in range.
+#[derive(Drop)]
+struct RangedLists {
+    produce: Vec<u32>,
+    consume: Vec<u32>,
+    initial: Vec<i32>,
+}
+
+#[tactic(auto, unfolding(crate::specs::Ranges::lists_within))]
+fn lists_within(alloc: Global, draft: &ChannelDraft<'_>) -> Result<RangedLists, Misfit>
+    ensures { Reads lists_view result (lists_within (draft_of_channel draft.now)) }
+{
+    let most = MAX_TOKENS_PER_FIRING;
+    let Some(produce) = numbers_within(alloc, 0, most, &draft.produce)? else {
+        return Err(Misfit::Fault);
+    };
+    let Some(consume) = numbers_within(alloc, 0, most, &draft.consume)? else {
+        return Err(Misfit::Fault);
+    };
+    let Some(initial) = tokens_within(alloc, &draft.initial)? else {
+        return Err(Misfit::Fault);
+    };
+    Ok(RangedLists {
+        produce,
+        consume,
+        initial,
+    })
+}
+
+#[tactic(auto, unfolding(crate::specs::Ranges::channel_within, crate::specs::Ranges::lists_within))]
 fn channel_within<'a>(alloc: Global, draft: &ChannelDraft<'a>) -> Result<RangedChannel<'a>, Misfit>
     ensures { Reads ranged_view result (channel_within (draft_of_channel draft.now)) }
 {
-    let capacity = capacity_within(draft.initial.len(), draft.capacity).ok_or(Misfit::Fault)?;
-    let most = MAX_TOKENS_PER_FIRING;
-    let produce = numbers_within(alloc, 0, most, &draft.produce)?.ok_or(Misfit::Fault)?;
-    let consume = numbers_within(alloc, 0, most, &draft.consume)?.ok_or(Misfit::Fault)?;
-    let initial = tokens_within(alloc, &draft.initial)?.ok_or(Misfit::Fault)?;
+    let Some(capacity) = capacity_within(draft.initial.len(), draft.capacity) else {
+        return Err(Misfit::Fault);
+    };
+    let lists = lists_within(alloc, draft)?;
     Ok(RangedChannel {
         name: draft.name,
         from: draft.from,
         to: draft.to,
-        produce,
-        consume,
-        initial,
+        produce: lists.produce,
+        consume: lists.consume,
+        initial: lists.initial,
         capacity,
     })
 }

@@ -15,7 +15,7 @@ use crate::checks::{check_phase_lengths, check_ports, check_rates};
 use crate::connected::is_connected;
 use crate::fault::GraphFault;
 use crate::links::linked_channels;
-use crate::names::{Kind, numbered};
+use crate::names::{Kind, Names, numbered};
 use crate::ranges::{Ranged, range_of};
 use crate::shape::{ActorDraft, ChannelDraft, Draft, draft_of};
 use csdf_model::{Actor, Channel, Graph, MAX_ACTORS};
@@ -36,16 +36,16 @@ fn channel_names<'a>(alloc: Global, drafts: &[ChannelDraft<'a>]) -> Result<Vec<&
 }
 
 #[tactic(auto, using(crate::proofs::ReadLemmas::map_map))]
-fn numbered_actors(alloc: Global, draft: &Draft<'_>) -> Result<IndexSet<String>, GraphFault>
-    ensures { Gives (λ s. map string_bytes s.keys) result (names_of kind.Actor (map (λ a. a.name) (draft_view draft.now).actors)) }
+fn numbered_actors(alloc: Global, draft: &Draft<'_>) -> Result<Names, GraphFault>
+    ensures { Gives (λ n. map string_bytes n.numbers.keys) result (names_of kind.Actor (map (λ a. a.name) (draft_view draft.now).actors)) }
 {
     let names = actor_names(alloc, &draft.actors)?;
     numbered(alloc, Kind::Actor, &names)
 }
 
 #[tactic(auto, using(crate::proofs::ReadLemmas::map_map))]
-fn numbered_channels(alloc: Global, draft: &Draft<'_>) -> Result<IndexSet<String>, GraphFault>
-    ensures { Gives (λ s. map string_bytes s.keys) result (names_of kind.Channel (map (λ c. c.name) (draft_view draft.now).channels)) }
+fn numbered_channels(alloc: Global, draft: &Draft<'_>) -> Result<Names, GraphFault>
+    ensures { Gives (λ n. map string_bytes n.numbers.keys) result (names_of kind.Channel (map (λ c. c.name) (draft_view draft.now).channels)) }
 {
     let names = channel_names(alloc, &draft.channels)?;
     numbered(alloc, Kind::Channel, &names)
@@ -84,8 +84,8 @@ fn parts_of(
 /// The parts of a graph, with the names that have become numbers.
 struct Named {
     parts: Parts,
-    actor_names: IndexSet<String>,
-    channel_names: IndexSet<String>,
+    actor_names: Names,
+    channel_names: Names,
 }
 
 impl Drop for Named {
@@ -102,13 +102,13 @@ impl Drop for Named {
 #[tactic(auto, unfolding(crate::specs::GraphText::unjoined_in))]
 fn named_parts(alloc: Global, file: &Table) -> Result<Named, GraphFault>
     ensures value { Gives (λ n. parts_view n.parts) result (unjoined_in (table_view file.now)) }
-    ensures kept { IfOk result (λ n. IsUnjoined (map string_bytes n.actor_names.keys) (map string_bytes n.channel_names.keys) (parts_view n.parts)) }
+    ensures kept { IfOk result (λ n. IsUnjoined (map string_bytes n.actor_names.numbers.keys) (map string_bytes n.channel_names.numbers.keys) (parts_view n.parts)) }
 {
     let draft = draft_of(alloc, file)?;
     let actor_names = numbered_actors(alloc, &draft)?;
     let channel_names = numbered_channels(alloc, &draft)?;
     let ranged = range_of(alloc, &draft)?;
-    let parts = parts_of(alloc, &actor_names, ranged)?;
+    let parts = parts_of(alloc, &actor_names.numbers, ranged)?;
     Ok(Named {
         parts,
         actor_names,
@@ -119,7 +119,7 @@ fn named_parts(alloc: Global, file: &Table) -> Result<Named, GraphFault>
 impl Named {
     /// The graph of the parts, where any two of its actors are joined.
     fn judged(self, alloc: Global) -> Result<Graph, GraphFault>
-        requires { IsUnjoined (map string_bytes self.actor_names.keys) (map string_bytes self.channel_names.keys) (parts_view self.parts) }
+        requires { IsUnjoined (map string_bytes self.actor_names.numbers.keys) (map string_bytes self.channel_names.numbers.keys) (parts_view self.parts) }
         ensures { Tells itself result (IsJudged (parts_view self.parts)) }
     {
         let parts = &self.parts;
@@ -136,7 +136,16 @@ impl Named {
             channels,
             cells,
         } = parts;
-        let graph = Graph::new(alloc, actors, channels, cells, actor_names, channel_names)?;
+        let actor_numbers = actor_names.into_numbers();
+        let channel_numbers = channel_names.into_numbers();
+        let graph = Graph::new(
+            alloc,
+            actors,
+            channels,
+            cells,
+            actor_numbers,
+            channel_numbers,
+        )?;
         Ok(graph)
     }
 }

@@ -38,10 +38,18 @@ fn draft_of(alloc: Global, table: &Table) -> Result<ScriptDraft<'_>, Misfit>
     if !has_only(table, &SCRIPT_KEYS) {
         return Err(Misfit::Fault);
     }
-    let limit = integer_or(DEFAULT_LIMIT, table, "limit").ok_or(Misfit::Fault)?;
-    let supply = integer_or(DEFAULT_SUPPLY, table, "supply").ok_or(Misfit::Fault)?;
-    let firings = optional_integer_at(table, "firings").ok_or(Misfit::Fault)?;
-    let lines = texts_or_none(alloc, table, "moves")?.ok_or(Misfit::Fault)?;
+    let Some(limit) = integer_or(DEFAULT_LIMIT, table, "limit") else {
+        return Err(Misfit::Fault);
+    };
+    let Some(supply) = integer_or(DEFAULT_SUPPLY, table, "supply") else {
+        return Err(Misfit::Fault);
+    };
+    let Some(firings) = optional_integer_at(table, "firings") else {
+        return Err(Misfit::Fault);
+    };
+    let Some(lines) = texts_or_none(alloc, table, "moves")? else {
+        return Err(Misfit::Fault);
+    };
     Ok(ScriptDraft {
         limit,
         supply,
@@ -95,9 +103,15 @@ fn owned(alloc: Global, texts: &[&str]) -> Result<Vec<String>, AllocError>
 fn script_within(alloc: Global, draft: &ScriptDraft<'_>) -> Result<Script, Misfit>
     ensures { Reads script_view result (script_within (draft_view draft.now)) }
 {
-    let limit = number_within(0, MAX_SCRIPT_LIMIT, draft.limit).ok_or(Misfit::Fault)?;
-    let supply = number_within(0, MAX_SCRIPT_SUPPLY, draft.supply).ok_or(Misfit::Fault)?;
-    let firings = optional_within(MAX_FIRINGS, draft.firings).ok_or(Misfit::Fault)?;
+    let Some(limit) = number_within(0, MAX_SCRIPT_LIMIT, draft.limit) else {
+        return Err(Misfit::Fault);
+    };
+    let Some(supply) = number_within(0, MAX_SCRIPT_SUPPLY, draft.supply) else {
+        return Err(Misfit::Fault);
+    };
+    let Some(firings) = optional_within(MAX_FIRINGS, draft.firings) else {
+        return Err(Misfit::Fault);
+    };
     if draft.lines.len() > MAX_SCRIPT_LINES {
         return Err(Misfit::Fault);
     }

@@ -2,7 +2,7 @@
 
 ghost use Rattle.std.specs.Prelude.{◌≡◌, map, option_map, IfOk};
 ghost use Rattle.toml.specs.View.{table_view};
-ghost use Rattle.csdf_graph.specs.Shape.{plain_kernel, kernel_of, kernel_view, actor_of, actor_view, actor_at, channel_of, channel_view, channel_at};
+ghost use Rattle.csdf_graph.specs.Shape.{plain_kernel, kernel_of, kernel_view, actor_of, actor_view, actor_at, lists_of, lists_view, channel_of, channel_view, channel_at};
 ghost use Rattle.csdf_graph.specs.Shape.{tables_of_file, tables_view, draft_of, draft_view};
 ghost use Rattle.csdf_graph.specs.Passes.{Gives, Reads, each};
 
@@ -130,27 +130,61 @@ const CHANNEL_KEYS: [&str; 7] = [
     "name", "from", "to", "produce", "consume", "initial", "capacity",
 ];
 
-#[tactic(auto, unfolding(crate::specs::Shape::channel_of))]
+/// The lists of a channel.
+#[derive(Drop)]
+struct ChannelLists {
+    produce: Vec<i64>,
+    consume: Vec<i64>,
+    initial: Vec<i64>,
+}
+
+#[tactic(auto, unfolding(crate::specs::Shape::lists_of))]
+fn lists_of(alloc: Global, table: &Table) -> Result<ChannelLists, Misfit>
+    ensures { Reads lists_view result (lists_of (table_view table.now)) }
+{
+    let Some(produce) = integers_at(alloc, table, "produce")? else {
+        return Err(Misfit::Fault);
+    };
+    let Some(consume) = integers_at(alloc, table, "consume")? else {
+        return Err(Misfit::Fault);
+    };
+    let Some(initial) = integers_or_none(alloc, table, "initial")? else {
+        return Err(Misfit::Fault);
+    };
+    Ok(ChannelLists {
+        produce,
+        consume,
+        initial,
+    })
+}
+
+#[tactic(auto, unfolding(crate::specs::Shape::channel_of, crate::specs::Shape::lists_of))]
 fn channel_of(alloc: Global, table: &Table) -> Result<ChannelDraft<'_>, Misfit>
     ensures { Reads channel_view result (channel_of (table_view table.now)) }
 {
     if !has_only(table, &CHANNEL_KEYS) {
         return Err(Misfit::Fault);
     }
-    let name = text_at(table, "name").ok_or(Misfit::Fault)?;
-    let from = text_at(table, "from").ok_or(Misfit::Fault)?;
-    let to = text_at(table, "to").ok_or(Misfit::Fault)?;
-    let capacity = optional_integer_at(table, "capacity").ok_or(Misfit::Fault)?;
-    let produce = integers_at(alloc, table, "produce")?.ok_or(Misfit::Fault)?;
-    let consume = integers_at(alloc, table, "consume")?.ok_or(Misfit::Fault)?;
-    let initial = integers_or_none(alloc, table, "initial")?.ok_or(Misfit::Fault)?;
+    let Some(name) = text_at(table, "name") else {
+        return Err(Misfit::Fault);
+    };
+    let Some(from) = text_at(table, "from") else {
+        return Err(Misfit::Fault);
+    };
+    let Some(to) = text_at(table, "to") else {
+        return Err(Misfit::Fault);
+    };
+    let Some(capacity) = optional_integer_at(table, "capacity") else {
+        return Err(Misfit::Fault);
+    };
+    let lists = lists_of(alloc, table)?;
     Ok(ChannelDraft {
         name,
         from,
         to,
-        produce,
-        consume,
-        initial,
+        produce: lists.produce,
+        consume: lists.consume,
+        initial: lists.initial,
         capacity,
     })
 }
@@ -193,11 +227,20 @@ fn channels_of<'a>(alloc: Global, tables: &[&'a Table]) -> Result<Vec<ChannelDra
 }
 
 /// The tables of a file, and its number of cells.
-#[derive(Drop)]
 struct FileTables<'a> {
     actors: Vec<&'a Table>,
     channels: Vec<&'a Table>,
     cells: Option<i64>,
+}
+
+impl Drop for FileTables<'_> {
+    fn drop(self) {
+        let FileTables {
+            actors: _,
+            channels: _,
+            cells: _,
+        } = self;
+    }
 }
 
 const FILE_KEYS: [&str; 4] = ["actor", "channel", "script", "cells"];
@@ -209,12 +252,18 @@ fn file_tables(alloc: Global, file: &Table) -> Result<FileTables<'_>, Misfit>
     if !has_only(file, &FILE_KEYS) {
         return Err(Misfit::Fault);
     }
-    let actors = tables_at(alloc, file, "actor")?.ok_or(Misfit::Fault)?;
-    let channels = tables_or_none(alloc, file, "channel")?.ok_or(Misfit::Fault)?;
-    let cells = optional_integer_at(file, "cells").ok_or(Misfit::Fault)?;
+    let Some(cells) = optional_integer_at(file, "cells") else {
+        return Err(Misfit::Fault);
+    };
     if value_at(file, "script").is_some_and(|script| !script.is_table()) {
         return Err(Misfit::Fault);
     }
+    let Some(actors) = tables_at(alloc, file, "actor")? else {
+        return Err(Misfit::Fault);
+    };
+    let Some(channels) = tables_or_none(alloc, file, "channel")? else {
+        return Err(Misfit::Fault);
+    };
     Ok(FileTables {
         actors,
         channels,

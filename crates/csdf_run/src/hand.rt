@@ -17,12 +17,22 @@ use std::marker::Model;
 /// and no other call lends out tokens to deliver than [`Hand::tokens`]. A contract sees the job and
 /// whether it was made: the job determines the outputs. Beside it there is a draft of firings that are
 /// made at once, which the floor looks at again before it makes them.
-#[derive(Drop)]
 pub(crate) struct Hand {
     job: Job,
     outputs: Outputs,
     draft: Draft,
     is_made: bool,
+}
+
+impl Drop for Hand {
+    fn drop(self) {
+        let Hand {
+            job: _,
+            outputs: _,
+            draft: _,
+            is_made: _,
+        } = self;
+    }
 }
 
 impl Model for Hand {

@@ -54,10 +54,5 @@ pub fn stall_of(
     let mut waiting = all(net.actors());
     run.go_on(&net, &mut waiting);
     let waits = waits_of(alloc, &net, &run)?;
-    Ok(Stall {
-        bounds: run.bounds,
-        counts: run.counts,
-        held: run.lengths,
-        waits,
-    })
+    Ok(run.into_stall(waits))
 }

@@ -1,12 +1,11 @@
-use Rattle.std.proofs.Common.{arith, List, ℕ, subst, sym, ap, ◌∙◌, ◌≡◌}
+use Rattle.std.proofs.Common.{arith, List, ℕ, subst, sym, ◌∙◌}
 use Rattle.std.proofs.lemmas.Grind.{common_steps}
 use Rattle.std.proofs.lemmas.Bool.{false≢true}
-use Rattle.csdf_model.specs.Graph.{Channel}
 use Rattle.csdf_analysis.specs.Acceptance.{IsAccepted}
 use Rattle.csdf_analysis.specs.Period.{HoldInitial, CompletesPeriod}
 use Rattle.csdf_analysis.specs.Capacities.{full_capacities}
 use Rattle.csdf_analysis.specs.Room.{capacities_with_room, with_room}
-use Rattle.csdf_analysis.proofs.LowerLemmas.{within_at, room_at, same_list}
+use Rattle.csdf_analysis.proofs.LowerLemmas.{within_at, room_at, full_initial, same_list}
 use Rattle.csdf_analysis.proofs.RoomyLemmas.{accepted_in_room, deadlocked, room_initial, tight_in_room}
 use Rattle.csdf_analysis.proofs.room.capacities_in_room.Goals as goal
 
@@ -71,3 +70,27 @@ completes-requires-clause-each_channel c = grind (arith, common_steps)
 
 pub completes-requires-2-clause-each_channel : goal.completes-requires-2-clause-each_channel
 completes-requires-2-clause-each_channel c = grind (arith, common_steps)
+
+pub completes-requires-clause-vector : goal.completes-requires-clause-vector
+completes-requires-clause-vector c = c.requires.vector
+
+pub completes-requires-clause-initial : goal.completes-requires-clause-initial
+completes-requires-clause-initial c =
+    let channels = c.args.graph.now.channels in
+    let full = c.in_ok-full.ensures ∙ same_list full_capacities _ _ _ _ c.deref.ensures.value c.channels.ensures.value in
+    subst (HoldInitial channels) (sym (c.deref-2.ensures.value ∙ full)) (full_initial channels c.args.vector.now.q.items)
+
+pub completes-requires-2-clause-vector : goal.completes-requires-2-clause-vector
+completes-requires-2-clause-vector c = c.requires.vector
+
+pub returns-in_err-full-clause-refusal : goal.returns-in_err-full-clause-refusal
+returns-in_err-full-clause-refusal c = grind (arith, common_steps)
+
+pub returns-in_err-completes-clause-refusal : goal.returns-in_err-completes-clause-refusal
+returns-in_err-completes-clause-refusal c = grind (arith, common_steps)
+
+pub returns-in_err-capacities-clause-refusal : goal.returns-in_err-capacities-clause-refusal
+returns-in_err-capacities-clause-refusal c = grind (arith, common_steps)
+
+pub returns-in_err-completes-2-clause-refusal : goal.returns-in_err-completes-2-clause-refusal
+returns-in_err-completes-2-clause-refusal c = grind (arith, common_steps)

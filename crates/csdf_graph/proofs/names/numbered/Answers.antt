@@ -14,7 +14,7 @@ returns-then-not-is_free c =
 pub loop-place-preserved : goal.loop-place-preserved
 loop-place-preserved c =
     let free = sym c.is_free.ensures ∙ c.if-not-is_free.false in
-    let grown = keys_grow c.loop-place.numbers.keys c.insert.new.self.keys c.in_ok-from_str.field-0 _ c.in_ok-insert.ensures.keys c.in_ok-from_str.ensures.ok
+    let grown = keys_grow c.loop-place.taken.numbers.keys c.insert.new.self.keys c.in_ok-from_str.field-0 _ c.in_ok-insert.ensures.keys c.in_ok-from_str.ensures.ok
     free in
     let step = name_taken c.args.kind c.args.names.now c.loop-place.place _ _ _ c.loop-place-test.true c.loop-place.invariant.so_far free grown
     c.loop-place.invariant.whole in

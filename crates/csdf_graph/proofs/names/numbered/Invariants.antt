@@ -6,7 +6,7 @@ use Rattle.csdf_graph.proofs.names.numbered.Given as goal
 
 abbrev pub invariant-loop-place : goal.invariant-loop-place
 invariant-loop-place l = record {
-  so_far : map string_bytes l.numbers.keys ≡ take l.place (map (λ n. n.now) l.names);
-  whole : with_front (map string_bytes l.numbers.keys) (each (name_at l.kind (map (λ n. n.now) l.names)) l.place (map (λ n. n.now) (drop l.place l.names)))
+  so_far : map string_bytes l.taken.numbers.keys ≡ take l.place (map (λ n. n.now) l.names);
+  whole : with_front (map string_bytes l.taken.numbers.keys) (each (name_at l.kind (map (λ n. n.now) l.names)) l.place (map (λ n. n.now) (drop l.place l.names)))
       ≡ each (name_at l.kind (map (λ n. n.now) l.names)) 0 (map (λ n. n.now) l.names);
 }

@@ -5,7 +5,7 @@ use Rattle.csdf_graph.proofs.read.named_parts.Goals as goal
 
 pub parts_of-requires : goal.parts_of-requires
 parts_of-requires c =
-    few_keys string_bytes c.in_ok-actor_names.actor_names.keys _ _ (range_fits _ _ c.in_ok-ranged.ensures)
+    few_keys string_bytes c.in_ok-actor_names.actor_names.numbers.keys _ _ (range_fits _ _ c.in_ok-ranged.ensures)
     (names_kept kind.Actor _ _ c.in_ok-actor_names.ensures)
 
 pub returns-clause-kept : goal.returns-clause-kept

@@ -4,7 +4,7 @@ use Rattle.std.proofs.lemmas.Bool.{false≢true}
 use Rattle.csdf_analysis.specs.Period.{HoldInitial, CompletesPeriod}
 use Rattle.csdf_analysis.specs.Capacities.{full_capacities}
 use Rattle.csdf_analysis.specs.Lowering.{first_bounds, IsLowered}
-use Rattle.csdf_analysis.proofs.LowerLemmas.{within_at, room_at, first_initial, too_tight, lowered_first, lowered_all, same_list}
+use Rattle.csdf_analysis.proofs.LowerLemmas.{within_at, room_at, full_initial, first_initial, too_tight, lowered_first, lowered_all, same_list}
 use Rattle.csdf_analysis.proofs.calls.capacities.capacities.Goals as goal
 
 pub completes-requires-2-clause-initial : goal.completes-requires-2-clause-initial
@@ -75,3 +75,18 @@ first_bounds-requires-clause-channels c =
 pub first_bounds-requires-clause-room : goal.first_bounds-requires-clause-room
 first_bounds-requires-clause-room c =
     room_at c.args.graph.now c.args.vector.now.r.items c.args.vector.now.q.items _ _ c.requires c.deref-3.ensures.value c.channels-2.ensures.value
+
+pub completes-requires-clause-vector : goal.completes-requires-clause-vector
+completes-requires-clause-vector c = c.requires
+
+pub completes-requires-clause-initial : goal.completes-requires-clause-initial
+completes-requires-clause-initial c =
+    let channels = c.args.graph.now.channels in
+    let full = c.in_ok-full.ensures ∙ same_list full_capacities _ _ _ _ c.deref.ensures.value c.channels.ensures.value in
+    subst (HoldInitial channels) (sym (c.deref-2.ensures.value ∙ full)) (full_initial channels c.args.vector.now.q.items)
+
+pub completes-requires-2-clause-vector : goal.completes-requires-2-clause-vector
+completes-requires-2-clause-vector c = c.requires
+
+pub lowered-requires-clause-vector : goal.lowered-requires-clause-vector
+lowered-requires-clause-vector c = c.requires

@@ -1,4 +1,5 @@
 use Rattle.std.proofs.Common.{◌<◌, length, max, set, ap, ◌∙◌, arith}
+use Rattle.std.proofs.lemmas.Grind.{common_steps}
 use Rattle.std.proofs.lemmas.List.{get_or_default}
 use Rattle.csdf_analysis.proofs.RunLemmas.{firings_within}
 use Rattle.csdf_analysis.proofs.SearchLemmas.{search_first, search_can, search_next, search_least}
@@ -40,3 +41,48 @@ returns-clause-least c =
     search_least _ _ c.args.bounds.now _ _ _ c.loop-run.run.firings c.args.number _ c.loop-run.invariant.search c.loop-run.invariant.run.at
     (omega (arith, most, c.total.ensures.total, c.loop-run-test.false))
     (c.index.ensures ∙ get_or_default c.loop-run.run.bounds.items c.args.number c.index.result.now 0 lt)
+
+pub index_mut-requires : goal.index_mut-requires
+index_mut-requires c = grind (arith, common_steps)
+
+pub new-requires : goal.new-requires
+new-requires c = grind (arith, common_steps)
+
+pub go_on-requires-clause-run : goal.go_on-requires-clause-run
+go_on-requires-clause-run c = c.in_ok-run.ensures.run
+
+pub go_on-requires-clause-waiting : goal.go_on-requires-clause-waiting
+go_on-requires-clause-waiting c = record {
+  actors = λ a is. (let lt = c.all-waiting.ensures.actors a is in omega (arith, lt, c.actors.ensures.count));
+  able = λ b go. c.all-waiting.ensures.all b (omega (arith, go.able.exists, c.in_ok-run.ensures.run.at.each_actor, c.actors.ensures.count));
+}
+
+pub raise-requires-clause-exists : goal.raise-requires-clause-exists
+raise-requires-clause-exists c = c.requires.exists
+
+pub raise-requires-clause-run : goal.raise-requires-clause-run
+raise-requires-clause-run c = c.loop-run.invariant.run
+
+pub raise-requires-clause-stalled : goal.raise-requires-clause-stalled
+raise-requires-clause-stalled c = c.loop-run.invariant.stalled
+
+pub raise-requires-clause-left : goal.raise-requires-clause-left
+raise-requires-clause-left c = omega (arith, c.loop-run-test.true, c.total.ensures.total)
+
+pub raise-requires-clause-low : goal.raise-requires-clause-low
+raise-requires-clause-low c = c.loop-run.invariant.search.low
+
+pub raise-requires-clause-actors : goal.raise-requires-clause-actors
+raise-requires-clause-actors c = c.loop-run.invariant.waiting.actors
+
+pub go_on-requires-in-loop-run-clause-run : goal.go_on-requires-in-loop-run-clause-run
+go_on-requires-in-loop-run-clause-run c = c.raise.ensures.run
+
+pub go_on-requires-in-loop-run-clause-waiting : goal.go_on-requires-in-loop-run-clause-waiting
+go_on-requires-in-loop-run-clause-waiting c = c.raise.ensures.waiting
+
+pub loop-run-smaller : goal.loop-run-smaller
+loop-run-smaller c = omega (arith, c.raise.ensures.firings, c.go_on-in-loop-run.ensures.firings, c.loop-run-test.true, c.total.ensures.total)
+
+pub index-requires : goal.index-requires
+index-requires c = omega (arith, c.requires.exists, c.loop-run.invariant.run.at.each_bound, c.loop-run.run.bounds.ok.0)

@@ -28,3 +28,12 @@ step-requires-clause-able c = λ b can. inr (c.in-Some.ensures.waiting.able b ca
 
 pub next-requires-clause-waiting : goal.next-requires-clause-waiting
 next-requires-clause-waiting c = c.loop-actor.invariant.waiting
+
+pub loop-actor-init : goal.loop-actor-init
+loop-actor-init c = grind (arith, common_steps)
+
+pub next-requires-clause-run : goal.next-requires-clause-run
+next-requires-clause-run c = c.loop-actor.invariant.run
+
+pub step-requires-clause-run : goal.step-requires-clause-run
+step-requires-clause-run c = c.loop-actor.invariant.run

@@ -28,7 +28,7 @@ new-requires c =
     let len : length (map actor_view c.args.self.parts.actors.items) ≡ c.len.result =
     omega (arith, c.args.self.parts.actors.ok.0, length-map c.args.self.parts.actors.items actor_view) in
     record {
-      numbered = c.requires.numbered;
+      numbered = rw (c.into_numbers-actor_numbers.ensures) (rw (c.into_numbers-channel_numbers.ensures) c.requires.numbered);
       well_formed = record {
         fitting = c.requires.fitting;
         joined = joined_by _ c.len.result (map channel_view c.args.self.parts.channels.items) c.in_ok-is_connected.field-0 len
