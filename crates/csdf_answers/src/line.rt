@@ -1,8 +1,9 @@
 //! What a line of a script asks for.
 
-ghost use Rattle.std.specs.Prelude.{◌≡◌, map, IfOk, option_map};
+ghost use Rattle.std.specs.Prelude.{◌≡◌, map, IfOk, option_map, None, if◌then◌else◌};
+ghost use Rattle.csdf_model.specs.Names.{is_name};
 ghost use Rattle.csdf_core.specs.Moves.{move_of};
-ghost use Rattle.csdf_answers.specs.Lines.{alone, move_in, asked_by, line_in, line_view};
+ghost use Rattle.csdf_answers.specs.Lines.{Play, alone, move_in, asked_by, line_in, line_view};
 
 use crate::words::{actor_in, channel_in, tokens_of, words_of};
 use csdf_core::Move;
@@ -11,7 +12,7 @@ use csdf_model::Graph;
 use std::alloc::{AllocError, Global};
 
 /// A line of a script.
-#[derive(Debug, Drop)]
+#[derive(Drop)]
 pub enum Line<'a> {
     /// A move, under the first two words of the line.
     Play(&'a str, &'a str, Move),
@@ -50,6 +51,26 @@ fn move_in(
     }
 }
 
+/// The line of a move, by its verb, a name and the words after them, where they have a meaning.
+fn played_by<'a>(
+    alloc: Global,
+    graph: &Graph,
+    verb: &'a str,
+    name: &'a str,
+    rest: &[&str],
+) -> Result<Option<Line<'a>>, AllocError>
+    ensures { IfOk result (λ found. option_map line_view found ≡ (if is_name name.now
+        then option_map (Play verb.now name.now) (move_in graph.now verb.now name.now (map (λ word. word.now) rest.now)) else None)) }
+{
+    if !is_name(name) {
+        return Ok(None);
+    }
+    match move_in(alloc, graph, verb, name, rest)? {
+        Some(next) => Ok(Some(Line::Play(verb, name, next))),
+        None => Ok(None),
+    }
+}
+
 /// What the words of a line ask for, where they have a meaning.
 fn asked_by<'a>(
     alloc: Global,
@@ -67,15 +88,7 @@ fn asked_by<'a>(
                 Ok(None)
             }
         }
-        [verb, name, rest @ ..] => {
-            if !is_name(name) {
-                return Ok(None);
-            }
-            match move_in(alloc, graph, verb, name, rest)? {
-                Some(next) => Ok(Some(Line::Play(verb, name, next))),
-                None => Ok(None),
-            }
-        }
+        [verb, name, rest @ ..] => played_by(alloc, graph, verb, name, rest),
     }
 }
 

@@ -58,3 +58,4 @@ pub mod GoingTokens
 pub mod FeedbackMoves
 pub mod FeedbackReads
 pub mod GoneOn
+pub mod Below

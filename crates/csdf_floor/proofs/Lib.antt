@@ -9,6 +9,7 @@ pub mod Takings
 pub mod Ends
 pub mod Quiet
 pub mod Examples
+pub mod Inputs
 pub mod Journals
 pub mod Counted
 pub mod Rooms

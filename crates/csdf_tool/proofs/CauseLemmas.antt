@@ -1,6 +1,6 @@
 -- Why there is no answer, by what the devices gave.
 use Rattle.std.proofs.Common.{◌≡◌, ◌≢◌, ◌∙◌, ℕ, List, [], ◌∷◌, length, map, codes, Bool, true, false, cond, Option, Result, Ok, Err, refl, sym, ap, subst, inl, inr}
-use Rattle.std.specs.Prelude.{◌⊎◌, ◌<◌, IfErr, IfSome, IsErrAnd, OnOk}
+use Rattle.std.specs.Prelude.{◌⊎◌, ◌<◌, IfErr, IfOk, IfSome, IsErrAnd, OnOk}
 use Rattle.std.specs.Global.{Vec}
 use Rattle.std.specs.Io.KnownBytes.{Appends}
 use Rattle.clap.specs.Words.{Text}
@@ -49,6 +49,15 @@ memory_or_not f = by (which f)
     by (inl memory) = inl memory
     by (inr (inl output)) = inr (λ memory. let no : fault.Memory ≡ fault.Device stream.Output = sym memory ∙ output in cc)
     by (inr (inr none)) = inr none.0
+
+pub output_or_not : (f : ToolFault) → (f ≡ fault.Device stream.Output) ⊎ (f ≢ fault.Device stream.Output)
+output_or_not f = by (which f)
+  where
+    by : (f ≡ fault.Memory) ⊎ ((f ≡ fault.Device stream.Output) ⊎ ((f ≢ fault.Memory) × (f ≢ fault.Device stream.Output)))
+        → (f ≡ fault.Device stream.Output) ⊎ (f ≢ fault.Device stream.Output)
+    by (inl memory) = inr (λ output. let no : fault.Memory ≡ fault.Device stream.Output = sym memory ∙ output in cc)
+    by (inr (inl output)) = inl output
+    by (inr (inr none)) = inr none.1
 
 -- the answer is the fault that is passed on
 pub err_as : {X : Type 0} (r : Result X ToolFault) (f g : ToolFault) → IsErrAnd r (λ e. e ≡ f) → f ≡ g → r ≡ Err g
@@ -102,6 +111,32 @@ module _ (word : Text) (left : Option (List ℕ)) (before after : Option (List A
             },
             asked.2 ∙ ap (λ (b : Bool). unread (cond b stream.Input (stream.File word)) asked.0) (sym is),
           )
+
+  -- bytes that came of standard input, and those that came of a file
+  pub input_read : is_input word ≡ true → Asks before after [] → (r : Result (Vec ℕ) ToolFault)
+      → IfOk r (λ bytes. Asks before after (graph_reads word bytes.items))
+  input_read is none (Ok bytes) = subst (λ (b : Bool). Asks before after (cond b [] (Read word (Ok bytes.items) ∷ []))) (sym is) none
+  input_read is none (Err f) = tt
+
+  pub file_read : is_input word ≡ false → (r : Result (Vec ℕ) ToolFault) → IfOk r (λ bytes. Asks before after (Read word (Ok bytes.items) ∷ []))
+      → IfOk r (λ bytes. Asks before after (graph_reads word bytes.items))
+  file_read is (Ok bytes) h = subst (λ (b : Bool). Asks before after (cond b [] (Read word (Ok bytes.items) ∷ []))) (sym is) h
+  file_read is (Err f) h = tt
+
+  pub input_named : (r : Result (Vec ℕ) ToolFault) → IfOk r (λ bytes. IfSome left (λ all. bytes.items ≡ all))
+      → IfOk r (λ bytes. IsNamed word left bytes.items)
+  input_named (Ok bytes) h = λ _. h
+  input_named (Err f) h = tt
+
+  pub file_named : is_input word ≡ false → (r : Result (Vec ℕ) ToolFault) → IfOk r (λ bytes. IsNamed word left bytes.items)
+  file_named is (Ok bytes) = λ yes. absurd (let no : true ≡ false = sym yes ∙ is in cc)
+  file_named is (Err f) = tt
+
+-- a file that was not read is no failure of standard output
+pub file_ends : (name : List ℕ) (why : InputFault) → unread (stream.File name) why ≢ fault.Device stream.Output
+file_ends name input.Read = λ e. cc
+file_ends name input.TooLong = λ e. cc
+file_ends name input.Memory = λ e. cc
 
 -- ---- bytes that have no answer
 

@@ -19,6 +19,7 @@ use Rattle.csdf_answers.specs.Faults.{status_of}
 use Rattle.csdf_answers.specs.Objects.{TellsFault}
 use Rattle.csdf_answers.specs.declared.fault.ToolFault.{ToolFault}
 use Rattle.csdf_answers.specs.declared.fault.ToolFault.TheVariants as fault
+use Rattle.csdf_tool.proofs.CauseLemmas.{output_or_not}
 
 -- ---- statuses
 
@@ -67,6 +68,38 @@ module _ {form : Form} {status : ℕ} {before after : Option (List ℕ)} {failed
   at_zero (Err f) P h zero p =
       let told = ends_as f h.by in
       absurd (not_zero (status_of told.0) status told.1.ends (one_or_three told.0) zero)
+
+  -- a failure of standard output ends with status 3
+  of_output : (f : ToolFault) → f ≡ fault.Device Output → EndsBy form f status before after failed → status ≡ 3
+  of_output f output (inl ends) = ends.ends ∙ ap status_of output
+  of_output f output (inr ends) = ends.ends
+
+  -- where it is 1 or 2, what holds of a fault that is none of standard output holds
+  pub at_refusal : (answer : Result (Unit {0}) ToolFault) (P : Type 0) → Ended form answer status before after failed
+      → IfErr answer (λ f. f ≢ fault.Device Output → P) → (status ≡ 1) ⊎ (status ≡ 2) → P
+  at_refusal (Ok u) P h p (inl one) = absurd (let no : 1 ≡ 0 = sym one ∙ h.zero in cc)
+  at_refusal (Ok u) P h p (inr two) = absurd (let no : 2 ≡ 0 = sym two ∙ h.zero in cc)
+  at_refusal (Err f) P h p (inl one) = p (λ output. let no : 1 ≡ 3 = sym one ∙ of_output f output h.by in cc)
+  at_refusal (Err f) P h p (inr two) = p (λ output. let no : 2 ≡ 3 = sym two ∙ of_output f output h.by in cc)
+
+  -- where it is 3, that holds, or what holds of a failure of standard output
+  pub at_three : (answer : Result (Unit {0}) ToolFault) (P Q : Type 0) → Ended form answer status before after failed
+      → IfErr answer (λ f. f ≢ fault.Device Output → P) → (answer ≡ Err (fault.Device Output) → Q) → status ≡ 3 → P ⊎ Q
+  at_three (Ok u) P Q h p q three = absurd (let no : 3 ≡ 0 = sym three ∙ h.zero in cc)
+  at_three (Err f) P Q h p q three = by (output_or_not f)
+    where
+      by : (f ≡ fault.Device Output) ⊎ (f ≢ fault.Device Output) → P ⊎ Q
+      by (inl output) = inr (q (ap Err output))
+      by (inr other) = inl (p other)
+
+  -- it is never 2
+  pub never_two : (answer : Result (Unit {0}) ToolFault) → Ended form answer status before after failed → status ≢ 2
+  never_two (Ok u) h two = omega (arith, two, h.zero)
+  never_two (Err f) h two = let told = ends_as f h.by in by told.1.ends (one_or_three told.0)
+    where
+      by : {n : ℕ} → status ≡ n → (n ≡ 1) ⊎ (n ≡ 3) → ⊥
+      by is (inl one) = omega (arith, two, is, one)
+      by is (inr three) = omega (arith, two, is, three)
 
   -- where it is 1 or 3, a fault is told
   pub lined : (answer : Result (Unit {0}) ToolFault) → Ended form answer status before after failed → (status ≡ 1) ⊎ (status ≡ 3)

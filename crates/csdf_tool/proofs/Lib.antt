@@ -2,6 +2,7 @@ pub mod CauseLemmas
 pub mod DiskLemmas
 pub mod EndLemmas
 pub mod ExplainingLemmas
+pub mod FaultLemmas
 pub mod FeedLemmas
 pub mod InputExamples
 pub mod ReportLemmas

@@ -8,6 +8,8 @@ use Rattle.csdf_model.specs.Graph.{Actor, Channel, Graph}
 use Rattle.csdf_graph.specs.GraphText.{IsGraphOf}
 use Rattle.csdf_graph.specs.declared.fault.GraphFault.{GraphFault}
 use Rattle.csdf_graph.specs.declared.fault.GraphFault.TheVariants as graph
+use Rattle.csdf_bytes.specs.declared.intake.InputFault.{InputFault}
+use Rattle.csdf_bytes.specs.declared.intake.InputFault.TheVariants as input
 use Rattle.csdf_floor.specs.Work.{is_sink_kernel}
 use Rattle.csdf_answers.specs.declared.fault.ToolFault.{ToolFault}
 use Rattle.csdf_answers.specs.declared.fault.ToolFault.TheVariants as fault
@@ -35,7 +37,7 @@ use Rattle.csdf_tool.specs.Acts.{Act, Asks, Marks, OnlyReads, devices}
 use Rattle.csdf_tool.specs.Reports.{TellsReport, report_object}
 use Rattle.csdf_tool.specs.Running.{AreNamedAlike, EndsBeforeFiles, EndsOnFiles, IsCutShort, IsUnput, LacksFeed, RefusesGraphRun, RefusesRun, RunsOn, StopsRun, Written}
 use Rattle.csdf_tool.specs.GraphFiles.{graph_reads}
-use Rattle.csdf_tool.specs.Running.{feed_paths, feed_reads, files_of, journal_files, out_file, put_fault, put_whole, run_reads, sink_files, texts_fault, token_fault}
+use Rattle.csdf_tool.specs.Running.{feed_fault, feed_paths, feed_reads, files_of, journal_files, out_file, put_fault, put_whole, run_reads, sink_files, texts_fault, token_fault}
 use Rattle.csdf_tool.specs.declared.run_files.Ran.{Ran}
 use Rattle.csdf_tool.specs.declared.put_fault.PutFault.{PutFault}
 use Rattle.csdf_tool.specs.declared.put_fault.PutFault.TheVariants as put
@@ -183,6 +185,39 @@ cut_by files many last f (inr some) = unput_ends some.0 last f some.3
 
 pub cut_ends : (files : List Written) (acts : List Act) (f : ToolFault) → IsCutShort files acts f → f ≢ fault.Device Output
 cut_ends files acts f cut = cut_by files cut.many cut.last f cut.cut
+
+-- nor is a graph that is refused
+pub graph_ends : (why : GraphFault) → fault_of why ≢ fault.Device Output
+graph_ends graph.NotToml = λ e. cc
+graph_ends (graph.Shape at) = λ e. cc
+graph_ends (graph.Name at) = λ e. cc
+graph_ends (graph.Range at) = λ e. cc
+graph_ends (graph.UnknownActor c) = λ e. cc
+graph_ends (graph.PhaseLength c) = λ e. cc
+graph_ends (graph.ZeroRate c) = λ e. cc
+graph_ends (graph.KernelPorts a) = λ e. cc
+graph_ends graph.NotConnected = λ e. cc
+graph_ends graph.Memory = λ e. cc
+
+-- nor a token file that was not read
+feed_ends : (name : List ℕ) (why : InputFault) → feed_fault name why ≢ fault.Device Output
+feed_ends name input.Read = λ e. cc
+feed_ends name input.TooLong = λ e. cc
+feed_ends name input.Memory = λ e. cc
+
+pub lacks_ends : (a b : Option (List Act)) (folder : List ℕ) (actors : List Actor) (f : ToolFault)
+    → (f ≡ fault.Memory) ⊎ ((acts : List Act) × Asks a b acts × LacksFeed folder actors acts f) → f ≢ fault.Device Output
+lacks_ends a b folder actors f (inl memory) = memory_ends f memory
+lacks_ends a b folder actors f (inr lacks) = λ e. feed_ends _ _ (sym lacks.2.told ∙ e)
+
+-- nor texts that make no run
+pub texts_end : (room : Room) (g : Graph) (feeds : List (List ℕ)) (f : ToolFault) → (f ≢ fault.Memory → RefusesGraphRun room g feeds f)
+    → f ≢ fault.Device Output
+texts_end room g feeds f refuses = by (memory_or_not f)
+  where
+    by : (f ≡ fault.Memory) ⊎ (f ≢ fault.Memory) → f ≢ fault.Device Output
+    by (inl memory) = memory_ends f memory
+    by (inr other) = no_stream room g feeds f (refuses other) Output
 
 -- ---- why a run ends before its files are put
 

@@ -14,7 +14,8 @@ use std::rt::Files;
 
 /// What an error of the system says of a token file.
 fn unopened(kind: ErrorKind) -> Result<TokenFile, ToolFault>
-    ensures { result ≡ unopened kind }
+    ensures found { result ≡ unopened kind }
+    ensures memory { IfErr result (λ fault. fault ≡ ToolFault.Memory) }
 {
     match kind {
         ErrorKind::NotFound | ErrorKind::NotADirectory => Ok(TokenFile::Missing),

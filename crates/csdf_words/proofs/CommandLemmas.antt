@@ -1,5 +1,5 @@
 -- The command that a parse met, and the words and numbers after it.
-use Rattle.std.proofs.Common.{◌≡◌, ◌≤◌, ◌<◌, ◌^◌, ℕ, Bool, true, false, cond, List, Option, Some, None, codes, option_map, refl, sym, subst, ap, ap₂, ◌∙◌, Bor, arith}
+use Rattle.std.proofs.Common.{◌≡◌, ◌≤◌, ◌||◌, ◌<◌, ◌^◌, ℕ, Bool, true, false, cond, List, Option, Some, None, codes, option_map, refl, sym, subst, ap, ap₂, ◌∙◌, Bor, arith}
 use Rattle.std.specs.Prelude.{Box, IfSome, option_and_then, unwrap_or}
 use Rattle.std.specs.Option.{option_map_or}
 use Rattle.std.specs.Box.{box_value}
@@ -97,3 +97,8 @@ rows_met m rows P given holds = by (subcommand_rows_of m) given
 pub asked_met : (m : ArgMatches) (name : Text) (rows : List Row) → Some name ≡ subcommand_name_of m
     → Some rows ≡ option_map (λ p. p.1) (subcommand_rows_of m) → asked_of name rows ≡ asked (subcommand_rows_of m)
 asked_met m name rows named given = met (subcommand_rows_of m) name rows (named ∙ named_of m) given
+
+-- or with what is false
+pub or_false : (a b : Bool) → b ≡ false → (a || b) ≡ a
+or_false true b e = refl
+or_false false b e = e

@@ -1,3 +1,5 @@
 pub mod CommandLine
+pub mod Endings
 pub mod HowLong
 pub mod Rooms
+pub mod Rows

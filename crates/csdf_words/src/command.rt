@@ -1,10 +1,11 @@
 //! The command line.
 
 ghost use Rattle.std.specs.Prelude.{◌≡◌, ◌≤◌, [], true, false, map, string_bytes, Some, None, Ok, IfErr, IfOk, IfSome, MatchResult, option_map};
-ghost use Rattle.clap.specs.Words.{App, app_of, fault_of, first_of, found_of, kind_of, rows_of, rule_of, subcommand_of, subcommand_rows_of, takes, with_rule, with_subcommand, FailsBy};
+ghost use Rattle.clap.specs.Words.{app_of, fault_of, first_of, found_of, kind_of, rows_of, rule_of, subcommand_of, subcommand_rows_of, takes, with_rule, FailsBy};
 ghost use Rattle.clap.specs.declared.builder.command.Command.TheViews.{out-Command as fields_of};
-ghost use Rattle.csdf_words.specs.CommandLine.{on_graph, on_files, run_command, flag, number_option, text_option};
-ghost use Rattle.csdf_words.specs.CommandLine.{explain_command, no_commands, with_command, with_explain, with_json, with_question, with_questions, with_room, with_roomy_command, with_roomy_question, program};
+ghost use Rattle.clap.specs.declared.builder.value_parser.ValueParser.TheVariants.{Unsigned};
+ghost use Rattle.csdf_words.specs.CommandLine.{no_commands, program};
+ghost use Rattle.csdf_words.specs.Rows.{app_of_row, rule_of_row, with_command_row, with_command_rows, with_rows};
 ghost use Rattle.csdf_analysis.specs.Room.{HasSomePeriod};
 ghost use Rattle.csdf_words.specs.CommandLine.{Ask, Run, AskForNothing, asked_view, asked_by, asked_of, asked_with, asked, words_ask, IsUnread};
 ghost use Rattle.csdf_words.specs.CommandLine.{form_in, form_of, how_long_of, is_given, number_in, number_of, order_of, order_view, room_in, room_of, word_of, word_or};
@@ -12,6 +13,10 @@ ghost use Rattle.csdf_words.specs.HowLong.{MayBeAsked};
 
 use crate::help;
 use crate::order::{Inquiry, RunWords};
+use crate::rows::{
+    ArgumentRow, COMMANDS, CommandRow, FIRINGS, FOLDER, GRAPH, Given, JOURNAL, JSON, OUT, PERIODS,
+    PROGRESS, ROOM, UNTIL_DRY, WORKERS,
+};
 use clap::builder::ValueParser;
 use clap::error::ErrorKind;
 use clap::{Arg, ArgAction, ArgMatches, Command, Error};
@@ -47,160 +52,68 @@ pub enum Unread<'a> {
     Lengths,
 }
 
-const GRAPH: &str = "GRAPH";
-
-const FOLDER: &str = "DIR";
-
-const WORKERS: &str = "workers";
-
-const PERIODS: &str = "periods";
-
-const UNTIL_DRY: &str = "until-dry";
-
-const FIRINGS: &str = "firings";
-
-const OUT: &str = "out";
-
-const JOURNAL: &str = "journal";
-
-const PROGRESS: &str = "progress";
-
-const ROOM: &str = "room";
-
-const JSON: &str = "json";
-
-/// A command with a graph file, and what its help ends with.
-fn on_graph<'a>(
-    alloc: Global,
-    name: &'a str,
-    about: &'a str,
-    more: &'a str,
-) -> Result<Command<'a>, AllocError>
-    ensures app { IfOk result (λ command. app_of command ≡ on_graph name.entry.now) }
-    ensures local { IfOk result (λ command. (fields_of command).has_globals ≡ false) }
+/// An option that takes a number in a range.
+fn with_range<'a>(option: Arg<'a>, letter: &'a str, range: (u32, u32)) -> Arg<'a>
+    ensures rule { rule_of result ≡ record (rule_of option.entry) { value_names = 1; parser = Some (Unsigned range.0 range.1) } }
+    ensures local { result.global ≡ option.entry.global }
 {
-    let graph = Arg::new(alloc, GRAPH)
-        .required(true)
-        .help("The graph file; - is standard input");
-    Command::new(alloc, name)
-        .about(about)
-        .after_help(more)
-        .arg(graph)
+    option
+        .value_parser(ValueParser::unsigned(u64::from(range.0), u64::from(range.1)))
+        .value_name(letter)
+}
+
+/// The argument of a row.
+fn argument_of<'a>(alloc: Global, row: &ArgumentRow<'a>) -> Arg<'a>
+    ensures rule { rule_of result ≡ rule_of_row row.now }
+    ensures local { result.global ≡ false }
+{
+    let argument = Arg::new(alloc, row.name).help(row.help);
+    match row.given {
+        Given::Place => argument.required(true),
+        Given::LastPlace => argument,
+        Given::Nothing => argument.long(row.name).action(ArgAction::SetTrue),
+        Given::Text(word) => argument.long(row.name).value_name(word),
+        Given::Number(letter, range) => with_range(argument.long(row.name), letter, range),
+    }
 }
 
 /// A command with one more argument.
-fn with_arg<'a>(command: Command<'a>, arg: Arg<'a>) -> Result<Command<'a>, AllocError>
-    requires { arg.global ≡ false }
-    ensures app { IfOk result (λ r. app_of r ≡ with_rule (app_of command.entry) (rule_of arg.entry)) }
-    ensures globals { IfOk result (λ r. (fields_of r).has_globals ≡ (fields_of command.entry).has_globals) }
-{
-    command.arg(arg)
-}
-
-/// A command with one more option, which has a number in a range.
-fn with_option<'a>(
+fn with_argument<'a>(
     alloc: Global,
     command: Command<'a>,
-    name: &'a str,
-    letter: &'a str,
-    range: (u32, u32),
-    help: &'a str,
+    row: &ArgumentRow<'a>,
 ) -> Result<Command<'a>, AllocError>
-    ensures app { IfOk result (λ r. app_of r ≡ with_rule (app_of command.entry) (number_option name.entry.now range.0 range.1)) }
+    ensures app { IfOk result (λ r. app_of r ≡ with_rule (app_of command.entry) (rule_of_row row.now)) }
     ensures globals { IfOk result (λ r. (fields_of r).has_globals ≡ (fields_of command.entry).has_globals) }
 {
-    let option = Arg::new(alloc, name)
-        .long(name)
-        .value_name(letter)
-        .value_parser(ValueParser::unsigned(u64::from(range.0), u64::from(range.1)))
-        .help(help);
-    with_arg(command, option)
+    command.arg(argument_of(alloc, row))
 }
 
-/// A command with one more option, which has a text.
-fn with_text<'a>(
+/// A command with more arguments.
+fn with_arguments<'a>(
     alloc: Global,
     command: Command<'a>,
-    name: &'a str,
-    word: &'a str,
-    help: &'a str,
+    rows: &[ArgumentRow<'a>],
 ) -> Result<Command<'a>, AllocError>
-    ensures app { IfOk result (λ r. app_of r ≡ with_rule (app_of command.entry) (text_option name.entry.now)) }
+    ensures app { IfOk result (λ r. app_of r ≡ with_rows (app_of command.entry) rows.now) }
     ensures globals { IfOk result (λ r. (fields_of r).has_globals ≡ (fields_of command.entry).has_globals) }
 {
-    let option = Arg::new(alloc, name).long(name).value_name(word).help(help);
-    with_arg(command, option)
+    let mut command = command;
+    for row in rows {
+        command = with_argument(alloc, command, row)?;
+    }
+    Ok(command)
 }
 
-/// A command with one more option, which is given or not.
-fn with_flag<'a>(
-    alloc: Global,
-    command: Command<'a>,
-    name: &'a str,
-    help: &'a str,
-) -> Result<Command<'a>, AllocError>
-    ensures app { IfOk result (λ r. app_of r ≡ with_rule (app_of command.entry) (flag name.entry.now)) }
-    ensures globals { IfOk result (λ r. (fields_of r).has_globals ≡ (fields_of command.entry).has_globals) }
-{
-    let option = Arg::new(alloc, name)
-        .long(name)
-        .action(ArgAction::SetTrue)
-        .help(help);
-    with_arg(command, option)
-}
-
-/// A command with the option for room.
-fn with_room<'a>(alloc: Global, command: Command<'a>) -> Result<Command<'a>, AllocError>
-    ensures app { IfOk result (λ r. app_of r ≡ with_room (app_of command.entry)) }
-    ensures globals { IfOk result (λ r. (fields_of r).has_globals ≡ (fields_of command.entry).has_globals) }
-{
-    let room = "Room for so many periods: 1 to 65535, or auto; least capacities where absent";
-    with_text(alloc, command, ROOM, "M", room)
-}
-
-/// A command with the option for JSON.
-fn with_json<'a>(alloc: Global, command: Command<'a>) -> Result<Command<'a>, AllocError>
-    ensures app { IfOk result (λ r. app_of r ≡ with_json (app_of command.entry)) }
-    ensures globals { IfOk result (λ r. (fields_of r).has_globals ≡ (fields_of command.entry).has_globals) }
-{
-    let json = "Print a JSON object on one line, for a fault too";
-    with_flag(alloc, command, JSON, json)
-}
-
-/// The command that runs a graph, and no option yet.
-fn on_files<'a>(alloc: Global) -> Result<Command<'a>, AllocError>
-    ensures app { IfOk result (λ command. app_of command ≡ on_files) }
+/// The command of a row.
+fn command_of<'a>(alloc: Global, row: &CommandRow<'a>) -> Result<Command<'a>, AllocError>
+    ensures app { IfOk result (λ command. app_of command ≡ app_of_row row.now) }
     ensures local { IfOk result (λ command. (fields_of command).has_globals ≡ false) }
 {
-    let command = on_graph(alloc, "run", "Run a graph on token files", help::RUN)?;
-    let folder = Arg::new(alloc, FOLDER)
-        .required(true)
-        .help("The folder of the token files");
-    with_arg(command, folder)
-}
-
-/// The command that runs a graph.
-fn run_command<'a>(alloc: Global) -> Result<Command<'a>, AllocError>
-    ensures app { IfOk result (λ command. app_of command ≡ run_command) }
-    ensures local { IfOk result (λ command. (fields_of command).has_globals ≡ false) }
-{
-    let command = on_files(alloc)?;
-    let workers = "How many workers fire: 1 to 8, 1 where absent";
-    let command = with_option(alloc, command, WORKERS, "N", (1, 8), workers)?;
-    let periods = "How many periods to run: 1 to 1000, 1 where absent";
-    let command = with_option(alloc, command, PERIODS, "K", (1, MAX_PERIODS), periods)?;
-    let until_dry = "Run until a source has run dry, in place of a number of periods";
-    let command = with_flag(alloc, command, UNTIL_DRY, until_dry)?;
-    let firings = "The most firings of all actors: 0 to 1048576000, no limit where absent";
-    let command = with_option(alloc, command, FIRINGS, "F", (0, MAX_FIRINGS), firings)?;
-    let out = "The folder that the sinks' files are written to: DIR where absent";
-    let command = with_text(alloc, command, OUT, "FOLDER", out)?;
-    let journal = "A file for the moves of the run, as the script of a graph file";
-    let command = with_text(alloc, command, JOURNAL, "FILE", journal)?;
-    let progress = "Tell on standard error how many firings were made";
-    let command = with_flag(alloc, command, PROGRESS, progress)?;
-    let command = with_room(alloc, command)?;
-    with_json(alloc, command)
+    let command = Command::new(alloc, row.name)
+        .about(row.about)
+        .after_help(help::ending_text(row.ending));
+    with_arguments(alloc, command, row.arguments)
 }
 
 /// The program, and no command yet.
@@ -215,218 +128,33 @@ fn no_commands<'a>(alloc: Global) -> Result<Command<'a>, AllocError>
         .bin_name("csdf")
 }
 
-/// The program with one more command, where that is made yet.
-fn with_made<'a>(
-    program: Command<'a>,
-    command: Result<Command<'a>, AllocError>,
-) -> Result<Command<'a>, AllocError>
-    ensures { (more : App) → IfOk command.entry (λ c. app_of c ≡ more) → IfOk command.entry (λ c. (fields_of c).has_globals ≡ false)
-        → IfOk result (λ r. app_of r ≡ with_subcommand (app_of program.entry) more.top) }
-{
-    match command {
-        Ok(command) => program.subcommand(command),
-        Err(error) => Err(error),
-    }
-}
-
-/// The program with one more command on a graph file.
+/// The program with one more command.
 fn with_command<'a>(
     alloc: Global,
     program: Command<'a>,
-    name: &'a str,
-    about: &'a str,
-    more: &'a str,
+    row: &CommandRow<'a>,
 ) -> Result<Command<'a>, AllocError>
-    ensures { IfOk result (λ r. app_of r ≡ with_command (app_of program.entry) name.entry.now) }
+    ensures { IfOk result (λ r. app_of r ≡ with_command_row (app_of program.entry) row.now) }
 {
-    with_made(program, on_graph(alloc, name, about, more))
+    program.subcommand(command_of(alloc, row)?)
 }
 
-/// A command with a graph file and the option for JSON.
-fn on_question<'a>(
-    alloc: Global,
-    name: &'a str,
-    about: &'a str,
-    more: &'a str,
-) -> Result<Command<'a>, AllocError>
-    ensures app { IfOk result (λ command. app_of command ≡ with_json (on_graph name.entry.now)) }
-    ensures local { IfOk result (λ command. (fields_of command).has_globals ≡ false) }
+/// The program with the commands of rows.
+fn program_of<'a>(alloc: Global, rows: &[CommandRow<'a>]) -> Result<Command<'a>, AllocError>
+    ensures { IfOk result (λ program. app_of program ≡ with_command_rows no_commands rows.now) }
 {
-    let command = on_graph(alloc, name, about, more)?;
-    with_json(alloc, command)
-}
-
-/// The program with one more command on a graph file, which answers as JSON too.
-fn with_question<'a>(
-    alloc: Global,
-    program: Command<'a>,
-    name: &'a str,
-    about: &'a str,
-    more: &'a str,
-) -> Result<Command<'a>, AllocError>
-    ensures { IfOk result (λ r. app_of r ≡ with_question (app_of program.entry) name.entry.now) }
-{
-    with_made(program, on_question(alloc, name, about, more))
-}
-
-/// The same, where there is a program yet.
-fn then_question<'a>(
-    alloc: Global,
-    program: Result<Command<'a>, AllocError>,
-    name: &'a str,
-    about: &'a str,
-    more: &'a str,
-) -> Result<Command<'a>, AllocError>
-    ensures { (before : App) → IfOk program.entry (λ p. app_of p ≡ before) → IfOk result (λ r. app_of r ≡ with_question before name.entry.now) }
-{
-    match program {
-        Ok(program) => with_question(alloc, program, name, about, more),
-        Err(error) => Err(error),
+    let mut program = no_commands(alloc)?;
+    for row in rows {
+        program = with_command(alloc, program, row)?;
     }
-}
-
-/// A command with a graph file and the option for room.
-fn on_roomy_graph<'a>(
-    alloc: Global,
-    name: &'a str,
-    about: &'a str,
-    more: &'a str,
-) -> Result<Command<'a>, AllocError>
-    ensures app { IfOk result (λ command. app_of command ≡ with_room (on_graph name.entry.now)) }
-    ensures local { IfOk result (λ command. (fields_of command).has_globals ≡ false) }
-{
-    let command = on_graph(alloc, name, about, more)?;
-    with_room(alloc, command)
-}
-
-/// The program with one more command on a graph file, which takes room.
-fn with_roomy_command<'a>(
-    alloc: Global,
-    program: Command<'a>,
-    name: &'a str,
-    about: &'a str,
-    more: &'a str,
-) -> Result<Command<'a>, AllocError>
-    ensures { IfOk result (λ r. app_of r ≡ with_roomy_command (app_of program.entry) name.entry.now) }
-{
-    with_made(program, on_roomy_graph(alloc, name, about, more))
-}
-
-/// The same, where there is a program yet.
-fn then_roomy_command<'a>(
-    alloc: Global,
-    program: Result<Command<'a>, AllocError>,
-    name: &'a str,
-    about: &'a str,
-    more: &'a str,
-) -> Result<Command<'a>, AllocError>
-    ensures { (before : App) → IfOk program.entry (λ p. app_of p ≡ before) → IfOk result (λ r. app_of r ≡ with_roomy_command before name.entry.now) }
-{
-    match program {
-        Ok(program) => with_roomy_command(alloc, program, name, about, more),
-        Err(error) => Err(error),
-    }
-}
-
-/// A command with a graph file and the options for room and JSON.
-fn on_roomy_question<'a>(
-    alloc: Global,
-    name: &'a str,
-    about: &'a str,
-    more: &'a str,
-) -> Result<Command<'a>, AllocError>
-    ensures app { IfOk result (λ command. app_of command ≡ with_json (with_room (on_graph name.entry.now))) }
-    ensures local { IfOk result (λ command. (fields_of command).has_globals ≡ false) }
-{
-    let command = on_roomy_graph(alloc, name, about, more)?;
-    with_json(alloc, command)
-}
-
-/// The program with one more command on a graph file, which takes room and answers as JSON too.
-fn with_roomy_question<'a>(
-    alloc: Global,
-    program: Command<'a>,
-    name: &'a str,
-    about: &'a str,
-    more: &'a str,
-) -> Result<Command<'a>, AllocError>
-    ensures { IfOk result (λ r. app_of r ≡ with_roomy_question (app_of program.entry) name.entry.now) }
-{
-    with_made(program, on_roomy_question(alloc, name, about, more))
-}
-
-/// The same, where there is a program yet.
-fn then_roomy_question<'a>(
-    alloc: Global,
-    program: Result<Command<'a>, AllocError>,
-    name: &'a str,
-    about: &'a str,
-    more: &'a str,
-) -> Result<Command<'a>, AllocError>
-    ensures { (before : App) → IfOk program.entry (λ p. app_of p ≡ before) → IfOk result (λ r. app_of r ≡ with_roomy_question before name.entry.now) }
-{
-    match program {
-        Ok(program) => with_roomy_question(alloc, program, name, about, more),
-        Err(error) => Err(error),
-    }
-}
-
-/// The command that explains.
-fn explain_command<'a>(alloc: Global) -> Result<Command<'a>, AllocError>
-    ensures app { IfOk result (λ command. app_of command ≡ explain_command) }
-    ensures local { IfOk result (λ command. (fields_of command).has_globals ≡ false) }
-{
-    let about = "Tell why a graph is refused, or that it is accepted";
-    let command = on_graph(alloc, "explain", about, help::EXPLAIN)?;
-    let folder = Arg::new(alloc, FOLDER).help("The folder of the token files, to look at them too");
-    with_arg(command, folder)
-}
-
-/// The program with the command that explains.
-fn with_explain<'a>(alloc: Global, program: Command<'a>) -> Result<Command<'a>, AllocError>
-    ensures { IfOk result (λ r. app_of r ≡ with_explain (app_of program.entry)) }
-{
-    with_made(program, explain_command(alloc))
-}
-
-/// The same, where there is a program yet.
-fn then_explain<'a>(
-    alloc: Global,
-    program: Result<Command<'a>, AllocError>,
-) -> Result<Command<'a>, AllocError>
-    ensures { (before : App) → IfOk program.entry (λ p. app_of p ≡ before) → IfOk result (λ r. app_of r ≡ with_explain before) }
-{
-    match program {
-        Ok(program) => with_explain(alloc, program),
-        Err(error) => Err(error),
-    }
-}
-
-/// The program with the commands that answer a question or play a script.
-fn with_questions<'a>(alloc: Global, program: Command<'a>) -> Result<Command<'a>, AllocError>
-    ensures { IfOk result (λ r. app_of r ≡ with_questions (app_of program.entry)) }
-{
-    let about = "Play the script of a graph file";
-    let program = with_command(alloc, program, "moves", about, help::MOVES);
-    let about = "Tell whether a graph is consistent";
-    let program = then_question(alloc, program, "check", about, help::CHECK);
-    let about = "Print each actor's cycles and firings in a period";
-    let program = then_question(alloc, program, "repetition", about, help::REPETITION);
-    let about = "Print the actor of each firing of a period";
-    let program = then_roomy_question(alloc, program, "schedule", about, help::SCHEDULE);
-    let about = "Print the least channel capacities";
-    let program = then_roomy_question(alloc, program, "capacity", about, help::CAPACITY);
-    let about = "Print the graph for Graphviz, which draws it";
-    let program = then_roomy_command(alloc, program, "dot", about, help::DOT);
-    then_explain(alloc, program)
+    Ok(program)
 }
 
 /// The program's command line.
 fn program<'a>(alloc: Global) -> Result<Command<'a>, AllocError>
     ensures { IfOk result (λ command. app_of command ≡ program) }
 {
-    let program = with_made(no_commands(alloc)?, run_command(alloc))?;
-    with_questions(alloc, program)
+    program_of(alloc, COMMANDS)
 }
 
 /// The words as the parser of command lines matches them.

@@ -1,6 +1,38 @@
 //! What the help of the program and of each command ends with: what its answer says, the exit
 //! statuses and an example.
 
+ghost use Rattle.std.specs.Prelude.{◌≡◌};
+ghost use Rattle.csdf_words.specs.Endings.{ending_text};
+
+/// Which text the help of a command ends with.
+#[derive(Clone, Copy)]
+pub(crate) enum Ending {
+    Run,
+    Moves,
+    Check,
+    Repetition,
+    Schedule,
+    Capacity,
+    Dot,
+    Explain,
+}
+
+/// The text that the help of a command ends with.
+pub(crate) fn ending_text<'a>(ending: Ending) -> &'a str
+    ensures { result.now ≡ ending_text ending }
+{
+    match ending {
+        Ending::Run => RUN,
+        Ending::Moves => MOVES,
+        Ending::Check => CHECK,
+        Ending::Repetition => REPETITION,
+        Ending::Schedule => SCHEDULE,
+        Ending::Capacity => CAPACITY,
+        Ending::Dot => DOT,
+        Ending::Explain => EXPLAIN,
+    }
+}
+
 pub(crate) const PROGRAM: &str = "\
 Without a command, csdf plays the script of the graph file on standard input. A command reads the
 graph file from standard input where GRAPH is '-'; './-' is a file of that name.
@@ -12,7 +44,7 @@ Example: csdf capacity graph.toml
 tells whether the graph can run for ever in bounded channels, and in which.
 csdf COMMAND --help has an example of each command.";
 
-pub(crate) const RUN: &str = "\
+const RUN: &str = "\
 Reads DIR/NAME.in for each source NAME of the graph, one token a line, and runs the graph over these
 tokens. What an actor writes is computed by its kernel. When the run has ended, the command writes
 NAME.out for each sink NAME, and then prints a report. The files go to DIR, or to the folder of
@@ -45,7 +77,7 @@ Exit status: 0 the run has ended (complete, dry, stopped or starved), 1 an input
 Example: csdf run graph.toml tokens --workers 4 --periods 100
 reads tokens/src.in and writes tokens/snk.out, where the graph has a source src and a sink snk.";
 
-pub(crate) const MOVES: &str = "\
+const MOVES: &str = "\
 A graph file may have a script: lines such as 'begin src', each of which asks for one move. The
 command makes the moves in order, and prints the reply to each. A script shows how tokens and cells
 move. It does not compute: a write puts in the tokens that its line gives, where csdf run puts in
@@ -57,7 +89,7 @@ or memory failed. The status is 0 also where single moves were refused.
 Example: csdf moves graph.toml
 prints 'begin src: ok' for a line 'begin src', where the actor src is able to begin.";
 
-pub(crate) const CHECK: &str = "\
+const CHECK: &str = "\
 A graph is consistent where some numbers of firings, one for each actor, leave every channel with as
 many tokens as before. A consistent graph may still deadlock, for want of initial tokens: the command
 does not look at these. csdf capacity answers whether a graph can run for ever.
@@ -71,7 +103,7 @@ Exit status: 0 it is consistent, 1 it is not or is too large, or the file was re
 Example: csdf check graph.toml
 prints 'consistent: 3 actors, 2 channels' for a consistent graph of that size.";
 
-pub(crate) const REPETITION: &str = "\
+const REPETITION: &str = "\
 Prints a line 'NAME cycles firings' for each actor in file order. The first number is how often the
 actor goes through its phases in a period, the second one how often it fires. The command answers
 for a graph that deadlocks too, as csdf check does.
@@ -85,7 +117,7 @@ refused, 3 a file or memory failed.
 Example: csdf repetition graph.toml
 prints 'src 2 4' where the source src has two phases and makes four firings in a period.";
 
-pub(crate) const SCHEDULE: &str = "\
+const SCHEDULE: &str = "\
 Prints the firings of a period in order, on each line the actor that fires. That is each time the
 first actor in file order that has firings of the period left and is able to fire under the
 capacities: the least ones, or those of a run with --room.
@@ -101,7 +133,7 @@ were refused, 3 a file or memory failed.
 Example: csdf schedule graph.toml | uniq -c
 counts how often an actor fires in a row.";
 
-pub(crate) const CAPACITY: &str = "\
+const CAPACITY: &str = "\
 Answers whether the graph can run for ever in bounded channels, period after period. Where it can,
 the command prints the least capacity of each channel in file order, and the number of cells. A cell
 has place for one token, and all channels share the cells. The answer is for as many cells as the
@@ -125,7 +157,7 @@ refused, 3 a file or memory failed.
 Example: csdf capacity graph.toml
 prints 'NAME capacity' for each channel, and 'cells N' for the cells that all of them share.";
 
-pub(crate) const DOT: &str = "\
+const DOT: &str = "\
 Prints the graph in the language DOT: each actor with its firings in a period, and each channel with
 its least capacity, or with that of a run with --room. A dot stands for a token that a channel begins
 with, or for as many as the number before it says.
@@ -136,7 +168,7 @@ were refused, 3 a file or memory failed.
 Example: csdf dot graph.toml | dot -Tsvg > graph.svg
 makes a picture of the graph, where Graphviz is installed.";
 
-pub(crate) const EXPLAIN: &str = "\
+const EXPLAIN: &str = "\
 Says more than the fault line with which another command refuses a graph file. Of a fault of the
 file it prints the key, what was found there and what is wanted. Of an unbalanced channel it prints
 what the channel asks of its actors, and what those before it ask. Where a run stands still it

@@ -4,6 +4,7 @@
 mod command;
 mod help;
 mod order;
+mod rows;
 
 pub use command::{Request, Unread, form_of, request_of};
 pub use order::{Inquiry, RunWords};

@@ -1,5 +1,5 @@
 use Rattle.std.proofs.lemmas.Grind.{common_steps}
-use Rattle.std.proofs.Common.{◌≡◌, ◌+◌, ◌-◌, ◌++◌, ℕ, List, length, take, drop, get_or, ap, ap₂, subst, sym, ◌∙◌, rules, arith}
+use Rattle.std.proofs.Common.{◌≡◌, ◌<◌, ◌+◌, ◌-◌, ◌++◌, ℕ, List, length, take, drop, get_or, ap, ap₂, subst, sym, ◌∙◌, rules, arith}
 use Rattle.std.specs.Prelude.{ℤ}
 use Rattle.std.proofs.lemmas.Slice.{overwrites}
 use borrow.Rule.Slice.PartMut.{put_mid}
@@ -66,3 +66,14 @@ slot_after-slot-requires-clause-in_phase c = grind (arith, common_steps)
 
 pub turn_after-after-requires-clause-in_phase : goal.turn_after-after-requires-clause-in_phase
 turn_after-after-requires-clause-in_phase c = grind (arith, common_steps)
+
+pub tokens-tokens-requires : goal.tokens-tokens-requires
+tokens-tokens-requires c =
+    let place : c.args.place < length c.inputs.result.now = rw c.inputs.ensures.value c.requires.place in
+    rw c.requires.same (c.inputs.ensures.within c.args.place 0 place)
+
+pub turn_after-after-requires-clause-few : goal.turn_after-after-requires-clause-few
+turn_after-after-requires-clause-few c = omega (arith, c.loop-firing.invariant.firing, c.loop-firing-test.true, c.requires.few)
+
+pub slot_after-slot-requires-clause-slot : goal.slot_after-slot-requires-clause-slot
+slot_after-slot-requires-clause-slot c = c.loop-firing.invariant.slot

@@ -1,4 +1,4 @@
-use Rattle.std.proofs.Common.{◌<◌, ℕ, length, ◌∙◌, arith}
+use Rattle.std.proofs.Common.{◌≡◌, ◌<◌, ◌-◌, ℕ, length, refl, ◌∙◌, arith}
 use Rattle.std.proofs.lemmas.List.{length-map}
 use Rattle.csdf_pool.specs.Pool.{held_tokens}
 use Rattle.csdf_core.specs.Ports.{tokens_in}
@@ -28,3 +28,34 @@ loop-firing-preserved c =
           ∙ c.loop-firing.invariant.put;
       partition = c.put_tokens.ensures.partition;
     }
+
+pub loop-firing-init : goal.loop-firing-init
+loop-firing-init c =
+    let all : c.args.n - 0 ≡ c.args.n = omega arith in
+    record {
+      same = refl;
+      size = refl;
+      all = rw all (omega (arith, c.requires.all));
+      free = rw all refl;
+      put = rw all refl;
+      partition = c.requires.partition;
+    }
+
+pub put_tokens-requires-clause-channel : goal.put_tokens-requires-clause-channel
+put_tokens-requires-clause-channel c = omega (arith, c.loop-firing.invariant.same, c.requires.channel)
+
+pub put_tokens-requires-clause-room : goal.put_tokens-requires-clause-room
+put_tokens-requires-clause-room c =
+    let i : ℕ = c.loop-firing._firing in
+    let lt : i < c.args.n = c.loop-firing-test.true in
+    let writes = times_left c.args.n i lt c.args.gift in
+    let gives = times_left c.args.n i lt c.args.each in
+    let size = share_length c.args.before c.args.each c.args.gift c.loop-firing.at c.args.tokens.now (omega (arith, writes, c.loop-firing.invariant.all))
+    c.requires.within in
+    omega (arith, size, gives, c.loop-firing.invariant.free, c.requires.room)
+
+pub returns-clause-free : goal.returns-clause-free
+returns-clause-free c =
+    let done : c.args.n - c.loop-firing._firing ≡ 0 = omega (arith, c.loop-firing-test.false) in
+    let free = rw done at c.loop-firing.invariant.free in
+    omega (arith, free)

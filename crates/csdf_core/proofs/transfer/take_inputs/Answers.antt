@@ -33,7 +33,7 @@ loop-channel-preserved c =
     (put_mid c.loop-channel.at (c.loop-channel.at + c.takes-n.result - c.loop-channel.at) c.loop-channel.into c.take_tokens.new.into) ≡ take
     c.loop-channel.at c.loop-channel.into ++ c.take_tokens.new.into = search (rules, overwrites) in
     record {
-      same = grind (arith, common_steps);
+      same = c.take_tokens.ensures.same ∙ c.loop-channel.invariant.same;
       enough = grind (arith, common_steps);
       count = grind (arith, common_steps);
       whole = grind (arith, common_steps);
@@ -42,7 +42,7 @@ loop-channel-preserved c =
       left = grind (arith, common_steps);
       cells = grind (arith, common_steps);
       partition = c.take_tokens.ensures.partition;
-      size = grind (arith, common_steps);
+      size = c.take_tokens.ensures.size ∙ c.loop-channel.invariant.size;
     }
 
 pub returns-clause-count : goal.returns-clause-count

@@ -1,4 +1,3 @@
-use Rattle.std.proofs.lemmas.Grind.{common_steps}
 use Rattle.std.proofs.Common.{◌≡◌, ◌+◌, ◌-◌, ◌*◌, ℕ, length, ap, ◌∙◌, arith}
 use Rattle.csdf_kernel.specs.Loop.{loop_values}
 use Rattle.csdf_core.specs.Step.{count}
@@ -63,4 +62,27 @@ returns c =
     }
 
 pub eval_loop-requires-clause-small_counts : goal.eval_loop-requires-clause-small_counts
-eval_loop-requires-clause-small_counts c = grind (arith, common_steps)
+eval_loop-requires-clause-small_counts c = c.requires.small_counts
+
+pub eval_loop-requires-clause-few_counts : goal.eval_loop-requires-clause-few_counts
+eval_loop-requires-clause-few_counts c = c.requires.few_counts
+
+pub eval_loop-requires-clause-filter_in_range : goal.eval_loop-requires-clause-filter_in_range
+eval_loop-requires-clause-filter_in_range c = c.requires.filter_in_range
+
+pub peek_on-requires-clause-feedback : goal.peek_on-requires-clause-feedback
+peek_on-requires-clause-feedback c = c.requires.feedback
+
+pub peek_on-requires-clause-can : goal.peek_on-requires-clause-can
+peek_on-requires-clause-can c = c.requires.can
+
+pub peek_on-requires-clause-state : goal.peek_on-requires-clause-state
+peek_on-requires-clause-state c = c.split_at_mut-state.ensures.front_len
+
+pub peek_on-requires-clause-others : goal.peek_on-requires-clause-others
+peek_on-requires-clause-others c =
+    let buffer = c.requires.buffer in
+    let b = c.split_at_mut-window.ensures.back_len in
+    let r = c.split_at_mut-state.ensures.back_len in
+    let v = c.need-need.ensures.value in
+    omega (arith, buffer, b, r, v)

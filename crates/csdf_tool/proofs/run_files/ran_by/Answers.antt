@@ -8,7 +8,8 @@ use Rattle.csdf_answers.specs.Faults.{fault_of}
 use Rattle.csdf_answers.specs.declared.fault.Stream.TheVariants.{Input}
 use Rattle.csdf_answers.specs.declared.fault.ToolFault.TheVariants.{Device}
 use Rattle.csdf_tool.proofs.CauseLemmas.{err_as}
-use Rattle.csdf_tool.proofs.RunLemmas.{is_some-map, ran_of_file, run_asks, stops_by_feed, stops_by_graph, stops_by_texts}
+use Rattle.csdf_tool.proofs.FaultLemmas.{gives_none}
+use Rattle.csdf_tool.proofs.RunLemmas.{graph_ends, is_some-map, lacks_ends, ran_of_file, run_asks, stops_by_feed, stops_by_graph, stops_by_texts, texts_end}
 use Rattle.csdf_answers.proofs.ToldLemmas.{if_err_fault}
 use Rattle.csdf_tool.proofs.run_files.ran_by.Goals as goal
 
@@ -60,3 +61,46 @@ returns-clause-ran g c =
     (sym c.deref.ensures.value) c.actors.ensures.value (ap texts_in (sym c.deref-2.ensures.value)) in
     ran_of_file (order_view c.args.order) left graph seen (texts_in c.deref-2.result.now) _ _ _ c.ran_over.result named read asked
     (is_some-map c.args.order.journal) c.ran_over.ensures.told c.ran_over.ensures.sequential c.ran_over.ensures.kept c.ran_over.ensures.alike
+
+pub returns-in_err-bytes-clause-ran : goal.returns-in_err-bytes-clause-ran
+returns-in_err-bytes-clause-ran g c = gives_none c.from_residual.result c.in_err-bytes.field-0.0 _ c.from_residual.ensures.1
+
+pub returns-in_err-bytes-clause-other : goal.returns-in_err-bytes-clause-other
+returns-in_err-bytes-clause-other g c = if_err_fault _ c.in_err-bytes.field-0.0 _ c.from_residual.ensures.1 c.in_err-bytes.ensures.other
+
+pub returns-in_err-graph-clause-ran : goal.returns-in_err-graph-clause-ran
+returns-in_err-graph-clause-ran g c = gives_none c.from_residual-in_err-graph.result (fault_of c.in_err-graph.field-0.0) _ c.from_residual-in_err-graph.ensures.1
+
+pub returns-in_err-graph-clause-input : goal.returns-in_err-graph-clause-input
+returns-in_err-graph-clause-input g c = λ is failed.
+    let no = (c.in_ok-bytes.ensures.device is).1 failed in
+    absurd (cc)
+
+pub returns-in_err-graph-clause-other : goal.returns-in_err-graph-clause-other
+returns-in_err-graph-clause-other g c =
+    let why = c.in_err-graph.field-0.0 in
+    if_err_fault _ (fault_of why) _ c.from_residual-in_err-graph.ensures.1 (graph_ends why)
+
+pub returns-in_err-feeds-clause-ran : goal.returns-in_err-feeds-clause-ran
+returns-in_err-feeds-clause-ran g c = gives_none c.from_residual-in_err-feeds.result c.in_err-feeds.field-0.0 _ c.from_residual-in_err-feeds.ensures.1
+
+pub returns-in_err-feeds-clause-input : goal.returns-in_err-feeds-clause-input
+returns-in_err-feeds-clause-input g c = λ is failed.
+    let no = (c.in_ok-bytes.ensures.device is).1 failed in
+    absurd (cc)
+
+pub returns-in_err-feeds-clause-other : goal.returns-in_err-feeds-clause-other
+returns-in_err-feeds-clause-other g c =
+    let fault = c.in_err-feeds.field-0.0 in
+    if_err_fault _ fault _ c.from_residual-in_err-feeds.ensures.1
+    (lacks_ends _ _ c.args.order.folder.now (map actor_view c.actors.result.now) fault c.in_err-feeds.ensures.missing)
+
+pub returns-clause-input : goal.returns-clause-input
+returns-clause-input g c = λ is failed.
+    let no = (c.in_ok-bytes.ensures.device is).1 failed in
+    absurd (cc)
+
+pub returns-clause-other : goal.returns-clause-other
+returns-clause-other g c =
+    IfErr-weaker c.ran_over.result _ _ (λ fault refused. texts_end c.args.order.room c.in_ok-graph.graph (texts_in c.deref-2.result.now) fault refused)
+    c.ran_over.ensures.refused

@@ -91,28 +91,54 @@ pub returns-then-not-has_cells : goal.returns-then-not-has_cells
 returns-then-not-has_cells c = grind (arith, common_steps)
 
 pub returns-then-not-may_begin : goal.returns-then-not-may_begin
-returns-then-not-may_begin c = grind (arith, common_steps)
+returns-then-not-may_begin c =
+    let many = rw (← c.self.view_is) at c.if-not-may_begin.ensures.1 in
+    rw (← c.self.view_is) (λ e. absurd (cc), λ h. many h.firings)
 
 pub returns-then-not-have_asked : goal.returns-then-not-have_asked
-returns-then-not-have_asked c = grind (arith, common_steps)
+returns-then-not-have_asked c =
+    let plan : Plan = c.self.inside.plan in
+    let own : ℕ = c.args.feedback.channel in
+    let firing : c.turn-turn.result.firing ≡ count (now_in c.self.inside) c.args.actor = rw (← c.self.view_is) at c.turn-turn.ensures.firing in
+    rw (← c.self.view_is) (
+      λ e. absurd (cc),
+      λ h. c.if-not-have_asked.ensures.1
+          (subst (λ x. HaveRoomFor plan.channels (tokens_in c.self.inside.pool) (fills_at plan.channels own x c.args.n) (outputs_at plan.channels c.args.actor))
+          (sym firing) h.room),
+    )
 
 pub returns-then-not-hold_asked : goal.returns-then-not-hold_asked
-returns-then-not-hold_asked c = grind (arith, common_steps)
+returns-then-not-hold_asked c =
+    let plan : Plan = c.self.inside.plan in
+    let own : ℕ = c.args.feedback.channel in
+    let firing : c.turn-turn.result.firing ≡ count (now_in c.self.inside) c.args.actor = rw (← c.self.view_is) at c.turn-turn.ensures.firing in
+    rw (← c.self.view_is) (
+      λ e. absurd (cc),
+      λ h. c.if-not-hold_asked.ensures.1
+          (subst (λ x. HoldAll (tokens_in c.self.inside.pool) (asks_at plan.channels own x c.args.n) (inputs_at plan.channels c.args.actor)) (sym firing) h.tokens),
+    )
 
 pub have_asked-requires-clause-actor : goal.have_asked-requires-clause-actor
-have_asked-requires-clause-actor c = grind (arith, common_steps)
+have_asked-requires-clause-actor c = rw (← c.self.view_is) at c.requires.actor
 
 pub hold_asked-requires-clause-actor : goal.hold_asked-requires-clause-actor
-hold_asked-requires-clause-actor c = grind (arith, common_steps)
+hold_asked-requires-clause-actor c = rw (← c.self.view_is) at c.requires.actor
 
 pub hold_asked-requires-clause-in_phase : goal.hold_asked-requires-clause-in_phase
-hold_asked-requires-clause-in_phase c = grind (arith, common_steps)
+hold_asked-requires-clause-in_phase c = rw (← c.self.view_is) at c.turn-turn.ensures.in_phase
 
 pub returns-then-is_some : goal.returns-then-is_some
 returns-then-is_some c = grind (arith, common_steps)
 
 pub returns-then-from : goal.returns-then-from
-returns-then-from c = grind (arith, common_steps)
+returns-then-from c =
+    let firing : c.turn-turn.result.firing ≡ count (now_in c.self.inside) c.args.actor = rw (← c.self.view_is) at c.turn-turn.ensures.firing in
+    let over = c.if-from.true in
+    let limit = c.limit.ensures.value in
+    rw (← c.self.view_is) (
+      λ e. absurd (cc),
+      λ h. (let most = h.limit in absurd (omega (arith, most, over, c.from.ensures, c.from-2.ensures, c.from-3.ensures, limit, firing))),
+    )
 
 pub len-requires : goal.len-requires
 len-requires c = grind (arith, common_steps)
@@ -121,7 +147,7 @@ pub have_asked-requires-clause-same : goal.have_asked-requires-clause-same
 have_asked-requires-clause-same c = grind (arith, common_steps)
 
 pub first_closed-requires-clause-actor : goal.first_closed-requires-clause-actor
-first_closed-requires-clause-actor c = grind (arith, common_steps)
+first_closed-requires-clause-actor c = rw (← c.self.view_is) at c.requires.actor
 
 pub returns-then-not-is_at : goal.returns-then-not-is_at
 returns-then-not-is_at c = grind (arith, common_steps)
@@ -130,4 +156,4 @@ pub hold_asked-requires-clause-same : goal.hold_asked-requires-clause-same
 hold_asked-requires-clause-same c = grind (arith, common_steps)
 
 pub limit-requires : goal.limit-requires
-limit-requires c = grind (arith, common_steps)
+limit-requires c = rw (← c.self.view_is) at c.requires.actor

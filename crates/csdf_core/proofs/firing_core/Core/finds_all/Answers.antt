@@ -99,3 +99,42 @@ hold_each-requires-clause-same c = grind (arith, common_steps)
 
 pub first_closed-requires-clause-actor : goal.first_closed-requires-clause-actor
 first_closed-requires-clause-actor c = grind (arith, common_steps)
+
+pub hold_each-requires-clause-few : goal.hold_each-requires-clause-few
+hold_each-requires-clause-few c = omega (arith, c.if-from.false, c.from.ensures, c.from-2.ensures, c.from-3.ensures, c.limit.ensures.small)
+
+pub returns-then-not-hold_each : goal.returns-then-not-hold_each
+returns-then-not-hold_each c =
+    let plan : Plan = c.self.inside.plan in
+    let firing : c.turn-turn.result.firing ≡ count (now_in c.self.inside) c.args.actor = rw (← c.self.view_is) at c.turn-turn.ensures.firing in
+    rw (← c.self.view_is) (
+      λ e. absurd (cc),
+      λ h. c.if-not-hold_each.ensures.1
+          (subst (λ x. HoldAll (tokens_in c.self.inside.pool) (takes_at plan.channels x c.args.n) (inputs_at plan.channels c.args.actor)) (sym firing) h.tokens),
+    )
+
+pub returns-then-not-have_room_each : goal.returns-then-not-have_room_each
+returns-then-not-have_room_each c =
+    let plan : Plan = c.self.inside.plan in
+    let a : ℕ = c.args.actor in
+    let firing : c.turn-turn.result.firing ≡ count (now_in c.self.inside) a = rw (← c.self.view_is) at c.turn-turn.ensures.firing in
+    rw (← c.self.view_is) (
+      λ e. absurd (cc),
+      λ h. c.if-not-have_room_each.ensures.1
+          (subst (λ x. HaveRoomFor plan.channels (tokens_in c.self.inside.pool) (grows_at plan.channels a x c.args.n) (outputs_at plan.channels a)) (sym firing) h.room),
+    )
+
+pub has_cells_for-requires-clause-given : goal.has_cells_for-requires-clause-given
+has_cells_for-requires-clause-given c =
+    c.given_ahead-given.ensures.value ∙ ap (λ (k : ℕ). gifts_of c.args.self.now.plan.channels c.args.actor k c.args.n) (sym c.turn-turn.ensures.firing)
+
+pub has_supply-requires-clause-small : goal.has_supply-requires-clause-small
+has_supply-requires-clause-small c = omega (
+  arith,
+  c.given_ahead-given.ensures.small,
+  c.if-from.false,
+  c.from.ensures,
+  c.from-2.ensures,
+  c.from-3.ensures,
+  c.limit.ensures.small,
+)

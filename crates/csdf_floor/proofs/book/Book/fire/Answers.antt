@@ -5,9 +5,10 @@ use Rattle.std.proofs.lemmas.List.{length-map}
 use Rattle.csdf_core.specs.Blocks.{CanFire, AreReadEach, needs_of, gifts_of}
 use Rattle.csdf_core.specs.Plan.{Plan}
 use Rattle.csdf_core.specs.Step.{count}
-use Rattle.csdf_floor.specs.Inside.{IsBook}
+use Rattle.csdf_floor.specs.Inside.{BookView, IsBook}
 use Rattle.csdf_floor.specs.Making.{made_value}
 use Rattle.csdf_floor.specs.Work.{feeds_in, program}
+use Rattle.csdf_core.proofs.Runs.{on_err}
 use Rattle.csdf_floor.proofs.Books.{floor_of, sinks_each, sinks_after}
 use Rattle.csdf_floor.proofs.Makings.{IsMade, book_fired, fired_book, has_made, length_made}
 use Rattle.csdf_floor.proofs.Works.{item_at}
@@ -97,7 +98,17 @@ pub index-taken-requires : goal.index-taken-requires
 index-taken-requires c = grind (arith, common_steps)
 
 pub fire-requires-clause-can : goal.fire-requires-clause-can
-fire-requires-clause-can c = grind (arith, common_steps)
+fire-requires-clause-can c = rw (← c.self.view_is) at c.requires.can
 
 pub returns-clause-room : goal.returns-clause-room
 returns-clause-room c = grind (arith, common_steps)
+
+pub invariant_of-self : goal.invariant_of-self
+invariant_of-self c = rw (c.note_firings.ensures.keeps, c.in_err-note_firings.ensures.unchanged) c.self.invariant
+
+pub returns-in_err-note_firings-clause-unchanged : goal.returns-in_err-note_firings-clause-unchanged
+returns-in_err-note_firings-clause-unchanged c =
+    let same : floor_of c.note_firings.new.journal.keeps c.self.inside.work c.self.inside.core c.note_firings.new.journal.moves c.self.inside.sinks.lists
+    ≡ c.args.self.now.shown =
+    rw (c.note_firings.ensures.keeps, c.in_err-note_firings.ensures.unchanged) (ap (λ (b : BookView). b.shown) c.self.view_is) in
+    on_err _ _ same

@@ -3,19 +3,19 @@ use Rattle.std.proofs.lemmas.Grind.{common_steps}
 use Rattle.csdf_floor.proofs.book.Book.goes_on.Goals as goal
 
 pub returns-then-is_sink-clause-most : goal.returns-then-is_sink-clause-most
-returns-then-is_sink-clause-most c = grind (arith, common_steps)
+returns-then-is_sink-clause-most c = tt
 
 pub returns-then-is_sink-clause-some : goal.returns-then-is_sink-clause-some
-returns-then-is_sink-clause-some c = grind (arith, common_steps)
+returns-then-is_sink-clause-some c = tt
 
 pub returns-then-is_sink-clause-feedback : goal.returns-then-is_sink-clause-feedback
-returns-then-is_sink-clause-feedback c = grind (arith, common_steps)
+returns-then-is_sink-clause-feedback c = tt
 
 pub returns-then-is_sink-clause-can : goal.returns-then-is_sink-clause-can
-returns-then-is_sink-clause-can c = grind (arith, common_steps)
+returns-then-is_sink-clause-can c = tt
 
 pub returns-then-is_sink-clause-other : goal.returns-then-is_sink-clause-other
-returns-then-is_sink-clause-other c = grind (arith, common_steps)
+returns-then-is_sink-clause-other c = tt
 
 pub feedback-requires : goal.feedback-requires
 feedback-requires c = grind (arith, common_steps)
@@ -39,19 +39,19 @@ pub goes_on-n-requires-clause-actor : goal.goes_on-n-requires-clause-actor
 goes_on-n-requires-clause-actor c = grind (arith, common_steps)
 
 pub returns-then-n-eq0-clause-most : goal.returns-then-n-eq0-clause-most
-returns-then-n-eq0-clause-most c = grind (arith, common_steps)
+returns-then-n-eq0-clause-most c = tt
 
 pub returns-then-n-eq0-clause-some : goal.returns-then-n-eq0-clause-some
-returns-then-n-eq0-clause-some c = grind (arith, common_steps)
+returns-then-n-eq0-clause-some c = tt
 
 pub returns-then-n-eq0-clause-feedback : goal.returns-then-n-eq0-clause-feedback
-returns-then-n-eq0-clause-feedback c = grind (arith, common_steps)
+returns-then-n-eq0-clause-feedback c = tt
 
 pub returns-then-n-eq0-clause-can : goal.returns-then-n-eq0-clause-can
-returns-then-n-eq0-clause-can c = grind (arith, common_steps)
+returns-then-n-eq0-clause-can c = tt
 
 pub returns-then-n-eq0-clause-other : goal.returns-then-n-eq0-clause-other
-returns-then-n-eq0-clause-other c = grind (arith, common_steps)
+returns-then-n-eq0-clause-other c = tt
 
 pub returns-clause-most : goal.returns-clause-most
 returns-clause-most c = grind (arith, common_steps)

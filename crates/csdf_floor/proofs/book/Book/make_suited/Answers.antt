@@ -1,4 +1,4 @@
-use Rattle.std.proofs.Common.{◌≡◌, ℕ, [], get_or, sym, subst, refl, ◌∙◌}
+use Rattle.std.proofs.Common.{◌≡◌, ℕ, [], get_or, length, ap, sym, subst, refl, ◌∙◌}
 use Rattle.csdf_core.specs.Step.{count}
 use Rattle.csdf_floor.specs.Making.{made_value}
 use Rattle.csdf_floor.specs.Drafts.{Suits}
@@ -19,3 +19,23 @@ fire-requires-clause-just c =
     (get_or c.peek.new.self.reads c.args.actor [])) (sym c.firings-n.ensures)
     (drafted_is c.peek.new.self.shown c.args.actor c.args.draft.now (get_or c.peek.new.self.reads c.args.actor []) c.values.result.now plan suits
     (sym c.inputs-2.ensures ∙ c.if-not-has_in_buffer.ensures.0 refl) c.values.ensures)
+
+pub peek-requires-clause-can : goal.peek-requires-clause-can
+peek-requires-clause-can c = rw (c.in_ok-make_room_for.ensures.shown, c.firings-n.ensures) c.requires.suits.can
+
+pub peek-requires-clause-buffer : goal.peek-requires-clause-buffer
+peek-requires-clause-buffer c = rw (c.in_ok-make_room_for.ensures.shown, c.firings-n.ensures)
+    (c.in_ok-make_room_for.ensures.buffer ∙ ap length c.inputs.ensures ∙ c.requires.suits.long)
+
+pub fire-requires-clause-can : goal.fire-requires-clause-can
+fire-requires-clause-can c = rw (c.peek.ensures.shown, c.in_ok-make_room_for.ensures.shown, c.firings-n.ensures) c.requires.suits.can
+
+pub fire-requires-clause-buffer : goal.fire-requires-clause-buffer
+fire-requires-clause-buffer c = rw (c.peek.ensures.shown, c.in_ok-make_room_for.ensures.shown, c.firings-n.ensures)
+    (c.peek.ensures.buffer ∙ c.in_ok-make_room_for.ensures.buffer ∙ ap length c.inputs.ensures ∙ c.requires.suits.long)
+
+pub fire-requires-clause-read : goal.fire-requires-clause-read
+fire-requires-clause-read c = rw c.peek.ensures.shown c.peek.ensures.read
+
+pub returns-clause-made : goal.returns-clause-made
+returns-clause-made c = λ _. rw (c.peek.ensures.shown, c.in_ok-make_room_for.ensures.shown, c.firings-n.ensures) at c.in_ok-fire.ensures.made

@@ -6,6 +6,7 @@ use Rattle.csdf_kernel.specs.Loop.{loop_values}
 use Rattle.csdf_core.specs.Feedback.{IsFeedback}
 use Rattle.csdf_core.specs.Plan.{Plan}
 use Rattle.csdf_core.specs.Step.{count}
+use Rattle.csdf_floor.specs.Inside.{BookView}
 use Rattle.csdf_floor.specs.Journal.{Program, output_counts}
 use Rattle.csdf_floor.specs.Work.{feeds_in, program}
 use Rattle.csdf_floor.proofs.Books.{book_resized}
@@ -57,7 +58,7 @@ returns-clause-values c =
     c.kernel-kernel.ensures.value (counts at))) c.own_values.ensures.values)
 
 pub counts_into-requires : goal.counts_into-requires
-counts_into-requires c = grind (arith, common_steps)
+counts_into-requires c = c.requires.can.there
 
 pub kernel-kernel-requires : goal.kernel-kernel-requires
 kernel-kernel-requires c = grind (arith, common_steps)
@@ -66,28 +67,28 @@ pub index_mut-buffer-requires : goal.index_mut-buffer-requires
 index_mut-buffer-requires c = grind (arith, common_steps)
 
 pub own_values-requires-clause-feedback : goal.own_values-requires-clause-feedback
-own_values-requires-clause-feedback c = grind (arith, common_steps)
+own_values-requires-clause-feedback c = rw (← c.self.view_is) at c.requires.feedback
 
 pub own_values-requires-clause-can : goal.own_values-requires-clause-can
-own_values-requires-clause-can c = grind (arith, common_steps)
+own_values-requires-clause-can c = rw (← c.self.view_is) at c.requires.can
 
 pub own_values-requires-clause-filter_in_range : goal.own_values-requires-clause-filter_in_range
-own_values-requires-clause-filter_in_range c = grind (arith, common_steps)
+own_values-requires-clause-filter_in_range c = c.kernel-kernel.ensures.in_range
 
 pub own_values-requires-clause-buffer : goal.own_values-requires-clause-buffer
 own_values-requires-clause-buffer c = grind (arith, common_steps)
 
 pub returns-clause-shown : goal.returns-clause-shown
-returns-clause-shown c = grind (arith, common_steps)
+returns-clause-shown c = ap (λ (b : BookView). b.shown) c.self.view_is
 
 pub returns-clause-rooms : goal.returns-clause-rooms
-returns-clause-rooms c = grind (arith, common_steps)
+returns-clause-rooms c = ap (λ (b : BookView). b.rooms) c.self.view_is
 
 pub returns-clause-room : goal.returns-clause-room
-returns-clause-room c = grind (arith, common_steps)
+returns-clause-room c = ap (λ (b : BookView). b.room) c.self.view_is
 
 pub returns-clause-width : goal.returns-clause-width
-returns-clause-width c = grind (arith, common_steps)
+returns-clause-width c = ap (λ (b : BookView). b.width) c.self.view_is
 
 pub own_values-requires-clause-few_counts : goal.own_values-requires-clause-few_counts
-own_values-requires-clause-few_counts c = grind (arith, common_steps)
+own_values-requires-clause-few_counts c = rw c.as_slice.ensures c.in_ok-counts_into.ensures.few

@@ -1,11 +1,14 @@
 use Rattle.std.proofs.lemmas.Grind.{common_steps}
-use Rattle.std.proofs.Common.{◌≡◌, None, ap, ◌∙◌, arith}
+use Rattle.std.proofs.Common.{◌≡◌, List, get_or, None, ap, ◌∙◌, arith}
 use Rattle.std.specs.Prelude.{option_map}
 use Rattle.csdf_core.specs.Moves.{Begin}
 use Rattle.csdf_core.specs.Step.{refusal}
 use Rattle.csdf_floor.specs.declared.fault.StartFault.TheVariants.{Refused}
 use Rattle.csdf_core.proofs.Booked.{can_begin}
 use Rattle.csdf_floor.specs.Floor.{start_refusal}
+use Rattle.csdf_core.specs.declared.stage.Stage.{Stage}
+use Rattle.csdf_core.specs.declared.stage.Stage.TheVariants.{Idle}
+use Rattle.csdf_core.proofs.Runs.{on_err}
 use Rattle.csdf_floor.proofs.Floors.{MayStart, accepted_of, may_start}
 use Rattle.csdf_floor.proofs.MadeFloors.{between_made, not_over}
 use Rattle.csdf_floor.proofs.floor.Floor.make_with.Goals as goal
@@ -42,3 +45,13 @@ make_many_from-requires-clause-exists c = grind (arith, common_steps)
 
 pub returns-clause-answer : goal.returns-clause-answer
 returns-clause-answer c = grind (arith, common_steps)
+
+pub returns-in_err-n-clause-unchanged : goal.returns-in_err-n-clause-unchanged
+returns-in_err-n-clause-unchanged c = on_err _ _ (c.in_err-n.ensures.unchanged ∙ c.self.view_is)
+
+pub close_outputs-requires-clause-idle : goal.close_outputs-requires-clause-idle
+close_outputs-requires-clause-idle c =
+    let accepted : refusal c.self.inside.book.shown.core.plan c.self.inside.book.shown.core.now (Begin c.args.actor) ≡ None =
+    accepted_of _ c.in_ok-n.n c.in_ok-n.ensures.answer in
+    ap (λ (ss : List Stage). get_or ss c.args.actor Idle) c.in_ok-n.ensures.made.stages
+    ∙ (can_begin c.self.inside.book.shown.core.plan c.self.inside.book.shown.core.now c.args.actor accepted).idle

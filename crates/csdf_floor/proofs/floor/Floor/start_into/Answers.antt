@@ -1,6 +1,11 @@
 use Rattle.std.proofs.lemmas.Grind.{common_steps}
-use Rattle.std.proofs.Common.{rules, ◌≡◌, None, sym, subst, ◌∙◌, arith}
+use Rattle.std.proofs.Common.{rules, ◌≡◌, ◌≤◌, ℕ, List, get_or, None, ap, ap₂, sym, subst, ◌∙◌, arith}
 use Rattle.csdf_floor.specs.Floor.{FloorView, IsBetween, start_refusal}
+use Rattle.csdf_core.specs.Plan.{Plan}
+use Rattle.csdf_core.specs.Rows.{need}
+use Rattle.csdf_core.proofs.Booked.{can_begin}
+use Rattle.csdf_floor.specs.Making.{amount_of}
+use Rattle.csdf_floor.specs.Work.{Work, program}
 use Rattle.csdf_floor.proofs.Floors.{MayStart, may_start, between_taken}
 use Rattle.csdf_floor.proofs.floor.Floor.start_into.Goals as goal
 use Rattle.csdf_floor.proofs.floor.Floor.start_into.Goals.{In_ok-make_room}
@@ -52,3 +57,29 @@ reserve_inputs-requires c = grind (arith, common_steps)
 
 pub returns-clause-answer : goal.returns-clause-answer
 returns-clause-answer c = grind (arith, common_steps)
+
+pub make_room-requires-clause-idle : goal.make_room-requires-clause-idle
+make_room-requires-clause-idle c =
+    let none : start_refusal c.args.self.now c.args.actor c.args.firing ≡ None = sym c.start_refusal.ensures ∙ c.in_default.is in
+    let may : MayStart c.args.self.now c.args.actor c.args.firing = may_start c.args.self.now c.args.actor c.args.firing none in
+    rw (← c.self.view_is) at (can_begin c.args.self.now.core.plan c.args.self.now.core.now c.args.actor may.accepted).idle
+
+pub take-requires-clause-room : goal.take-requires-clause-room
+take-requires-clause-room c = c.in_ok-make_room.ensures.room
+
+pub fill-requires-clause-buffer : goal.fill-requires-clause-buffer
+fill-requires-clause-buffer c =
+    let taken = c.take.ensures.taken in
+    taken.buffer ∙ c.in_ok-make_room.ensures.room.buffer
+    ∙ ap₂ (λ (ns : List ℕ) (u : Plan). need c.args.actor (get_or ns c.args.actor 0) u.channels) (sym taken.counts) (sym taken.plan)
+
+pub fill-requires-clause-room : goal.fill-requires-clause-room
+fill-requires-clause-room c =
+    let shown = c.make_room.ensures.shown in
+    let work = c.take.ensures.taken.gone.work ∙ ap (λ (f : FloorView). f.work) shown in
+    let counts = c.take.ensures.taken.counts ∙ ap (λ (f : FloorView). f.core.now.counts) shown in
+    subst (λ (n : ℕ). n ≤ c.reserve_inputs.new.into.capacity)
+    (sym (ap₂ (λ (w : Work) (ns : List ℕ). amount_of (program w) c.args.actor (get_or ns c.args.actor 0)) work counts)) c.in_ok-reserve_inputs.ensures.room
+
+pub returns-clause-gone : goal.returns-clause-gone
+returns-clause-gone c = rw (c.make_room.ensures.shown, c.self.view_is) at c.take.ensures.taken.gone

@@ -1,5 +1,5 @@
 use Rattle.std.proofs.lemmas.Grind.{common_steps}
-use Rattle.std.proofs.Common.{◌≡◌, ◌<◌, ◌≤◌, ◌+◌, ◌-◌, ◌++◌, ℕ, List, length, drop, take, ap, subst, sym, ◌∙◌, arith}
+use Rattle.std.proofs.Common.{◌≡◌, ◌<◌, ◌≤◌, ◌+◌, ◌-◌, ◌++◌, ℕ, List, length, drop, take, ap, subst, sym, refl, ◌∙◌, arith, append-nil}
 use Rattle.std.specs.Prelude.{ℤ}
 use Rattle.std.proofs.lemmas.List.{length-append, length-drop, take_all}
 use Rattle.csdf_core.specs.Blocks.{gifts_of}
@@ -71,3 +71,28 @@ loop-firing-preserved c =
           c.loop-firing.invariant.tokens);
       room = omega (arith, room, c.in_ok-at.ensures.capacity);
     }
+
+pub loop-firing-init : goal.loop-firing-init
+loop-firing-init c =
+    let firing = c.turn-turn.ensures.firing in
+    let left : c.fired-first.result + c.args.n - c.turn-turn.result.firing ≡ c.args.n = omega (arith, firing, c.fired-first.ensures.value) in
+    record {
+      firing = firing ∙ sym c.fired-first.ensures.value;
+      in_phase = c.turn-turn.ensures.in_phase;
+      low = c.turn-turn.ensures.low;
+      values = rw (left, firing) refl;
+      tokens = rw (left, firing) (omega (arith, c.requires.tokens));
+      room = rw (left, firing) c.requires.room;
+    }
+
+pub push_phase-requires-clause-in_phase : goal.push_phase-requires-clause-in_phase
+push_phase-requires-clause-in_phase c = c.loop-firing.invariant.in_phase
+
+pub turn_after-turn-requires-clause-few : goal.turn_after-turn-requires-clause-few
+turn_after-turn-requires-clause-few c =
+    omega (arith, c.loop-firing.invariant.firing, c.loop-firing-test.true, c.requires.few, c.fired-first.ensures.value)
+
+pub returns : goal.returns
+returns c =
+    let done : c.fired-first.result + c.args.n - c.loop-firing.turn.firing ≡ 0 = omega (arith, c.loop-firing.invariant.firing, c.loop-firing-test.false) in
+    sym (append-nil c.loop-firing.outputs.items) ∙ (rw done at c.loop-firing.invariant.values)

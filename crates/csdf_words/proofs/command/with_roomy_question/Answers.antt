@@ -1,4 +1,0 @@
-use Rattle.csdf_words.proofs.command.with_roomy_question.Goals as goal
-
-pub returns : goal.returns
-returns c = c.with_made.ensures _ c.on_roomy_question.ensures.app c.on_roomy_question.ensures.local
