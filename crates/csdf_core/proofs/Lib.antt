@@ -58,4 +58,3 @@ pub mod GoingTokens
 pub mod FeedbackMoves
 pub mod FeedbackReads
 pub mod GoneOn
-pub mod Below

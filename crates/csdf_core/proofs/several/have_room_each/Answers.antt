@@ -1,10 +1,9 @@
-use Rattle.std.proofs.Common.{◌≡◌, ◌≤◌, ◌+◌, ℕ, [], length, get_or, ap, subst, sym, ◌∙◌, refl, arith}
+use Rattle.std.proofs.Common.{◌≡◌, ◌≤◌, ◌+◌, ℕ, [], length, get_or, ap, subst, sym, ◌∙◌, refl, below_more, arith}
 use Rattle.std.proofs.lemmas.Grind.{common_steps}
 use Rattle.std.proofs.lemmas.List.{length-map}
 use Rattle.csdf_pool.specs.Pool.{Held}
 use Rattle.csdf_core.specs.Blocks.{HaveRoomFor, capacity_at, grows_at}
 use Rattle.csdf_core.specs.Ports.{tokens_at, tokens_in}
-use Rattle.csdf_core.proofs.Below.{below_next}
 use Rattle.csdf_core.proofs.BlockPorts.{by_places}
 use Rattle.csdf_core.proofs.PortLemmas.{tokens_at-map}
 use Rattle.csdf_core.proofs.several.have_room_each.Goals as goal
@@ -27,7 +26,7 @@ loop-channel-preserved c =
     let x : ℕ = get_or c.outputs-outputs.result.now i 0 in
     let held : c.len.result ≡ length (tokens_at (tokens_in c.args.pool.now) x) =
     c.len.ensures ∙ sym (ap length (tokens_at-map c.args.pool.now.chains x) ∙ length-map (get_or c.args.pool.now.chains x []) (λ (h : Held). h.1)) in
-    below_next (λ j. length (tokens_at (tokens_in c.args.pool.now) (get_or c.outputs-outputs.result.now j 0)) + grows_at c.args.plan.now.channels c.args.actor c.args.turn.firing c.args.n (get_or c.outputs-outputs.result.now j 0)
+    below_more (λ j. length (tokens_at (tokens_in c.args.pool.now) (get_or c.outputs-outputs.result.now j 0)) + grows_at c.args.plan.now.channels c.args.actor c.args.turn.firing c.args.n (get_or c.outputs-outputs.result.now j 0)
     ≤ capacity_at c.args.plan.now.channels (get_or c.outputs-outputs.result.now j 0)) i c.loop-channel.invariant
     (omega (arith, held, c.from.ensures, c.if-from-growth.false, c.growth_in-growth.ensures.value, c.capacity.ensures, c.from-in-loop-channel.ensures))
 
