@@ -1,4 +1,5 @@
-use Rattle.std.proofs.Common.{◌∙◌}
+use Rattle.std.proofs.lemmas.Grind.{common_steps}
+use Rattle.std.proofs.Common.{◌∙◌, arith}
 use Rattle.csdf_answers.proofs.NameLemmas.{actor_name-found}
 use Rattle.csdf_answers.proofs.question.actor_name.Goals as goal
 
@@ -6,3 +7,6 @@ pub returns-in-Some : goal.returns-in-Some
 returns-in-Some c =
     let found = c.in-Some.ensures.lookup in
     c.as_str.ensures.value ∙ actor_name-found c.args.actors.now c.args.number c.in-Some.actor.now found.3.0 found.1
+
+pub returns-in-None : goal.returns-in-None
+returns-in-None c = grind (arith, common_steps)

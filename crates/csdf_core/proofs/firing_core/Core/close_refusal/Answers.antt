@@ -1,3 +1,4 @@
+use Rattle.std.proofs.lemmas.Grind.{common_steps}
 use Rattle.std.proofs.Common.{◌<◌, length, arith}
 use Rattle.csdf_core.proofs.CoreLemmas.{producer_within}
 use Rattle.csdf_core.proofs.firing_core.Core.close_refusal.Goals as goal
@@ -8,3 +9,6 @@ stage-requires c =
     let within = producer_within (length c.self.inside.plan.sources) c.self.inside.plan.channels c.args.channel
     c.self.invariant.sound.playable.ends there in
     rw (← c.self.view_is) (omega (arith, within, c.producer-producer.ensures))
+
+pub returns : goal.returns
+returns c = grind (arith, common_steps)

@@ -1,4 +1,4 @@
-use Rattle.std.proofs.Common.{subst, ◌∙◌}
+use Rattle.std.proofs.Common.{subst, ◌∙◌, rules}
 use Rattle.csdf_core.specs.Inside.{now_in}
 use Rattle.csdf_core.specs.Phases.{HasPhases}
 use Rattle.csdf_core.specs.Step.{count}
@@ -11,3 +11,6 @@ returns-then-phases-eq1-clause-value c =
     let need = rw (← c.self.view_is) at c.need.ensures.value in
     rw (← c.self.view_is)
     (need ∙ same_need c.self.inside.plan.channels c.args.actor has (count (now_in c.self.inside) c.args.actor) c.args.turn.firing)
+
+pub returns-clause-value : goal.returns-clause-value
+returns-clause-value c = search rules

@@ -1,4 +1,4 @@
-use Rattle.std.proofs.Common.{◌<◌, arith}
+use Rattle.std.proofs.Common.{◌<◌, arith, rules}
 use Rattle.std.proofs.lemmas.Bool.{false≢true}
 use Rattle.csdf_floor.proofs.draft.Draft.evaluate.Goals as goal
 
@@ -15,3 +15,6 @@ pub eval_block-requires-clause-whole : goal.eval_block-requires-clause-whole
 eval_block-requires-clause-whole c =
     let some : 0 < c.self.inside.firings = omega (arith, c.if-self-eq0.false) in
     rw c.as_slice-2.ensures.value (c.self.invariant.0 some).whole
+
+pub returns-clause-made : goal.returns-clause-made
+returns-clause-made c = search rules

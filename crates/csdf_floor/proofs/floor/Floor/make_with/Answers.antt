@@ -1,5 +1,5 @@
 use Rattle.std.proofs.lemmas.Grind.{common_steps}
-use Rattle.std.proofs.Common.{◌≡◌, List, get_or, None, ap, ◌∙◌, arith}
+use Rattle.std.proofs.Common.{◌≡◌, List, get_or, None, ap, ◌∙◌, arith, rules}
 use Rattle.std.specs.Prelude.{option_map}
 use Rattle.csdf_core.specs.Moves.{Begin}
 use Rattle.csdf_core.specs.Step.{refusal}
@@ -55,3 +55,6 @@ close_outputs-requires-clause-idle c =
     accepted_of _ c.in_ok-n.n c.in_ok-n.ensures.answer in
     ap (λ (ss : List Stage). get_or ss c.args.actor Idle) c.in_ok-n.ensures.made.stages
     ∙ (can_begin c.self.inside.book.shown.core.plan c.self.inside.book.shown.core.now c.args.actor accepted).idle
+
+pub returns-then-most-eq0-clause-answer : goal.returns-then-most-eq0-clause-answer
+returns-then-most-eq0-clause-answer c = search rules

@@ -1,4 +1,4 @@
-use Rattle.std.proofs.Common.{arith}
+use Rattle.std.proofs.Common.{arith, rules}
 use Rattle.std.proofs.lemmas.Grind.{common_steps}
 use Rattle.std.proofs.Common.{◌≡◌, List, [], ◌++◌, length, ap, sym, ◌∙◌}
 use Rattle.std.specs.List.{range_with_len}
@@ -40,3 +40,6 @@ returns-clause-journal c =
 
 pub close_at_first-requires-clause-room : goal.close_at_first-requires-clause-room
 close_at_first-requires-clause-room c = grind (arith, common_steps)
+
+pub returns-clause-keeps : goal.returns-clause-keeps
+returns-clause-keeps c = search rules

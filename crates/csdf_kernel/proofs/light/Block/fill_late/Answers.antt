@@ -1,4 +1,4 @@
-use Rattle.std.proofs.Common.{ℕ, ◌≡◌, ◌+◌, ◌*◌, ◌<◌, length, arith, ℤ, to_z, of_z}
+use Rattle.std.proofs.Common.{ℕ, ◌≡◌, ◌+◌, ◌*◌, ◌<◌, length, arith, ℤ, to_z, of_z, rules}
 use Rattle.std.specs.Int.{w32}
 use Rattle.std.proofs.lemmas.Int.{ints, to_z-of_z}
 use Rattle.std.proofs.lemmas.Grind.{common_steps}
@@ -22,3 +22,6 @@ loop-firing-preserved c =
       others = others_more each c.args.values.now c.loop-firing.values c.args.place c.args.first n z c.loop-firing.auto.firing c.requires.place
           c.loop-firing.invariant.others;
     }
+
+pub returns-clause-told : goal.returns-clause-told
+returns-clause-told c = search rules
