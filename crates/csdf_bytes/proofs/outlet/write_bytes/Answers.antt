@@ -1,3 +1,4 @@
+use Rattle.std.proofs.lemmas.Grind.{common_steps}
 use Rattle.std.proofs.Common.{◌∙◌, arith, ℕ, length-drop, length-take, take}
 use Rattle.std.proofs.lemmas.List.{take_rest}
 use Rattle.csdf_bytes.proofs.DeviceLemmas.{Appends-kept, Emits-more, unmarked}
@@ -17,3 +18,6 @@ returns-in-Err-clause-begun g c = record {
   fits = c.loop-done.invariant.within;
   put = Appends-kept _ _ _ (take c.loop-done.done c.args.bytes.now) c.loop-done.invariant.so_far c.in-Err.ensures.kept;
 }
+
+pub returns-clause-written : goal.returns-clause-written
+returns-clause-written g c = grind (arith, common_steps)

@@ -1,4 +1,4 @@
-use Rattle.std.proofs.Common.{inl, refl}
+use Rattle.std.proofs.Common.{inl, refl, rules}
 use Rattle.csdf_answers.specs.declared.fault.ToolFault.TheVariants.{Memory}
 use Rattle.csdf_answers.proofs.ToldLemmas.{if_err_fault}
 use Rattle.csdf_tool.proofs.DiskLemmas.{on_err, only_none, only_read}
@@ -40,3 +40,12 @@ returns-in-Err-TooLong-clause-only g c = only_read _ _ _ _ c.in-Err-TooLong.ensu
 
 pub returns-in-Err-Memory-clause-only : goal.returns-in-Err-Memory-clause-only
 returns-in-Err-Memory-clause-only g c = only_read _ _ _ _ c.in-Err-Memory.ensures
+
+pub returns-in-Err-Read-clause-missing : goal.returns-in-Err-Read-clause-missing
+returns-in-Err-Read-clause-missing g c = search rules
+
+pub returns-in-Ok-clause-read : goal.returns-in-Ok-clause-read
+returns-in-Ok-clause-read g c = search rules
+
+pub returns-in-Err-TooLong-clause-missing : goal.returns-in-Err-TooLong-clause-missing
+returns-in-Err-TooLong-clause-missing g c = search rules
