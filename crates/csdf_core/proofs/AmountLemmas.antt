@@ -1,11 +1,12 @@
 -- What the next firing of each actor takes and gives, kept beside the counts.
-use Rattle.std.proofs.Common.{◌≡◌, ◌≢◌, ℕ, ◌<◌, ◌≤◌, List, inl, inr, length, get_or, set, replicate, ap, subst, ◌∙◌, sym, arith}
+use Rattle.std.proofs.Common.{◌≡◌, ◌≢◌, ℕ, ◌<◌, ◌≤◌, List, inl, inr, length, get_or, set, ap, subst, ◌∙◌, sym, arith}
 use Rattle.std.proofs.lemmas.List.{get_or-set_other, get_or-set_same, length-set}
 use Rattle.std.proofs.lemmas.Bool.Decides.{eqb_tells}
 use Rattle.csdf_core.specs.Plan.{Plan}
 use Rattle.csdf_core.specs.Rows.{need, gift}
 use Rattle.csdf_core.specs.Amounts.{HasAmounts, AreAmounts}
-use Rattle.csdf_core.proofs.Opening.{alike}
+use Rattle.csdf_core.specs.Phases.{HasPhases}
+use Rattle.csdf_core.proofs.OnePhase.{same_need, same_gift}
 
 -- amounts that are told in another way
 amounts_alike : (amount other : ℕ → ℕ) (n : ℕ) (amounts : List ℕ) → HasAmounts amount n amounts → ((a : ℕ) → amount a ≡ other a)
@@ -29,17 +30,6 @@ amounts_set amount other n amounts a x m lt is few same =
       ];
     }
 
--- before the first firing
-pub amounts_opening : (plan : Plan) (counts needs gifts : List ℕ) → counts ≡ replicate (length plan.sources) 0
-    → HasAmounts (λ a. need a 0 plan.channels) (length plan.sources) needs → HasAmounts (λ a. gift a 0 plan.channels) (length plan.sources) gifts
-    → AreAmounts plan counts needs gifts
-amounts_opening plan counts needs gifts none takes gives =
-    let zero_at : (a : ℕ) → get_or counts a 0 ≡ 0 = λ a. ap (λ l. get_or l a 0) none ∙ alike (length plan.sources) a 0 in
-    record {
-      takes = amounts_alike _ _ _ needs takes (λ a. ap (λ k. need a k plan.channels) (sym (zero_at a)));
-      gives = amounts_alike _ _ _ gifts gives (λ a. ap (λ k. gift a k plan.channels) (sym (zero_at a)));
-    }
-
 -- where one actor has another count
 pub amounts_finished : (plan : Plan) (counts needs gifts : List ℕ) (a n x y : ℕ) → AreAmounts plan counts needs gifts → a < length plan.sources
     → a < length counts → x ≡ need a n plan.channels → y ≡ gift a n plan.channels → x ≤ 8192 → y ≤ 8192
@@ -50,4 +40,22 @@ amounts_finished plan counts needs gifts a n x y m lt counted x_is y_is few_x fe
     record {
       takes = amounts_set _ _ _ needs a x m.takes lt (x_is ∙ ap (λ k. need a k plan.channels) here) few_x (λ b e. ap (λ k. need b k plan.channels) (there b e));
       gives = amounts_set _ _ _ gifts a y m.gives lt (y_is ∙ ap (λ k. gift a k plan.channels) here) few_y (λ b e. ap (λ k. gift b k plan.channels) (there b e));
+    }
+
+-- where an actor of one phase has another count
+pub amounts_stay : (plan : Plan) (counts needs gifts : List ℕ) (a n : ℕ) → AreAmounts plan counts needs gifts → HasPhases plan.channels a 1
+    → AreAmounts plan (set counts a n) needs gifts
+amounts_stay plan counts needs gifts a n m has =
+    let there : (b : ℕ) → b ≢ a → get_or counts b 0 ≡ get_or (set counts a n) b 0 = λ b e. sym (get_or-set_other counts a b n 0 e) in
+    record {
+      takes = amounts_alike _ _ _ needs m.takes (λ b. elim (eqb_tells b a) [
+        | inl e ↦ subst (λ (c : ℕ). need c (get_or counts c 0) plan.channels ≡ need c (get_or (set counts a n) c 0) plan.channels) (sym e.1)
+            (same_need plan.channels a has (get_or counts a 0) (get_or (set counts a n) a 0))
+        | inr e ↦ ap (λ k. need b k plan.channels) (there b e.1)
+      ]);
+      gives = amounts_alike _ _ _ gifts m.gives (λ b. elim (eqb_tells b a) [
+        | inl e ↦ subst (λ (c : ℕ). gift c (get_or counts c 0) plan.channels ≡ gift c (get_or (set counts a n) c 0) plan.channels) (sym e.1)
+            (same_gift plan.channels a has (get_or counts a 0) (get_or (set counts a n) a 0))
+        | inr e ↦ ap (λ k. gift b k plan.channels) (there b e.1)
+      ]);
     }

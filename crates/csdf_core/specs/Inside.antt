@@ -9,7 +9,7 @@ use Rattle.csdf_core.specs.Sound.{IsSound}
 
 -- what is present
 abbrev pub now_in : Inside → Present
-now_in c = record { counts = c.counts.items; stages = c.stages.items; opens = c.opens.items; tokens = tokens_in c.pool }
+now_in c = record { counts = c.nexts.counts.items; stages = c.stages.items; opens = c.opens.items; tokens = tokens_in c.pool }
 
 -- what contracts see
 abbrev pub view_in : Inside → View
@@ -18,5 +18,5 @@ view_in c = record { plan = c.plan; now = now_in c; peaks = c.peaks.items; pool 
 -- what every core keeps
 pub record IsKept (c : Inside) : Type 0 where
   pub sound : IsSound c.plan (now_in c) c.peaks.items c.sums.items c.started c.reserved c.pool
-  pub amounts : AreAmounts c.plan c.counts.items c.needs.items c.gifts.items
-  pub phases : AreInPhase c.plan c.counts.items c.phases.items
+  pub amounts : AreAmounts c.plan c.nexts.counts.items c.nexts.needs.items c.nexts.gifts.items
+  pub phases : AreInPhase c.plan c.nexts.counts.items c.nexts.phases.items

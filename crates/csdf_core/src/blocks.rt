@@ -18,7 +18,7 @@ use crate::several::{
 };
 use crate::stage::Stage;
 use crate::transfer::raise_peaks;
-use crate::turn::{Turn, turn_ahead};
+use crate::turn::Turn;
 use csdf_model::{MAX_FIRINGS_PER_ACTOR, MAX_PHASES, MAX_TOTAL_PER_FIRING};
 use csdf_pool::Pool;
 
@@ -391,7 +391,7 @@ impl Core {
     pub fn can_fire(&self, actor: u32, n: u32) -> bool
         ensures { IsTrue result ↔ CanFire self.now.plan self.now.now actor n }
     {
-        if actor as usize >= self.counts.len() {
+        if actor as usize >= self.nexts.counts.len() {
             return false;
         }
         if !is_steady(&self.plan, actor) || !is_at(self.stage(actor), Stage::Idle) {
@@ -604,7 +604,7 @@ impl Core {
         ensures can { 0 < result → CanFire self.now.plan self.now.now actor result }
         ensures greatest { (n : ℕ) → n ≤ most → CanFire self.now.plan self.now.now actor n → n ≤ result }
     {
-        if (actor as usize) < self.counts.len() && self.has_one_phase(actor) {
+        if (actor as usize) < self.nexts.counts.len() && self.has_one_phase(actor) {
             return self.greatest_alike(actor, most);
         }
         self.greatest_by_looks(actor, most)
@@ -714,10 +714,7 @@ impl Core {
     {
         let turn = self.turn(actor);
         self.plan.gives_few();
-        let next = turn_ahead(&self.plan, actor, turn, n);
         let taken = self.needed_ahead(actor, n);
-        let needed = self.need_at(actor, next);
-        let given = self.gift_at(actor, next);
         let plan = &self.plan;
         move_tokens(
             plan,
@@ -729,12 +726,8 @@ impl Core {
             taken,
             tokens,
         );
-        let a = actor as usize;
         self.started += u64::from(n);
-        self.sums[a] += tokens.len() as u64;
-        self.counts[a] = next.firing;
-        self.phases[a] = next.phase;
-        self.needs[a] = needed as u32;
-        self.gifts[a] = given as u32;
+        self.sums[actor as usize] += tokens.len() as u64;
+        self.nexts.advance(&self.plan, actor, n);
     }
 }

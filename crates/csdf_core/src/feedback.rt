@@ -26,7 +26,7 @@ use crate::readiness::first_closed;
 use crate::several::drop_tokens;
 use crate::stage::Stage;
 use crate::transfer::raise_peaks;
-use crate::turn::{Turn, turn_ahead};
+use crate::turn::Turn;
 use csdf_model::{MAX_FIRINGS_PER_ACTOR, MAX_TOKENS_PER_FIRING};
 use csdf_pool::Pool;
 
@@ -408,18 +408,11 @@ impl Core {
     {
         let turn = self.turn(actor);
         self.plan.gives_few();
-        let next = turn_ahead(&self.plan, actor, turn, n);
-        let needed = self.need_at(actor, next);
-        let given = self.gift_at(actor, next);
         let plan = &self.plan;
         move_on(plan, &mut self.pool, actor, feedback, turn, n, tokens);
         raise_peaks(plan, &self.pool, &mut self.peaks, actor);
-        let a = actor as usize;
         self.started += u64::from(n);
-        self.sums[a] += tokens.len() as u64;
-        self.counts[a] = next.firing;
-        self.phases[a] = next.phase;
-        self.needs[a] = needed as u32;
-        self.gifts[a] = given as u32;
+        self.sums[actor as usize] += tokens.len() as u64;
+        self.nexts.advance(&self.plan, actor, n);
     }
 }

@@ -1,19 +1,16 @@
 //! What a core has before its first move.
 
 ghost use Rattle.std.specs.Prelude.{◌≡◌, length, map, replicate, true, IfOk};
-ghost use Rattle.csdf_core.specs.Amounts.{HasAmounts};
-ghost use Rattle.csdf_core.specs.Phases.{AreInPhase};
 ghost use Rattle.csdf_core.specs.Plan.{Channel as ChannelModel};
 ghost use Rattle.csdf_core.specs.Playable.{IsPlayable};
 ghost use Rattle.csdf_core.specs.Ports.{tokens_in};
-ghost use Rattle.csdf_core.specs.Rows.{need, gift};
 ghost use Rattle.csdf_core.specs.Shows.{AreSharedOut};
 ghost use Rattle.csdf_core.specs.Transfers.{opening_pool};
 ghost use Rattle.csdf_core.specs.declared.stage.Stage.TheVariants.{Idle};
 
 use crate::plan::Plan;
 use crate::stage::Stage;
-use crate::transfer::{gift_of, need_of, put_tokens};
+use crate::transfer::put_tokens;
 use csdf_pool::Pool;
 use std::alloc::{AllocError, Global};
 
@@ -47,39 +44,9 @@ pub(crate) fn lengths_of(alloc: Global, pool: &Pool, channels: u32) -> Result<Ve
     Ok(lengths)
 }
 
-/// How many tokens the first firing of each actor takes.
-///
-/// An error says that memory ran out.
-pub(crate) fn first_needs(alloc: Global, plan: &Plan) -> Result<Vec<u32>, AllocError>
-    ensures { IfOk result (λ needs. HasAmounts (λ a. need a 0 plan.now.channels) (length plan.now.sources) needs.items) }
-{
-    let first = plan.first_turn();
-    let mut needs = Vec::new(alloc);
-    for actor in 0..plan.actors() as u32 {
-        needs.push(need_of(plan, actor, first) as u32)?;
-    }
-    Ok(needs)
-}
-
-/// How many tokens the first firing of each actor gives.
-///
-/// An error says that memory ran out.
-pub(crate) fn first_gifts(alloc: Global, plan: &Plan) -> Result<Vec<u32>, AllocError>
-    ensures { IfOk result (λ gifts. HasAmounts (λ a. gift a 0 plan.now.channels) (length plan.now.sources) gifts.items) }
-{
-    let first = plan.first_turn();
-    let mut gifts = Vec::new(alloc);
-    for actor in 0..plan.actors() as u32 {
-        gifts.push(gift_of(plan, actor, first) as u32)?;
-    }
-    Ok(gifts)
-}
-
 /// The lists of a core in which nothing has fired.
 #[derive(Drop)]
 pub(crate) struct Blank {
-    pub(crate) counts: Vec<u32>,
-    pub(crate) phases: Vec<u32>,
     pub(crate) stages: Vec<Stage>,
     pub(crate) opens: Vec<bool>,
     pub(crate) sums: Vec<u64>,
@@ -89,17 +56,12 @@ pub(crate) struct Blank {
 ///
 /// An error says that memory ran out.
 pub(crate) fn blank_lists(alloc: Global, plan: &Plan) -> Result<Blank, AllocError>
-    ensures counts { IfOk result (λ blank. blank.counts.items ≡ replicate (length plan.now.sources) 0) }
-    ensures phases { IfOk result (λ blank. AreInPhase plan.now blank.counts.items blank.phases.items) }
     ensures stages { IfOk result (λ blank. blank.stages.items ≡ replicate (length plan.now.sources) Idle) }
     ensures opens { IfOk result (λ blank. blank.opens.items ≡ replicate (length plan.now.channels) true) }
     ensures sums { IfOk result (λ blank. blank.sums.items ≡ replicate (length plan.now.sources) 0) }
 {
     let (actors, channels) = (plan.actors(), plan.channels());
-    let first = plan.first_turn();
     Ok(Blank {
-        counts: vec![in alloc; first.firing; actors]?,
-        phases: vec![in alloc; first.phase; actors]?,
         stages: vec![in alloc; Stage::Idle; actors]?,
         opens: vec![in alloc; true; channels]?,
         sums: vec![in alloc; 0; actors]?,

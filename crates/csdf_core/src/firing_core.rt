@@ -6,7 +6,8 @@
 ghost use Rattle.std.specs.Prelude.{◌≡◌, ◌-◌, ◌*◌, ◌^◌, ◌<◌, ◌≤◌, suc, length, map, sum, IfOk, All, slice_index};
 ghost use Rattle.csdf_pool.specs.Pool.{chain_of, held_cells};
 
-use crate::filling::{blank_lists, filled_pool, first_gifts, first_needs, lengths_of};
+use crate::filling::{blank_lists, filled_pool, lengths_of};
+use crate::nexts::Nexts;
 use crate::plan::Plan;
 use crate::stage::Stage;
 use crate::turn::Turn;
@@ -23,12 +24,7 @@ use std::marker::Model;
 /// A refused move changes nothing. Tokens that were read are not kept.
 pub struct Core {
     pub(crate) plan: Plan,
-    pub(crate) counts: Vec<u32>,
-    /// The phase of each actor's next firing, and how many tokens that firing takes and gives: kept,
-    /// so that no move divides or adds up.
-    pub(crate) phases: Vec<u32>,
-    pub(crate) needs: Vec<u32>,
-    pub(crate) gifts: Vec<u32>,
+    pub(crate) nexts: Nexts,
     pub(crate) stages: Vec<Stage>,
     pub(crate) opens: Vec<bool>,
     pub(crate) sums: Vec<u64>,
@@ -42,10 +38,7 @@ impl Drop for Core {
     fn drop(self) {
         let Core {
             plan: _,
-            counts: _,
-            phases: _,
-            needs: _,
-            gifts: _,
+            nexts: _,
             stages: _,
             opens: _,
             sums: _,
@@ -105,15 +98,11 @@ impl Core {
         let plan = Plan::new(alloc, accepted, limits, supply, firings)?;
         let pool = filled_pool(alloc, &plan)?;
         let peaks = lengths_of(alloc, &pool, plan.channels() as u32)?;
-        let needs = first_needs(alloc, &plan)?;
-        let gifts = first_gifts(alloc, &plan)?;
+        let nexts = Nexts::first(alloc, &plan)?;
         let blank = blank_lists(alloc, &plan)?;
         Ok(Core {
             plan,
-            counts: blank.counts,
-            phases: blank.phases,
-            needs,
-            gifts,
+            nexts,
             stages: blank.stages,
             opens: blank.opens,
             sums: blank.sums,
@@ -171,7 +160,7 @@ impl Core {
         ensures value { result ≡ count self.now.now actor }
         ensures few { result ≤ MAX_FIRINGS_PER_ACTOR }
     {
-        self.counts[actor as usize]
+        self.nexts.counts[actor as usize]
     }
 
     /// The actor's next firing.
@@ -185,7 +174,7 @@ impl Core {
     {
         Turn {
             firing: self.fired(actor),
-            phase: self.phases[actor as usize],
+            phase: self.nexts.phases[actor as usize],
         }
     }
 
@@ -249,10 +238,10 @@ impl Core {
         ensures unknown { length self.now.plan.sources ≤ actor → result ≡ 0 }
         ensures small { result ≤ MAX_TOTAL_PER_FIRING }
     {
-        if actor as usize >= self.needs.len() {
+        if actor as usize >= self.nexts.needs.len() {
             return 0;
         }
-        self.needs[actor as usize] as usize
+        self.nexts.needs[actor as usize] as usize
     }
 
     /// How many tokens firing number `fired(actor)` writes; 0 where there is no such actor.
@@ -263,10 +252,10 @@ impl Core {
         ensures unknown { length self.now.plan.sources ≤ actor → result ≡ 0 }
         ensures small { result ≤ MAX_TOTAL_PER_FIRING }
     {
-        if actor as usize >= self.gifts.len() {
+        if actor as usize >= self.nexts.gifts.len() {
             return 0;
         }
-        self.gifts[actor as usize] as usize
+        self.nexts.gifts[actor as usize] as usize
     }
 
     /// How many tokens the actor's finished firings wrote, over all its outputs: for a source, how

@@ -64,7 +64,7 @@ impl Core {
         ensures shown { (s : State) × Shows self.now s }
         ensures room { held self.now.now + reserved self.now.plan self.now.now ≤ self.now.plan.cells }
     {
-        for actor in 0..self.counts.len() as u32 {
+        for actor in 0..self.nexts.counts.len() as u32 {
             if !self.is_resting(actor) {
                 return false;
             }
@@ -88,7 +88,7 @@ impl Core {
         requires { actor < length self.now.plan.sources }
         ensures { result ≡ is_spent self.now.plan self.now.now actor }
     {
-        self.counts[actor as usize] >= self.plan.limit(actor)
+        self.nexts.counts[actor as usize] >= self.plan.limit(actor)
     }
 
     /// Whether the actor makes no firing more: it has made as many as it may, or its file has too few
@@ -139,7 +139,7 @@ impl Core {
         ensures follows { IfSome result (λ why. Follows self.now self.now (Begin actor) (Err why)) }
         ensures ample { HasAmpleCells self.now.plan → result ≢ Some NoCells }
     {
-        if actor as usize >= self.counts.len() {
+        if actor as usize >= self.nexts.counts.len() {
             return Some(Refusal::Unknown);
         }
         self.firing_refusal(actor)
@@ -204,7 +204,7 @@ impl Core {
     pub(crate) fn read_refusal(&self, actor: u32) -> Option<Refusal>
         ensures { result ≡ refusal self.now.plan self.now.now (Read actor) }
     {
-        if actor as usize >= self.counts.len() {
+        if actor as usize >= self.nexts.counts.len() {
             return Some(Refusal::Unknown);
         }
         if !is_at(self.stages[actor as usize], Stage::Begun) {
@@ -216,7 +216,7 @@ impl Core {
     pub(crate) fn write_refusal(&self, actor: u32, tokens: &[i32]) -> Option<Refusal>
         ensures { result ≡ first_of (write_table self.now.plan self.now.now actor tokens.now) }
     {
-        if actor as usize >= self.counts.len() {
+        if actor as usize >= self.nexts.counts.len() {
             return Some(Refusal::Unknown);
         }
         if !is_at(self.stages[actor as usize], Stage::Fetched) {
@@ -231,7 +231,7 @@ impl Core {
     pub(crate) fn finish_refusal(&self, actor: u32) -> Option<Refusal>
         ensures { result ≡ refusal self.now.plan self.now.now (Finish actor) }
     {
-        if actor as usize >= self.counts.len() {
+        if actor as usize >= self.nexts.counts.len() {
             return Some(Refusal::Unknown);
         }
         if !is_at(self.stages[actor as usize], Stage::Written) {

@@ -11,6 +11,7 @@ mod gathering;
 mod going;
 mod laws;
 mod moves;
+mod nexts;
 mod plan;
 mod playing;
 mod readiness;

@@ -6,7 +6,6 @@ use crate::firing_core::Core;
 use crate::refusal::Refusal;
 use crate::stage::Stage;
 use crate::transfer::{put_outputs, raise_peaks, take_inputs};
-use crate::turn::turn_after;
 
 /// A move of a firing, or the closing of a channel.
 #[derive(Debug, Drop)]
@@ -157,18 +156,10 @@ impl Core {
         ensures step { Follows self.old self.new (Finish actor) (Ok []) }
         ensures cells { self.new.pool ≡ self.old.pool }
     {
-        let turn = self.turn(actor);
         let written = self.gives(actor) as u64;
-        let next = turn_after(&self.plan, actor, turn);
-        let need = self.need_at(actor, next);
-        let gift = self.gift_at(actor, next);
-        let a = actor as usize;
-        self.sums[a] += written;
-        self.counts[a] = next.firing;
-        self.phases[a] = next.phase;
-        self.needs[a] = need as u32;
-        self.gifts[a] = gift as u32;
-        self.stages[a] = Stage::Idle;
+        self.sums[actor as usize] += written;
+        self.nexts.advance(&self.plan, actor, 1);
+        self.stages[actor as usize] = Stage::Idle;
     }
 
     /// Closes the channel, or answers the first refusal of `Unknown`, `Closed` and `Busy`. Its

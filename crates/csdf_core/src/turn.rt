@@ -1,6 +1,6 @@
 //! Which firing of an actor is next, and in which phase: kept, so that nothing is divided.
 
-ghost use Rattle.std.specs.Prelude.{◌≡◌, ◌+◌, ◌<◌, ◌≤◌, length};
+ghost use Rattle.std.specs.Prelude.{◌≡◌, ◌+◌, ◌%◌, ◌<◌, ◌≤◌, length};
 ghost use Rattle.csdf_core.specs.Phases.{IsInPhase};
 
 use crate::plan::Plan;
@@ -34,25 +34,35 @@ pub(crate) fn turn_after(plan: &Plan, actor: u32, turn: Turn) -> Turn
     }
 }
 
+/// The remainder of a number, which for few phases or firings takes no division.
+#[inline(always)]
+fn remainder(n: u32, by: u32) -> u32
+    requires { 1 ≤ by }
+    ensures { result ≡ n % by }
+{
+    if by == 1 || n == by {
+        return 0;
+    }
+    if n < by {
+        return n;
+    }
+    n % by
+}
+
 /// The actor's firing n firings after this one.
 pub(crate) fn turn_ahead(plan: &Plan, actor: u32, turn: Turn, n: u32) -> Turn
     requires actor { actor < length plan.now.sources }
     requires in_phase { IsInPhase plan.now.channels actor turn.firing turn.phase }
     requires low { turn.phase < MAX_PHASES }
-    requires few { turn.firing + n ≤ MAX_FIRINGS_PER_ACTOR }
+    requires few { turn.firing ≤ MAX_FIRINGS_PER_ACTOR }
+    requires ahead { n ≤ MAX_FIRINGS_PER_ACTOR }
     ensures firing { result.firing ≡ turn.firing + n }
     ensures in_phase { IsInPhase plan.now.channels actor result.firing result.phase }
     ensures low { result.phase < MAX_PHASES }
 {
     let phases = plan.phases(actor);
-    // Most actors have one phase, and then nothing is divided.
-    let phase = if phases == 1 {
-        0
-    } else {
-        (turn.phase + n) % phases
-    };
     Turn {
         firing: turn.firing + n,
-        phase,
+        phase: remainder(turn.phase + n, phases),
     }
 }

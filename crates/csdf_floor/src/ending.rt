@@ -1,7 +1,6 @@
 //! How a run ends.
 
 ghost use Rattle.std.specs.Prelude.{◌≡◌, ◌↔◌, ◌<◌, IsTrue, Some, length};
-ghost use Rattle.csdf_core.specs.declared.refusal.Refusal.TheVariants.{Stopped, NoCells};
 ghost use Rattle.csdf_core.specs.Moves.{Begin};
 ghost use Rattle.csdf_core.specs.Step.{refusal};
 ghost use Rattle.csdf_floor.specs.Endings.{IsEnding, SomeRefused};
@@ -34,38 +33,19 @@ fn are_all_spent(core: &Core) -> bool
     true
 }
 
-/// Whether the limit on all firings holds the actor back.
-fn is_stopped(core: &Core, actor: u32) -> bool
-    ensures { IsTrue result ↔ (refusal core.now.plan core.now.now (Begin actor) ≡ Some Stopped) }
+/// Whether the actor may not begin for this reason.
+fn is_refused(core: &Core, actor: u32, why: Refusal) -> bool
+    ensures { IsTrue result ↔ (refusal core.now.plan core.now.now (Begin actor) ≡ Some why) }
 {
-    matches!(core.can_begin(actor), Err(Refusal::Stopped))
+    core.can_begin(actor) == Err(why)
 }
 
-/// Whether the limit on all firings holds an actor back.
-fn is_some_stopped(core: &Core) -> bool
-    ensures { IsTrue result ↔ SomeRefused core.now.plan core.now.now Stopped }
+/// Whether some actor may not begin for this reason.
+fn is_some_refused(core: &Core, why: Refusal) -> bool
+    ensures { IsTrue result ↔ SomeRefused core.now.plan core.now.now why }
 {
     for actor in 0..core.actors() {
-        if is_stopped(core, actor) {
-            return true;
-        }
-    }
-    false
-}
-
-/// Whether want of cells holds the actor back.
-fn is_starved(core: &Core, actor: u32) -> bool
-    ensures { IsTrue result ↔ (refusal core.now.plan core.now.now (Begin actor) ≡ Some NoCells) }
-{
-    matches!(core.can_begin(actor), Err(Refusal::NoCells))
-}
-
-/// Whether want of cells holds an actor back.
-fn is_some_starved(core: &Core) -> bool
-    ensures { IsTrue result ↔ SomeRefused core.now.plan core.now.now NoCells }
-{
-    for actor in 0..core.actors() {
-        if is_starved(core, actor) {
+        if is_refused(core, actor, why) {
             return true;
         }
     }
@@ -78,9 +58,9 @@ pub(crate) fn ending_of(core: &Core) -> Ending
 {
     if are_all_spent(core) {
         Ending::Complete
-    } else if is_some_stopped(core) {
+    } else if is_some_refused(core, Refusal::Stopped) {
         Ending::Stopped
-    } else if is_some_starved(core) {
+    } else if is_some_refused(core, Refusal::NoCells) {
         Ending::Starved
     } else {
         Ending::Dry

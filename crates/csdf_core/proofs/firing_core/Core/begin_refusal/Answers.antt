@@ -30,7 +30,7 @@ returns-clause-follows c =
 pub returns-clause-ample : goal.returns-clause-ample
 returns-clause-ample c =
     let inside : c.args.actor < length c.self.inside.plan.sources =
-    omega (arith, c.if-actor-len.false, c.len.ensures, c.self.inside.counts.ok.0, c.self.invariant.sound.fit.counted) in
+    omega (arith, c.if-actor-len.false, c.len.ensures, c.self.inside.nexts.counts.ok.0, c.self.invariant.sound.fit.counted) in
     let there : c.args.actor < length c.args.self.now.plan.sources = subst (λ (v : View). c.args.actor < length v.plan.sources) c.self.view_is inside in
     let fit : IsFit c.args.self.now.plan c.args.self.now.now = subst (λ (v : View). IsFit v.plan v.now) c.self.view_is c.self.invariant.sound.fit in
     λ ample e. none_lacking c.args.self.now.plan c.args.self.now.now c.args.actor there fit ample (sym c.firing_refusal.ensures ∙ e)

@@ -20,7 +20,7 @@ invariant_of-self c =
     let plan : Plan = c.self.inside.plan in
     let a : ℕ = c.args.actor in
     let none : refusal plan p (Begin a) ≡ None = rw (← c.self.view_is) at c.requires in
-    let more : c.saturating_sub.result ≡ gift a (get_or c.self.inside.counts.items a 0) plan.channels - need a (get_or c.self.inside.counts.items a 0)
+    let more : c.saturating_sub.result ≡ gift a (get_or c.self.inside.nexts.counts.items a 0) plan.channels - need a (get_or c.self.inside.nexts.counts.items a 0)
     plan.channels =
     (let g = rw (← c.self.view_is) at c.gives-gift.ensures.sum in let n = rw (← c.self.view_is) at c.need-need.ensures.value in
     rw (c.saturating_sub.ensures, g, n) refl) in

@@ -9,15 +9,13 @@ use Rattle.csdf_core.specs.Ports.{inputs_at, tokens_in, raise_over}
 use Rattle.csdf_core.specs.Blocks.{needs_of, gifts_of, takes_at, takes_in, puts_in, pool_after, peaks_after, Suffices, HoldAll, firings_of, answers_to, FindsAll}
 use Rattle.csdf_core.specs.Shows.{Plays}
 use Rattle.csdf_core.specs.Step.{count}
-use Rattle.csdf_core.proofs.AmountLemmas.{amounts_finished}
 use Rattle.csdf_core.proofs.RateTotals.{few_gifts_of}
 use Rattle.csdf_core.proofs.BlockMachines.{Machine, IsGood, machine, view, ins, outs}
 use Rattle.csdf_core.proofs.BlockMoves.{IsBlock, AreFew, room_for, block_of, landed, pool_lands, peaks_land}
 use Rattle.csdf_core.proofs.BlockTokens.{one_needs, hold_same}
-use Rattle.csdf_core.proofs.PhaseLemmas.{phases_finished}
 use Rattle.csdf_core.proofs.SoundLemmas.{few_started}
 use Rattle.csdf_core.proofs.firing_core.Core.fire.Goals as goal
-use Rattle.csdf_core.proofs.firing_core.Core.fire.Goals.{After-index_mut}
+use Rattle.csdf_core.proofs.firing_core.Core.fire.Goals.{After-advance}
 
 pub move_tokens-requires-clause-room : goal.move_tokens-requires-clause-room
 move_tokens-requires-clause-room c =
@@ -69,7 +67,7 @@ overflow_add-index_mut c =
     omega (arith, old, low, first, few_before, all, few, c.ranges.n.fits)
 
 -- where all has come to
-module _ (c : After-index_mut) where
+module _ (c : After-advance) where
   abbrev plan : Plan
   plan = c.self.inside.plan
 
@@ -109,9 +107,6 @@ module _ (c : After-index_mut) where
   needed : c.needed_ahead-taken.result ≡ needs_of plan.channels a k n
   needed = rw (← c.self.view_is) at c.needed_ahead-taken.ensures
 
-  next : c.turn_ahead-next.result.firing ≡ k + n
-  next = c.turn_ahead-next.ensures.firing ∙ ap (λ (x : ℕ). x + n) firing
-
   summed : a < length c.self.inside.sums.items
   summed = let t = c.self.invariant.sound.tallied in let there = finds.there in omega (arith, t, there)
 
@@ -121,7 +116,7 @@ module _ (c : After-index_mut) where
   abbrev there : Machine
   there = record {
     now = record {
-      counts = set c.self.inside.counts.items c.args.actor c.turn_ahead-next.result.firing;
+      counts = c.advance.new.self.counts.items;
       stages = c.self.inside.stages.items;
       opens = c.self.inside.opens.items;
       tokens = tokens_in c.move_tokens.new.pool;
@@ -156,7 +151,7 @@ module _ (c : After-index_mut) where
       get_or c.self.inside.sums.items c.args.actor 0 + gifts_of c.self.inside.plan.channels c.args.actor k c.args.n =
       (let g = all in omega (arith, old, g)) in
       landed plan a k n c.args.tokens.now m made.0 made.1 there.now.counts there.sums there.peaks there.started there.pool
-      (ap (set c.self.inside.counts.items c.args.actor) next)
+      c.advance.ensures.counts
       (ap (set c.self.inside.sums.items c.args.actor) sum)
       (peaks_are ∙ sym items)
       (ap (λ (x : ℕ). c.self.inside.started + x) c.from.ensures)
@@ -164,54 +159,32 @@ module _ (c : After-index_mut) where
 
 pub invariant_of-self : goal.invariant_of-self
 invariant_of-self c =
-    let at : After-index_mut = (goal.at.invariant_of-self c).After-index_mut in
-    let plan : Plan = c.self.inside.plan in
-    let within : c.args.actor < length plan.sources = (finds at).there in
-    let counted : c.args.actor < length c.self.inside.counts.items = (let e = c.self.invariant.sound.fit.counted in omega (arith, e, within)) in
+    let at : After-advance = (goal.at.invariant_of-self c).After-advance in
     record {
-      phases = phases_finished plan c.self.inside.counts.items c.self.inside.phases.items c.args.actor c.turn_ahead-next.result.firing
-          c.turn_ahead-next.result.phase c.self.invariant.phases within counted c.turn_ahead-next.ensures.in_phase c.turn_ahead-next.ensures.low;
-      amounts = amounts_finished plan c.self.inside.counts.items c.self.inside.needs.items c.self.inside.gifts.items c.args.actor
-          c.turn_ahead-next.result.firing c.need_at-needed.result c.gift_at-given.result c.self.invariant.amounts within counted
-          (rw (← c.self.view_is) at c.need_at-needed.ensures.value) (rw (← c.self.view_is) at c.gift_at-given.ensures.value)
-          c.need_at-needed.ensures.small c.gift_at-given.ensures.small;
-      sound = (subst (IsGood plan) (lands at) (made at).1.good).sound;
+      phases = c.advance.ensures.phases;
+      amounts = c.advance.ensures.amounts;
+      sound = (subst (IsGood c.self.inside.plan) (lands at) (made at).1.good).sound;
     }
 
 pub returns-clause-accepted : goal.returns-clause-accepted
 returns-clause-accepted c =
-    let at : After-index_mut = (goal.at.returns-clause-accepted c).After-index_mut in
+    let at : After-advance = (goal.at.returns-clause-accepted c).After-advance in
     rw (← c.self.view_is) (made at).1.accepted
 
 pub returns-clause-plays : goal.returns-clause-plays
 returns-clause-plays c =
-    let at : After-index_mut = (goal.at.returns-clause-plays c).After-index_mut in
+    let at : After-advance = (goal.at.returns-clause-plays c).After-advance in
     rw (← c.self.view_is) (subst (λ (x : Machine). Plays (view (plan at) (m at)) (view (plan at) x)
     (firings_of (plan at).channels (a at) (k at) (n at) c.args.tokens.now)
     (answers_to (plan at) (p at) (firings_of (plan at).channels (a at) (k at) (n at) c.args.tokens.now))) (lands at) (made at).1.plays)
 
 pub returns-clause-cells : goal.returns-clause-cells
 returns-clause-cells c =
-    let at : After-index_mut = (goal.at.returns-clause-cells c).After-index_mut in
+    let at : After-advance = (goal.at.returns-clause-cells c).After-advance in
     rw (← c.self.view_is) (sym (ap (λ (x : Machine). x.pool) (lands at)) ∙ (made at).1.cells)
-
-pub index_mut-requires-5 : goal.index_mut-requires-5
-index_mut-requires-5 c = grind (arith, common_steps)
-
-pub index_mut-requires-4 : goal.index_mut-requires-4
-index_mut-requires-4 c = grind (arith, common_steps)
-
-pub index_mut-requires-3 : goal.index_mut-requires-3
-index_mut-requires-3 c = grind (arith, common_steps)
-
-pub index_mut-requires-2 : goal.index_mut-requires-2
-index_mut-requires-2 c = grind (arith, common_steps)
 
 pub move_tokens-requires-clause-all : goal.move_tokens-requires-clause-all
 move_tokens-requires-clause-all c = grind (arith, common_steps)
-
-pub index_mut-requires : goal.index_mut-requires
-index_mut-requires c = grind (arith, common_steps)
 
 pub move_tokens-requires-clause-in_phase : goal.move_tokens-requires-clause-in_phase
 move_tokens-requires-clause-in_phase c = grind (arith, common_steps)
@@ -225,23 +198,5 @@ move_tokens-requires-clause-few c = grind (arith, common_steps)
 pub move_tokens-requires-clause-partition : goal.move_tokens-requires-clause-partition
 move_tokens-requires-clause-partition c = grind (arith, common_steps)
 
-pub gift_at-given-requires-clause-in_phase : goal.gift_at-given-requires-clause-in_phase
-gift_at-given-requires-clause-in_phase c = grind (arith, common_steps)
-
-pub gift_at-given-requires-clause-actor : goal.gift_at-given-requires-clause-actor
-gift_at-given-requires-clause-actor c = grind (arith, common_steps)
-
-pub need_at-needed-requires-clause-in_phase : goal.need_at-needed-requires-clause-in_phase
-need_at-needed-requires-clause-in_phase c = grind (arith, common_steps)
-
-pub need_at-needed-requires-clause-actor : goal.need_at-needed-requires-clause-actor
-need_at-needed-requires-clause-actor c = grind (arith, common_steps)
-
 pub move_tokens-requires-clause-same : goal.move_tokens-requires-clause-same
 move_tokens-requires-clause-same c = grind (arith, common_steps)
-
-pub turn_ahead-next-requires-clause-in_phase : goal.turn_ahead-next-requires-clause-in_phase
-turn_ahead-next-requires-clause-in_phase c = grind (arith, common_steps)
-
-pub turn_ahead-next-requires-clause-actor : goal.turn_ahead-next-requires-clause-actor
-turn_ahead-next-requires-clause-actor c = grind (arith, common_steps)

@@ -12,7 +12,6 @@ use Rattle.csdf_core.specs.Rows.{gift}
 use Rattle.csdf_core.specs.Shows.{Plays}
 use Rattle.csdf_core.specs.State.{Present}
 use Rattle.csdf_core.specs.Step.{count}
-use Rattle.csdf_core.proofs.AmountLemmas.{amounts_finished}
 use Rattle.csdf_core.proofs.BlockMachines.{Machine, IsGood, machine, view, outs, all_told}
 use Rattle.csdf_core.proofs.BlockMoves.{AreFew}
 use Rattle.csdf_core.proofs.FeedbackMoves.{IsLoopBlock, loop_of}
@@ -21,14 +20,13 @@ use Rattle.csdf_core.proofs.FeedbackTokens.{state_takes}
 use Rattle.csdf_core.proofs.GoingTokens.{cells_for}
 use Rattle.csdf_core.proofs.GoneOn.{others_left, good_there, plays_there}
 use Rattle.csdf_core.proofs.OnePhase.{gifts_times}
-use Rattle.csdf_core.proofs.PhaseLemmas.{phases_finished}
 use Rattle.csdf_core.proofs.RateTotals.{few_gifts_of}
 use Rattle.csdf_core.proofs.SoundLemmas.{few_started}
 use Rattle.csdf_core.proofs.firing_core.Core.go_on.Goals as goal
-use Rattle.csdf_core.proofs.firing_core.Core.go_on.Goals.{After-turn_ahead-next, After-index_mut}
+use Rattle.csdf_core.proofs.firing_core.Core.go_on.Goals.{After-turn-turn, After-advance}
 
 -- what is known at the beginning
-module _ (c : After-turn_ahead-next) where
+module _ (c : After-turn-turn) where
   abbrev pub early_plan : Plan
   early_plan = c.self.inside.plan
 
@@ -78,22 +76,22 @@ module _ (c : After-turn_ahead-next) where
       omega (arith, r, t)
 
 pub move_on-requires-clause-own : goal.move_on-requires-clause-own
-move_on-requires-clause-own c = (early_told (goal.at.move_on-requires-clause-own c).After-turn_ahead-next).keeps.there
+move_on-requires-clause-own c = (early_told (goal.at.move_on-requires-clause-own c).After-turn-turn).keeps.there
 
 pub move_on-requires-clause-state : goal.move_on-requires-clause-state
 move_on-requires-clause-state c =
-    let at : After-turn_ahead-next = (goal.at.move_on-requires-clause-state c).After-turn_ahead-next in
+    let at : After-turn-turn = (goal.at.move_on-requires-clause-state c).After-turn-turn in
     let s = (early_finds at).state in
     omega (arith, early_taken at, s)
 
 pub move_on-requires-clause-other : goal.move_on-requires-clause-other
 move_on-requires-clause-other c =
-    let at : After-turn_ahead-next = (goal.at.move_on-requires-clause-other c).After-turn_ahead-next in
+    let at : After-turn-turn = (goal.at.move_on-requires-clause-other c).After-turn-turn in
     other_there (early_plan at).channels (early_a at) (early_own at) c.args.feedback.is_first c.args.feedback.other (early_told at).order
 
 pub move_on-requires-clause-enough : goal.move_on-requires-clause-enough
 move_on-requires-clause-enough c =
-    let at : After-turn_ahead-next = (goal.at.move_on-requires-clause-enough c).After-turn_ahead-next in
+    let at : After-turn-turn = (goal.at.move_on-requires-clause-enough c).After-turn-turn in
     let ts : List (List ℤ) = tokens_in c.self.inside.pool in
     let left : List ℤ = drop c.args.feedback.taken (tokens_at ts c.args.feedback.channel) in
     subst (λ (x : ℕ). IfSome c.args.feedback.other (λ d. c.args.n * take_at (early_plan at).channels x d
@@ -102,12 +100,12 @@ move_on-requires-clause-enough c =
 
 pub move_on-requires-clause-all : goal.move_on-requires-clause-all
 move_on-requires-clause-all c =
-    let at : After-turn_ahead-next = (goal.at.move_on-requires-clause-all c).After-turn_ahead-next in
+    let at : After-turn-turn = (goal.at.move_on-requires-clause-all c).After-turn-turn in
     early_all at ∙ ap (λ (x : ℕ). c.args.n * gift c.args.actor x (early_plan at).channels) (sym (early_firing at))
 
 pub move_on-requires-clause-room : goal.move_on-requires-clause-room
 move_on-requires-clause-room c =
-    let at : After-turn_ahead-next = (goal.at.move_on-requires-clause-room c).After-turn_ahead-next in
+    let at : After-turn-turn = (goal.at.move_on-requires-clause-room c).After-turn-turn in
     subst (λ (x : ℕ). 0 < c.args.n → sum_by (lasts_at (early_plan at).channels (early_own at) x c.args.n) (outputs_at (early_plan at).channels (early_a at))
     ≤ length c.self.inside.pool.free + c.args.feedback.taken) (sym (early_firing at)) (early_room at)
 
@@ -116,7 +114,7 @@ overflow_add-self c = omega (arith, few_started _ _ _ _ _ _ _ c.self.invariant.s
 
 pub overflow_add-index_mut : goal.overflow_add-index_mut
 overflow_add-index_mut c =
-    let at : After-turn_ahead-next = (goal.at.overflow_add-index_mut c).After-turn_ahead-next in
+    let at : After-turn-turn = (goal.at.overflow_add-index_mut c).After-turn-turn in
     let old : c.index_mut.result.now ≡ get_or c.self.inside.sums.items c.args.actor 0 = c.index_mut.ensures.value
     ∙ get_or_default c.self.inside.sums.items c.args.actor c.index_mut.result.now 0 (early_summed at) in
     let low = c.self.invariant.sound.small c.args.actor (early_finds at).there in
@@ -127,7 +125,7 @@ overflow_add-index_mut c =
     omega (arith, old, low, early_firing at, few_before, all, few, c.ranges.n.fits)
 
 -- where all has come to
-module _ (c : After-index_mut) where
+module _ (c : After-advance) where
   abbrev pub plan : Plan
   plan = c.self.inside.plan
 
@@ -176,7 +174,7 @@ module _ (c : After-index_mut) where
   abbrev there : Machine
   there = record {
     now = record {
-      counts = set c.self.inside.counts.items c.args.actor c.turn_ahead-next.result.firing;
+      counts = c.advance.new.self.counts.items;
       stages = c.self.inside.stages.items;
       opens = c.self.inside.opens.items;
       tokens = tokens_in c.move_on.new.pool;
@@ -189,7 +187,7 @@ module _ (c : After-index_mut) where
   }
 
   counts_are : there.now.counts ≡ set m.now.counts a (k + n)
-  counts_are = ap (set c.self.inside.counts.items c.args.actor) (c.turn_ahead-next.ensures.firing ∙ ap (λ (x : ℕ). x + n) firing)
+  counts_are = c.advance.ensures.counts
 
   sums_are : there.sums ≡ set m.sums a (get_or m.sums a 0 + gifts_of plan.channels a k n)
   sums_are =
@@ -222,44 +220,18 @@ module _ (c : After-index_mut) where
 
 pub invariant_of-self : goal.invariant_of-self
 invariant_of-self c =
-    let here : After-index_mut = (goal.at.invariant_of-self c).After-index_mut in
-    let plan : Plan = c.self.inside.plan in
-    let within : c.args.actor < length plan.sources = (finds here).there in
-    let counted : c.args.actor < length c.self.inside.counts.items = (let e = c.self.invariant.sound.fit.counted in omega (arith, e, within)) in
-    record {
-      phases = phases_finished plan c.self.inside.counts.items c.self.inside.phases.items c.args.actor c.turn_ahead-next.result.firing
-          c.turn_ahead-next.result.phase c.self.invariant.phases within counted c.turn_ahead-next.ensures.in_phase c.turn_ahead-next.ensures.low;
-      amounts = amounts_finished plan c.self.inside.counts.items c.self.inside.needs.items c.self.inside.gifts.items c.args.actor
-          c.turn_ahead-next.result.firing c.need_at-needed.result c.gift_at-given.result c.self.invariant.amounts within counted
-          (rw (← c.self.view_is) at c.need_at-needed.ensures.value) (rw (← c.self.view_is) at c.gift_at-given.ensures.value)
-          c.need_at-needed.ensures.small c.gift_at-given.ensures.small;
-      sound = (good_now here).sound;
-    }
+    let here : After-advance = (goal.at.invariant_of-self c).After-advance in
+    record { phases = c.advance.ensures.phases; amounts = c.advance.ensures.amounts; sound = (good_now here).sound }
 
 pub returns-clause-accepted : goal.returns-clause-accepted
 returns-clause-accepted c =
-    let here : After-index_mut = (goal.at.returns-clause-accepted c).After-index_mut in
+    let here : After-advance = (goal.at.returns-clause-accepted c).After-advance in
     rw (← c.self.view_is) (made here).1.accepted
 
 pub returns-clause-plays : goal.returns-clause-plays
 returns-clause-plays c =
-    let here : After-index_mut = (goal.at.returns-clause-plays c).After-index_mut in
+    let here : After-advance = (goal.at.returns-clause-plays c).After-advance in
     rw (← c.self.view_is) (plays_now here)
-
-pub index_mut-requires-5 : goal.index_mut-requires-5
-index_mut-requires-5 c = grind (arith, common_steps)
-
-pub index_mut-requires-4 : goal.index_mut-requires-4
-index_mut-requires-4 c = grind (arith, common_steps)
-
-pub index_mut-requires-3 : goal.index_mut-requires-3
-index_mut-requires-3 c = grind (arith, common_steps)
-
-pub index_mut-requires-2 : goal.index_mut-requires-2
-index_mut-requires-2 c = grind (arith, common_steps)
-
-pub index_mut-requires : goal.index_mut-requires
-index_mut-requires c = grind (arith, common_steps)
 
 pub move_on-requires-clause-in_phase : goal.move_on-requires-clause-in_phase
 move_on-requires-clause-in_phase c = grind (arith, common_steps)
@@ -270,32 +242,8 @@ move_on-requires-clause-actor c = grind (arith, common_steps)
 pub move_on-requires-clause-partition : goal.move_on-requires-clause-partition
 move_on-requires-clause-partition c = grind (arith, common_steps)
 
-pub gift_at-given-requires-clause-in_phase : goal.gift_at-given-requires-clause-in_phase
-gift_at-given-requires-clause-in_phase c = grind (arith, common_steps)
-
-pub gift_at-given-requires-clause-actor : goal.gift_at-given-requires-clause-actor
-gift_at-given-requires-clause-actor c = grind (arith, common_steps)
-
-pub need_at-needed-requires-clause-in_phase : goal.need_at-needed-requires-clause-in_phase
-need_at-needed-requires-clause-in_phase c = grind (arith, common_steps)
-
-pub need_at-needed-requires-clause-actor : goal.need_at-needed-requires-clause-actor
-need_at-needed-requires-clause-actor c = grind (arith, common_steps)
-
-pub turn_ahead-next-requires-clause-in_phase : goal.turn_ahead-next-requires-clause-in_phase
-turn_ahead-next-requires-clause-in_phase c = grind (arith, common_steps)
-
 pub move_on-requires-clause-same : goal.move_on-requires-clause-same
 move_on-requires-clause-same c = grind (arith, common_steps)
-
-pub turn_ahead-next-requires-clause-actor : goal.turn_ahead-next-requires-clause-actor
-turn_ahead-next-requires-clause-actor c = grind (arith, common_steps)
-
-pub overflow_cast-given : goal.overflow_cast-given
-overflow_cast-given c = grind (arith, common_steps)
-
-pub overflow_cast-needed : goal.overflow_cast-needed
-overflow_cast-needed c = grind (arith, common_steps)
 
 pub raise_peaks-requires-clause-same : goal.raise_peaks-requires-clause-same
 raise_peaks-requires-clause-same c = grind (arith, common_steps)

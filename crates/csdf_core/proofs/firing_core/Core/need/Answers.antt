@@ -4,6 +4,6 @@ use Rattle.csdf_core.proofs.firing_core.Core.need.Goals as goal
 
 pub returns-then-actor-len-clause-value : goal.returns-then-actor-len-clause-value
 returns-then-actor-len-clause-value c =
-    let past : length c.self.inside.plan.sources ≤ c.args.actor = omega (arith, c.self.inside.needs.ok.0, c.self.invariant.amounts.takes.count) in
-    rw (← c.self.view_is) (sym (none_needed (length c.self.inside.plan.sources) c.args.actor (get_or c.self.inside.counts.items c.args.actor 0)
+    let past : length c.self.inside.plan.sources ≤ c.args.actor = omega (arith, c.self.inside.nexts.needs.ok.0, c.self.invariant.amounts.takes.count) in
+    rw (← c.self.view_is) (sym (none_needed (length c.self.inside.plan.sources) c.args.actor (get_or c.self.inside.nexts.counts.items c.args.actor 0)
     c.self.inside.plan.channels c.self.invariant.sound.playable.ends past))

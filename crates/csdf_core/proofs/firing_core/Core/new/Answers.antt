@@ -2,7 +2,6 @@ use Rattle.std.proofs.Common.{List, length, ap, ◌∙◌, sym}
 use Rattle.std.proofs.lemmas.List.{length-map}
 use Rattle.csdf_pool.specs.Pool.{held_tokens}
 use Rattle.csdf_core.specs.Plan.{Channel}
-use Rattle.csdf_core.proofs.AmountLemmas.{amounts_opening}
 use Rattle.csdf_core.proofs.Beginnings.{sound_opening, shows_opening}
 use Rattle.csdf_core.proofs.firing_core.Core.new.Goals as goal
 
@@ -14,17 +13,16 @@ lengths_of-requires c =
 
 pub invariant_of-result : goal.invariant_of-result
 invariant_of-result c = record {
-  phases = c.in_ok-blank.ensures.phases;
-  amounts = amounts_opening c.in_ok-plan.plan c.in_ok-blank.blank.counts.items c.in_ok-needs.needs.items c.in_ok-gifts.gifts.items
-      c.in_ok-blank.ensures.counts c.in_ok-needs.ensures c.in_ok-gifts.ensures;
-  sound = sound_opening c.in_ok-plan.plan c.in_ok-pool.pool c.in_ok-blank.blank.counts.items c.in_ok-blank.blank.sums.items c.in_ok-peaks.peaks.items
-      c.in_ok-blank.blank.stages.items c.in_ok-blank.blank.opens.items c.in_ok-plan.ensures.playable c.in_ok-blank.ensures.counts
+  phases = c.in_ok-nexts.ensures.phases;
+  amounts = c.in_ok-nexts.ensures.amounts;
+  sound = sound_opening c.in_ok-plan.plan c.in_ok-pool.pool c.in_ok-nexts.nexts.counts.items c.in_ok-blank.blank.sums.items c.in_ok-peaks.peaks.items
+      c.in_ok-blank.blank.stages.items c.in_ok-blank.blank.opens.items c.in_ok-plan.ensures.playable c.in_ok-nexts.ensures.counts
       c.in_ok-blank.ensures.stages c.in_ok-blank.ensures.opens c.in_ok-pool.ensures.tokens c.in_ok-pool.ensures.shared_out c.in_ok-blank.ensures.sums
       c.in_ok-peaks.ensures;
 }
 
 pub returns-clause-opening : goal.returns-clause-opening
 returns-clause-opening c =
-    shows_opening c.in_ok-plan.plan c.in_ok-pool.pool c.in_ok-blank.blank.counts.items c.in_ok-blank.blank.sums.items c.in_ok-peaks.peaks.items
-    c.in_ok-blank.blank.stages.items c.in_ok-blank.blank.opens.items c.in_ok-plan.ensures.playable c.in_ok-blank.ensures.counts
+    shows_opening c.in_ok-plan.plan c.in_ok-pool.pool c.in_ok-nexts.nexts.counts.items c.in_ok-blank.blank.sums.items c.in_ok-peaks.peaks.items
+    c.in_ok-blank.blank.stages.items c.in_ok-blank.blank.opens.items c.in_ok-plan.ensures.playable c.in_ok-nexts.ensures.counts
     c.in_ok-blank.ensures.stages c.in_ok-blank.ensures.opens c.in_ok-pool.ensures.tokens c.in_ok-pool.ensures.shared_out

@@ -82,7 +82,7 @@ invariant_of-self c =
       amounts = c.self.invariant.amounts;
       phases = c.self.invariant.phases;
       sound = subst (λ ts. IsSound c.self.inside.plan (record
-          { counts = c.self.inside.counts.items; stages = set c.self.inside.stages.items c.args.actor Fetched; opens = c.self.inside.opens.items; tokens = ts })
+          { counts = c.self.inside.nexts.counts.items; stages = set c.self.inside.stages.items c.args.actor Fetched; opens = c.self.inside.opens.items; tokens = ts })
           c.self.inside.peaks.items c.self.inside.sums.items c.self.inside.started (c.self.inside.reserved - c.saturating_sub.result + c.gives-gift.result)
           c.take_inputs.new.pool) (sym (gone at)) (sound at);
     }
@@ -91,13 +91,13 @@ pub returns-clause-step : goal.returns-clause-step
 returns-clause-step c =
     let at : After-saturating_sub = (goal.at.returns-clause-step c).After-saturating_sub in
     let now : record {
-      counts = c.self.inside.counts.items;
+      counts = c.self.inside.nexts.counts.items;
       stages = set c.self.inside.stages.items c.args.actor Fetched;
       opens = c.self.inside.opens.items;
       tokens = tokens_in c.take_inputs.new.pool;
     } ≡ fetched c.self.inside.plan (now_in c.self.inside) c.args.actor = ap
     (λ ts. record {
-      counts = c.self.inside.counts.items;
+      counts = c.self.inside.nexts.counts.items;
       stages = set c.self.inside.stages.items c.args.actor Fetched;
       opens = c.self.inside.opens.items;
       tokens = ts;

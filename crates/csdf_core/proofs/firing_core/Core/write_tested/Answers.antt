@@ -106,14 +106,14 @@ invariant_of-self c =
       amounts = c.self.invariant.amounts;
       phases = c.self.invariant.phases;
       sound = subst (λ qs. IsSound c.self.inside.plan (record {
-        counts = c.self.inside.counts.items;
+        counts = c.self.inside.nexts.counts.items;
         stages = set c.self.inside.stages.items c.args.actor Written;
         opens = c.self.inside.opens.items;
         tokens = tokens_in c.put_outputs.new.pool;
       }) qs c.self.inside.sums.items c.self.inside.started (c.self.inside.reserved - length c.args.tokens.now)
           c.put_outputs.new.pool) (sym (items at))
           (subst (λ ts. IsSound c.self.inside.plan (record
-          { counts = c.self.inside.counts.items; stages = set c.self.inside.stages.items c.args.actor Written; opens = c.self.inside.opens.items; tokens = ts })
+          { counts = c.self.inside.nexts.counts.items; stages = set c.self.inside.stages.items c.args.actor Written; opens = c.self.inside.opens.items; tokens = ts })
           c.raise_peaks.new.peaks c.self.inside.sums.items c.self.inside.started (c.self.inside.reserved - length c.args.tokens.now) c.put_outputs.new.pool)
           (sym (put at)) (sound at));
     }
@@ -122,13 +122,13 @@ pub returns-clause-step : goal.returns-clause-step
 returns-clause-step c =
     let at : After-raise_peaks = (goal.at.returns-clause-step c).After-raise_peaks in
     let now : record {
-      counts = c.self.inside.counts.items;
+      counts = c.self.inside.nexts.counts.items;
       stages = set c.self.inside.stages.items c.args.actor Written;
       opens = c.self.inside.opens.items;
       tokens = tokens_in c.put_outputs.new.pool;
     } ≡ written c.self.inside.plan (now_in c.self.inside) c.args.actor c.args.tokens.now = ap
     (λ ts. record {
-      counts = c.self.inside.counts.items;
+      counts = c.self.inside.nexts.counts.items;
       stages = set c.self.inside.stages.items c.args.actor Written;
       opens = c.self.inside.opens.items;
       tokens = ts;

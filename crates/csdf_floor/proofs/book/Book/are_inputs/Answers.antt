@@ -1,8 +1,8 @@
 use Rattle.std.proofs.Common.{◌≡◌, ◌<◌, ℕ, List, [], true, false, length, get_or, sym, ◌∙◌, arith}
 use Rattle.std.proofs.lemmas.Grind.{common_steps}
-use Rattle.std.specs.Prelude.{ℤ, suc, slice_range}
+use Rattle.std.specs.Prelude.{ℤ}
 use Rattle.std.proofs.lemmas.List.{length-map}
-use Rattle.csdf_core.specs.Step.{count, given, is_source}
+use Rattle.csdf_core.specs.Step.{count, is_source}
 use Rattle.csdf_floor.specs.Journal.{Program, inputs}
 use Rattle.csdf_floor.specs.Work.{program}
 use Rattle.csdf_floor.proofs.Inputs.{fed_inputs, read_inputs}

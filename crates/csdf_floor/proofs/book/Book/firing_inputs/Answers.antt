@@ -1,11 +1,11 @@
 use Rattle.std.proofs.Common.{◌≡◌, ◌<◌, ◌≤◌, ℕ, List, [], true, false, length, get_or, ap, sym, subst, ◌∙◌, arith}
 use Rattle.std.proofs.lemmas.Grind.{common_steps}
-use Rattle.std.specs.Prelude.{ℤ, suc, slice_range}
+use Rattle.std.specs.Prelude.{ℤ}
 use Rattle.std.proofs.lemmas.List.{length-map}
 use Rattle.csdf_core.specs.Plan.{Plan}
 use Rattle.csdf_core.specs.Rows.{gift, need}
-use Rattle.csdf_core.specs.Step.{count, given, is_source}
-use Rattle.csdf_floor.specs.Journal.{Program, inputs}
+use Rattle.csdf_core.specs.Step.{count, is_source}
+use Rattle.csdf_floor.specs.Journal.{Program}
 use Rattle.csdf_floor.specs.Making.{amount_of}
 use Rattle.csdf_floor.specs.Work.{program}
 use Rattle.csdf_floor.proofs.Inputs.{fed_inputs}

@@ -1,0 +1,98 @@
+//! The next firing of each actor: kept, so that no move divides or adds up.
+
+ghost use Rattle.std.specs.Prelude.{◌≡◌, ◌+◌, ◌<◌, ◌≤◌, length, replicate, slice_index, slice_set, IfOk};
+ghost use Rattle.csdf_core.specs.Amounts.{AreAmounts, HasAmounts};
+ghost use Rattle.csdf_core.specs.Phases.{AreInPhase};
+ghost use Rattle.csdf_core.specs.Rows.{need, gift};
+
+use crate::plan::Plan;
+use crate::transfer::{gift_of, need_of};
+use crate::turn::{Turn, turn_ahead};
+use csdf_model::MAX_FIRINGS_PER_ACTOR;
+use std::alloc::{AllocError, Global};
+
+/// The next firing of each actor.
+#[derive(Drop)]
+pub(crate) struct Nexts {
+    /// How many firings are finished: the number of the next one.
+    pub(crate) counts: Vec<u32>,
+    /// The phase that it is in.
+    pub(crate) phases: Vec<u32>,
+    /// How many tokens it takes, and how many it gives.
+    pub(crate) needs: Vec<u32>,
+    pub(crate) gifts: Vec<u32>,
+}
+
+/// How many tokens the first firing of each actor takes.
+///
+/// An error says that memory ran out.
+fn first_needs(alloc: Global, plan: &Plan) -> Result<Vec<u32>, AllocError>
+    ensures { IfOk result (λ needs. HasAmounts (λ a. need a 0 plan.now.channels) (length plan.now.sources) needs.items) }
+{
+    let first = plan.first_turn();
+    let mut needs = Vec::new(alloc);
+    for actor in 0..plan.actors() as u32 {
+        needs.push(need_of(plan, actor, first) as u32)?;
+    }
+    Ok(needs)
+}
+
+/// How many tokens the first firing of each actor gives.
+///
+/// An error says that memory ran out.
+fn first_gifts(alloc: Global, plan: &Plan) -> Result<Vec<u32>, AllocError>
+    ensures { IfOk result (λ gifts. HasAmounts (λ a. gift a 0 plan.now.channels) (length plan.now.sources) gifts.items) }
+{
+    let first = plan.first_turn();
+    let mut gifts = Vec::new(alloc);
+    for actor in 0..plan.actors() as u32 {
+        gifts.push(gift_of(plan, actor, first) as u32)?;
+    }
+    Ok(gifts)
+}
+
+impl Nexts {
+    /// The first firings.
+    ///
+    /// An error says that memory ran out.
+    pub(crate) fn first(alloc: Global, plan: &Plan) -> Result<Nexts, AllocError>
+        ensures counts { IfOk result (λ nexts. nexts.counts.items ≡ replicate (length plan.now.sources) 0) }
+        ensures amounts { IfOk result (λ nexts. AreAmounts plan.now nexts.counts.items nexts.needs.items nexts.gifts.items) }
+        ensures phases { IfOk result (λ nexts. AreInPhase plan.now nexts.counts.items nexts.phases.items) }
+    {
+        let (actors, first) = (plan.actors(), plan.first_turn());
+        Ok(Nexts {
+            counts: vec![in alloc; first.firing; actors]?,
+            phases: vec![in alloc; first.phase; actors]?,
+            needs: first_needs(alloc, plan)?,
+            gifts: first_gifts(alloc, plan)?,
+        })
+    }
+
+    /// Goes on to the actor's firing that comes n firings later.
+    pub(crate) fn advance(&mut self, plan: &Plan, actor: u32, n: u32)
+        requires actor { actor < length plan.now.sources }
+        requires counted { length self.old.counts.items ≡ length plan.now.sources }
+        requires few { slice_index self.old.counts.items actor ≤ MAX_FIRINGS_PER_ACTOR }
+        requires ahead { n ≤ MAX_FIRINGS_PER_ACTOR }
+        requires amounts { AreAmounts plan.now self.old.counts.items self.old.needs.items self.old.gifts.items }
+        requires phases { AreInPhase plan.now self.old.counts.items self.old.phases.items }
+        ensures counts { self.new.counts.items ≡ slice_set self.old.counts.items actor (slice_index self.old.counts.items actor + n) }
+        ensures amounts { AreAmounts plan.now self.new.counts.items self.new.needs.items self.new.gifts.items }
+        ensures phases { AreInPhase plan.now self.new.counts.items self.new.phases.items }
+    {
+        let a = actor as usize;
+        let turn = Turn {
+            firing: self.counts[a],
+            phase: self.phases[a],
+        };
+        let next = turn_ahead(plan, actor, turn, n);
+        self.counts[a] = next.firing;
+        self.phases[a] = next.phase;
+        // Each firing of an actor of one phase takes and gives the same.
+        if plan.phases(actor) != 1 {
+            self.needs[a] = need_of(plan, actor, next) as u32;
+            self.gifts[a] = gift_of(plan, actor, next) as u32;
+        }
+    }
+}
