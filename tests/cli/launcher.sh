@@ -93,7 +93,7 @@ echo "csdf: meanwhile './csdf --unproved WORDS' in place of './csdf WORDS' answe
 { cat "$room/begun"; echo "csdf: built"; } > "$room/built"
 cat > "$room/no_rt" << 'EOF'
 csdf: it has to be built, and this is missing:
-- the command rt of the Rattle kit rattle-kit-13b, or another with logic dac8208d650f15bf. The kit's folder bin has to be on PATH: export PATH="KIT/bin:$PATH"
+- the command rt of the Rattle kit rattle-kit-13f, or another with logic dac8208d650f15bf. The kit's folder bin has to be on PATH: export PATH="KIT/bin:$PATH"
 Then call this again. A first build takes about 20 minutes on four cores.
 EOF
 mkdir "$launched/lacking"
@@ -103,7 +103,7 @@ chmod +x "$launched/lacking/rt"
 cat > "$room/lacking" << EOF
 csdf: it has to be built, and this is missing:
 - x86-64 Linux: this is Linux aarch64
-- the Rattle kit rattle-kit-13b, or another with logic dac8208d650f15bf: the command rt on PATH says that it is 'rattle-kit-7 logic 0'
+- the Rattle kit rattle-kit-13f, or another with logic dac8208d650f15bf: the command rt on PATH says that it is 'rattle-kit-7 logic 0'
 - memory: 2900 MB are free, and the build takes about 4000
 - disk: 1500 MB are free where $launched is, and the build takes about 3000
 Then call this again. A first build takes about 20 minutes on four cores.

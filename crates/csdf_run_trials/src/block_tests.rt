@@ -3,7 +3,9 @@
 
 ghost use Rattle.std.specs.Prelude.{IfOk};
 
-use crate::shared::{Asked, asked_for, deliver, done_of, expect_eq, fired_by, floor_that_keeps};
+use crate::shared::{
+    Asked, asked_for, deliver, done_of, expect_eq, fired_by, floor_that_keeps, moves_of,
+};
 use csdf_floor::{Floor, StartFault};
 use csdf_journal::Keeping;
 use csdf_kernel::{Counts, Outputs};
@@ -200,11 +202,6 @@ fn single_turns(alloc: Global, floor: &mut Floor) -> Result<(), Fail> {
         single_turn(alloc, floor)?;
     }
     Ok(())
-}
-
-/// The moves that the floor keeps.
-fn moves_of(alloc: Global, floor: &Floor) -> Result<String, Fail> {
-    Ok(format!(in alloc; "{:?}", floor.journal())?)
 }
 
 /// What comes of four periods of the graph, and the moves that are kept.

@@ -4,6 +4,8 @@
 #![tactic(auto)]
 
 #[cfg(test)]
+mod beside;
+#[cfg(test)]
 mod block_tests;
 #[cfg(test)]
 mod claim_tests;
@@ -23,6 +25,10 @@ mod memory_tests;
 mod oracle_tests;
 #[cfg(test)]
 mod outcome_tests;
+#[cfg(test)]
+mod random_graphs;
+#[cfg(test)]
+mod random_tests;
 #[cfg(test)]
 mod run_tests;
 #[cfg(test)]

@@ -2,12 +2,14 @@ ghost use Rattle.std.specs.Prelude.{◌≤◌, IfOk, length};
 ghost use Rattle.csdf_kernel.specs.Value.{HasFilterInRange};
 ghost use Rattle.csdf_floor.specs.Floor.{IsReady};
 
+use crate::beside::{Beside, Extent, Turn};
 use crate::shared::{
     Asked, asked_for, deliver, done_of, expect_eq, floor_for, ran, settled, started, told_of,
 };
 use csdf_analysis::Accepted;
 use csdf_core::Refusal;
 use csdf_floor::{DeliverFault, Ending, Floor, Outcome, RunFault, StartFault};
+use csdf_journal::Keeping;
 use csdf_kernel::{Counts, Done, Inputs, Job};
 use csdf_model::{Kernel, MAX_TOTAL_PER_FIRING};
 use csdf_run::Open;
@@ -253,6 +255,55 @@ fn check_all_by<R: Threads + Wait + Abort + Sync>(
 fn runs_by_some_workers(rt: HostRuntime) -> Result<(), Fail> {
     for workers in [1, 2, 8] {
         check_all_by(&rt, rt.alloc(), workers)?;
+    }
+    Ok(())
+}
+
+/// The actor makes all that it can.
+fn turn_of(actor: u32) -> Turn {
+    Turn {
+        actor,
+        most: 1000,
+        is_drafted: false,
+    }
+}
+
+/// Lets the three actors have turns until none can begin.
+fn go(alloc: Global, floors: &mut Beside) -> Result<(), Fail> {
+    let turns = [turn_of(0), turn_of(1), turn_of(2)];
+    for _ in 0..100 {
+        if !floors.pass(alloc, &turns)? {
+            break;
+        }
+    }
+    Ok(())
+}
+
+/// The case by a floor that makes firings in blocks, and beside it by one that makes the same one by one.
+fn check_in_blocks(
+    rt: &impl Abort,
+    alloc: Global,
+    case: &Case,
+    keeping: Keeping,
+) -> Result<(), Fail> {
+    let asked = asked_for(alloc, case.graph, case.feed)?;
+    let extent = Extent {
+        periods: case.periods,
+        firings: case.firings,
+    };
+    let mut floors = Beside::new(rt, alloc, &asked, extent, keeping)?;
+    go(alloc, &mut floors)?;
+    let told = floors.end(rt, alloc, &asked, extent, case.graph)?;
+    expect_eq(rt, told.as_str(), case.wanted);
+    Ok(())
+}
+
+/// As many firings are made at once as memory allows, so `tests/memory/run` leaves this one out.
+#[test]
+fn runs_are_made_in_blocks(rt: HostRuntime) -> Result<(), Fail> {
+    for case in &CASES {
+        check_in_blocks(&rt, rt.alloc(), case, Keeping::Kept)?;
+        check_in_blocks(&rt, rt.alloc(), case, Keeping::NotKept)?;
     }
     Ok(())
 }

@@ -86,11 +86,23 @@ pub(crate) fn floor_that_keeps(
     periods: u32,
     keeping: Keeping,
 ) -> Result<Floor, Fail> {
+    limited_floor(rt, alloc, asked, periods, None, keeping)
+}
+
+/// The same with a limit on all firings, where there is one.
+pub(crate) fn limited_floor(
+    rt: &impl Abort,
+    alloc: Global,
+    asked: &Asked,
+    periods: u32,
+    firings: Option<u32>,
+    keeping: Keeping,
+) -> Result<Floor, Fail> {
     let (accepted, feeds) = (&asked.accepted, &asked.feeds);
     assert!(rt; are_feeds(accepted.graph(), feeds));
     assert!(rt; 1 <= periods);
     assert!(rt; may_run(accepted, periods));
-    Ok(Floor::with_journal(alloc, accepted, feeds, periods, None, keeping)?)
+    Ok(Floor::with_journal(alloc, accepted, feeds, periods, firings, keeping)?)
 }
 
 /// How many firings the actor has made, where there is one.
@@ -100,6 +112,11 @@ pub(crate) fn fired_by(floor: &Floor, actor: u32) -> u32 {
     } else {
         0
     }
+}
+
+/// The moves that the floor keeps.
+pub(crate) fn moves_of(alloc: Global, floor: &Floor) -> Result<String, Fail> {
+    Ok(format!(in alloc; "{:?}", floor.journal())?)
 }
 
 /// Asserts that what is found is as wanted: a call of this is proved in a fraction of the time that the

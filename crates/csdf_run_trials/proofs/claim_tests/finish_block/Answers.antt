@@ -1,4 +1,4 @@
-use Rattle.std.proofs.Common.{◌≡◌, ℕ, sym, ◌∙◌, arith}
+use Rattle.std.proofs.Common.{◌≡◌, sym, ◌∙◌, arith}
 use Rattle.csdf_claims.proofs.Moves.{head_of}
 use Rattle.csdf_run_trials.proofs.claim_tests.finish_block.Goals as goal
 
