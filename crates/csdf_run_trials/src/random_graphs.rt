@@ -249,6 +249,36 @@ impl Sketch {
         }
     }
 
+    /// Writes the rates at one end of a channel.
+    fn write_rates(
+        &mut self,
+        alloc: Global,
+        dice: &mut Dice,
+        end: &str,
+        phases: u32,
+        tokens: u32,
+    ) -> Result<(), Fail> {
+        let rates = dice.rates(alloc, phases, tokens)?;
+        write!(self.text, ", {end} = {rates:?}")?;
+        Ok(())
+    }
+
+    fn write_initial(&mut self, alloc: Global, dice: &mut Dice, count: u32) -> Result<(), Fail> {
+        let initial = dice.tokens(alloc, count)?;
+        self.initial = self.initial.saturating_add(count);
+        write!(self.text, ", initial = {initial:?}")?;
+        Ok(())
+    }
+
+    /// Writes a capacity for these tokens and more, in two channels of three.
+    fn write_capacity(&mut self, dice: &mut Dice, initial: u32) -> Result<(), Fail> {
+        if !dice.is_one_in(3) {
+            let capacity = initial.saturating_add(dice.roll(8, 64));
+            write!(self.text, ", capacity = {capacity}")?;
+        }
+        Ok(())
+    }
+
     fn write_edge(
         &mut self,
         alloc: Global,
@@ -257,24 +287,17 @@ impl Sketch {
         edge: Edge,
     ) -> Result<(), Fail> {
         let (from, to) = (edge.from, edge.to);
-        let (produced, consumed) = self.moved(dice, edge);
-        let produce = dice.rates(alloc, self.node(from).phases, produced)?;
-        let consume = dice.rates(alloc, self.node(to).phases, consumed)?;
-        let count = self.first_tokens(dice, edge, produced);
-        let initial = dice.tokens(alloc, count)?;
-        self.initial = self.initial.saturating_add(count);
         write!(
             self.text,
             "  {{ name = \"c{number}\", from = \"a{from}\", to = \"a{to}\""
         )?;
-        write!(
-            self.text,
-            ", produce = {produce:?}, consume = {consume:?}, initial = {initial:?}"
-        )?;
-        if !dice.is_one_in(3) {
-            let capacity = count.saturating_add(dice.roll(8, 64));
-            write!(self.text, ", capacity = {capacity}")?;
-        }
+        let (producer, consumer) = (self.node(from), self.node(to));
+        let (produced, consumed) = self.moved(dice, edge);
+        self.write_rates(alloc, dice, "produce", producer.phases, produced)?;
+        self.write_rates(alloc, dice, "consume", consumer.phases, consumed)?;
+        let initial = self.first_tokens(dice, edge, produced);
+        self.write_initial(alloc, dice, initial)?;
+        self.write_capacity(dice, initial)?;
         write!(self.text, " }},\n")?;
         Ok(())
     }
