@@ -93,8 +93,9 @@ impl Draft {
         ensures firings { self.new.firings ≡ 0 }
         ensures is_made { self.new.is_made ≡ false }
     {
-        self.is_made = false;
-        self.firings = 0;
+        let Draft { firings, is_made, .. } = self;
+        *firings = 0;
+        *is_made = false;
     }
 
     /// The kernel's values, end to end, where the draft was evaluated.
@@ -118,14 +119,15 @@ impl Draft {
         ensures none { OnErr result (self.new.is_made ≡ false) }
     {
         self.is_made = false;
-        if self.firings == 0 {
+        let firings = self.firings;
+        if firings == 0 {
             return Ok(());
         }
         eval_block(
             &self.kernel,
             self.counts.as_slice(),
             self.need,
-            self.firings,
+            firings,
             self.inputs.as_slice(),
             &mut self.outputs,
         )?;

@@ -50,7 +50,8 @@ impl<'a> Pen<'a> {
         ensures written { written_of self.new ≡ written_of self.old + 1 }
         ensures table { KeepsTable self.old self.new }
     {
-        self.links[i as usize] = next;
-        self.written += 1;
+        let Pen { links, written } = self;
+        links[i as usize] = next;
+        *written += 1;
     }
 }

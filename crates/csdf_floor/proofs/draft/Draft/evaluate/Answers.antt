@@ -13,7 +13,7 @@ invariant_of-self-2 c = (c.self.invariant.0, λ _. rw (c.as_slice.ensures, c.as_
 
 pub eval_block-requires-clause-whole : goal.eval_block-requires-clause-whole
 eval_block-requires-clause-whole c =
-    let some : 0 < c.self.inside.firings = omega (arith, c.if-self-eq0.false) in
+    let some : 0 < c.self.inside.firings = omega (arith, c.if-firings-eq0.false) in
     rw c.as_slice-2.ensures.value (c.self.invariant.0 some).whole
 
 pub returns-clause-made : goal.returns-clause-made
