@@ -19,6 +19,9 @@ use std::alloc::{AllocError, Global};
 /// [`auto_room`] answers.
 const MOST_CARRIED: u32 = 4_096;
 
+// In digits, as documents tell it: a limit that is changed fails here.
+const _: () = prove!(MOST_CARRIED == 4_096);
+
 /// The initial tokens of the channel and all that its producer puts in within so many periods, and
 /// at most 65,535.
 fn room_for(channel: &Channel, q: &[u32], periods: u32) -> u32

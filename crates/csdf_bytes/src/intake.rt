@@ -25,6 +25,9 @@ pub enum InputFault {
 /// The greatest number of bytes of an input.
 pub const INPUT_LIMIT: usize = 16_777_216;
 
+// In digits, as documents tell it: a limit that is changed fails here.
+const _: () = prove!(INPUT_LIMIT == 16_777_216);
+
 /// How many bytes a reader is asked for at a time.
 const PIECE: usize = 65_536;
 

@@ -37,6 +37,9 @@ pub enum TokenFault {
 /// The greatest number of tokens of a file.
 pub const TOKEN_LIMIT: usize = 1_000_000;
 
+// In digits, as documents tell it: a limit that is changed fails here.
+const _: () = prove!(TOKEN_LIMIT == 1_000_000);
+
 /// The tokens of all the bytes to the end of the input, or the fault of the first faulty line.
 ///
 /// The bytes are read whole before any line is looked at. Want of memory says nothing of the input.

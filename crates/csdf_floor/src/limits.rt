@@ -9,6 +9,9 @@ use csdf_model::{MAX_FIRINGS_PER_ACTOR, MAX_PERIODS};
 /// The most tokens that a source may have: as many as a token file.
 pub const MAX_FEED_TOKENS: usize = 1_000_000;
 
+// In digits, as documents tell it: a limit that is changed fails here.
+const _: () = prove!(MAX_FEED_TOKENS == 1_000_000);
+
 /// The most periods, of at most 16,384,000, in which an actor that fires so often in each makes no more
 /// firings than that.
 fn most_for(firings: u32) -> u32

@@ -69,3 +69,29 @@ pub const MAX_ROOM: u32 = 65_535;
 
 /// The most firings of all actors in a run: those of an actor for each of the most actors.
 pub const MAX_FIRINGS: u32 = 1_048_576_000;
+
+// Clauses name these limits. Here they are told in digits, as documents tell them: a limit that is changed fails here.
+const _: () = prove!(
+    MAX_ACTORS == 64
+        && MAX_CHANNELS == 128
+        && MAX_NAME_BYTES == 32
+        && MAX_PHASES == 16
+        && MAX_WEIGHTS == 16
+        && MIN_WEIGHT == -32_768
+        && MAX_WEIGHT == 32_767
+        && MAX_SHIFT == 31
+        && MAX_TOKENS_PER_FIRING == 64
+        && MAX_TOTAL_PER_FIRING == 8_192
+        && MAX_INITIAL_TOKENS == 256
+        && MAX_CAPACITY == 65_535
+        && MAX_CELLS == 8_388_480
+        && MAX_SCRIPT_LIMIT == 1_000_000
+        && MAX_SCRIPT_SUPPLY == 1_000_000
+        && MAX_SCRIPT_LINES == 100_000
+        && MAX_CYCLES_PER_PERIOD == 1_024
+        && MAX_FIRINGS_PER_PERIOD == 1_048_576
+        && MAX_FIRINGS_PER_ACTOR == 16_384_000
+        && MAX_PERIODS == 1_000
+        && MAX_ROOM == 65_535
+        && MAX_FIRINGS == 1_048_576_000
+);
