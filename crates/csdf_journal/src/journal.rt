@@ -80,7 +80,8 @@ impl Journal {
     pub fn into_moves(self) -> Vec<Move>
         ensures { map move_of result.items ≡ told self.keeps self.moves }
     {
-        self.moves
+        let Journal { moves, .. } = self;
+        moves
     }
 
     /// Makes room for so many moves more, where moves are kept. Where they are not, there is always

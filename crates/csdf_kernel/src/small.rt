@@ -180,11 +180,11 @@ pub(crate) fn small_products_at(weights: &[i32], taps: usize, inputs: &[i32], pl
 
 /// A sum divided by two to the power of `shift`, rounded down.
 #[tactic(auto, using(crate::proofs::NumberLemmas::shr_is))]
-pub(crate) fn small_shifted(sum: i64, shift: u32) -> i64
+pub(crate) fn small_shifted(total: i64, shift: u32) -> i64
     requires { shift ≤ MAX_SHIFT }
-    ensures { result ≡ floor sum (2 ^ shift) }
+    ensures { result ≡ floor total (2 ^ shift) }
 {
-    sum >> shift
+    total >> shift
 }
 
 /// The nearest number in the range of `i32`.
