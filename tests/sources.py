@@ -206,3 +206,109 @@ def places_of(edit, read):
             faults.append(f"it changes nothing in {file}: {old.strip()[:70]}")
         texts[file] = text.replace(old, new, 1)
     return places, faults
+
+
+# ---- the crates as a whole
+
+CALL = re.compile(r"(?:(\w+)(?:::<[^()]*?>)?::)?(\.?)\b([a-z_]\w*)(?:::<[^()]*?>)?\s*\(")
+
+
+class Crates:
+    """The functions of all crates, who calls whom, and what each crate shows."""
+
+    def __init__(self, top):
+        self.top = Path(top)
+        self.below = self._below()
+        self.texts = {}  # crate -> file -> text
+        self.functions = []
+        for crate in self.below:
+            folder = self.top / "crates" / crate
+            files = sorted((folder / "src").rglob("*.rt"))
+            self.texts[crate] = {it.relative_to(folder).as_posix(): it.read_text(encoding="utf-8") for it in files}
+            for file, text in self.texts[crate].items():
+                self.functions += functions_of(crate, file, text)
+        self.by_name = {}
+        for one in self.functions:
+            self.by_name.setdefault(one.name, []).append(one)
+        self._called = {}
+
+    def _below(self):
+        """What each crate stands on, with what that stands on."""
+        uses = {}
+        for line in (self.top / "crates.txt").read_text(encoding="utf-8").splitlines():
+            found = re.match(r"(\w+)[^:#]*:(.*)", line)
+            if found:
+                uses[found[1]] = found[2].split()
+        uses = {name: [it for it in used if it in uses] for name, used in uses.items()}
+
+        def all_below(name, found):
+            for it in uses[name]:
+                if it not in found:
+                    found.append(it)
+                    all_below(it, found)
+            return found
+
+        return {name: all_below(name, []) for name in uses}
+
+    def libraries(self):
+        """The crates that others use, tests and examples left out."""
+        last = ("trials", "examples")
+        return [it for it in self.below if "src/lib.rt" in self.texts[it] and not it.endswith(last)]
+
+    def type_is_declared(self, crate, name):
+        """Whether the crate declares a type or a trait of this name."""
+        return any(it[2] == name for text in self.texts[crate].values() for it in TYPE.finditer(masked(text)))
+
+    def public(self, crate):
+        """The functions that a crate shows: those that `lib.rt` exports, and the methods of its types and traits."""
+        code = masked(self.texts[crate]["src/lib.rt"])
+        shown, modules = set(), set(re.findall(r"^pub mod (\w+);", code, re.MULTILINE))
+        for used in re.findall(r"^pub use ([^;]+);", code, re.MULTILINE):
+            names = re.search(r"\{([^}]*)\}", used)
+            shown |= {it.split(" as ")[0].strip() for it in (names[1].split(",") if names else [used.rsplit("::", 1)[-1]])}
+        shown |= {it[2] for it in TYPE.finditer(code) if (it[1] or "").strip() == "pub"}
+        found = []
+        for one in self.functions:
+            if one.crate != crate:
+                continue
+            if one.trait and one.trait == one.owner:
+                if one.owner in shown:
+                    found.append(one)
+            elif one.is_pub and not one.trait:
+                if one.owner in shown or not one.owner and (one.name in shown or one.module in modules or one.file == "src/lib.rt"):
+                    found.append(one)
+        return found
+
+    def called(self, one):
+        """The functions that a function may call: each that its text could mean, in its crate and those below."""
+        if one.key not in self._called:
+            self._called[one.key] = [it for found in CALL.finditer(one.code) for it in self._meant(one, *found.groups())]
+        return self._called[one.key]
+
+    def _meant(self, one, before, dot, name):
+        near = [it for it in self.by_name.get(name, []) if it.crate == one.crate or it.crate in self.below[one.crate]]
+        if before == "Self":
+            before = one.owner
+        if before:
+            here = [it for it in near if before in (it.owner, it.module, it.crate)]
+            # (the type may be a parameter: then any trait's method of that name is meant)
+            return here or [it for it in near if it.trait and len(before) == 1]
+        if dot:
+            return [it for it in near if it.owner]
+        here = [it for it in near if not it.owner]
+        return [it for it in here if (it.crate, it.file) == (one.crate, one.file)] or here
+
+    def callers(self, functions):
+        """The functions that call one of these."""
+        keys = {it.key for it in functions}
+        return [one for one in self.functions if any(it.key in keys for it in self.called(one))]
+
+    def reached(self, functions):
+        """The functions, and all that they call."""
+        found, waiting = {}, list(functions)
+        while waiting:
+            one = waiting.pop()
+            if one.key not in found:
+                found[one.key] = one
+                waiting += self.called(one)
+        return list(found.values())
