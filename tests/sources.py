@@ -123,7 +123,8 @@ def functions_of(crate, file, text):
         begin = head_end(code, it.end())
         end = closing(code, begin) if code[begin : begin + 1] == "{" else begin + 1
         owner, trait = next(((o, t) for s, e, o, t in containers if s <= it.start() < e), ("", ""))
-        one = Function(crate, file, owner, trait, it[3], it[2].strip() == "pub", start_with_notes(text, it.start()), begin, end)
+        start = start_with_notes(text, it.start())
+        one = Function(crate, file, owner, trait, it[3], it[2].strip() == "pub", start, begin, end)
         for clause in CLAUSE.finditer(code, it.end(), begin):
             kept = one.clauses if clause[1] == "ensures" else one.conditions
             kept[clause[2]] = text[clause.end() : closing(code, clause.end() - 1) - 1].strip()
@@ -255,34 +256,35 @@ class Crates:
         last = ("trials", "examples")
         return [it for it in self.below if "src/lib.rt" in self.texts[it] and not it.endswith(last)]
 
-    def type_is_declared(self, crate, name):
-        """Whether the crate declares a type or a trait of this name."""
-        return any(it[2] == name for text in self.texts[crate].values() for it in TYPE.finditer(masked(text)))
-
     def public(self, crate):
         """The functions that a crate shows: those that `lib.rt` exports, and the methods of its types and traits."""
         code = masked(self.texts[crate]["src/lib.rt"])
         shown, modules = set(), set(re.findall(r"^pub mod (\w+);", code, re.MULTILINE))
         for used in re.findall(r"^pub use ([^;]+);", code, re.MULTILINE):
-            names = re.search(r"\{([^}]*)\}", used)
-            shown |= {it.split(" as ")[0].strip() for it in (names[1].split(",") if names else [used.rsplit("::", 1)[-1]])}
+            listed = re.search(r"\{([^}]*)\}", used)
+            shown |= {it.strip() for it in (listed[1].split(",") if listed else [used.rsplit("::", 1)[-1]])}
         shown |= {it[2] for it in TYPE.finditer(code) if (it[1] or "").strip() == "pub"}
-        found = []
-        for one in self.functions:
-            if one.crate != crate:
-                continue
-            if one.trait and one.trait == one.owner:
-                if one.owner in shown:
-                    found.append(one)
-            elif one.is_pub and not one.trait:
-                if one.owner in shown or not one.owner and (one.name in shown or one.module in modules or one.file == "src/lib.rt"):
-                    found.append(one)
-        return found
+
+        def is_shown(one):
+            if one.trait:
+                return one.trait == one.owner in shown
+            if one.owner:
+                return one.is_pub and one.owner in shown
+            return one.is_pub and (one.name in shown or one.module in modules or one.file == "src/lib.rt")
+
+        return [it for it in self.functions if it.crate == crate and is_shown(it)]
+
+    def impls_of(self, one):
+        """The functions that stand for a method of a trait in the impls of that trait."""
+        if not one.trait or one.trait != one.owner:
+            return []
+        return [it for it in self.by_name[one.name] if it.trait == one.trait]
 
     def called(self, one):
         """The functions that a function may call: each that its text could mean, in its crate and those below."""
         if one.key not in self._called:
-            self._called[one.key] = [it for found in CALL.finditer(one.code) for it in self._meant(one, *found.groups())]
+            calls = [it.groups() for it in CALL.finditer(one.code)]
+            self._called[one.key] = [it for call in calls for it in self._meant(one, *call)]
         return self._called[one.key]
 
     def _meant(self, one, before, dot, name):
