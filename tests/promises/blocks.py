@@ -14,6 +14,7 @@ class Block:
     values: list = field(default_factory=list)
     functions: list = field(default_factory=list)  # those that carry it
     others: list = field(default_factory=list)  # who keeps what a type keeps, and who owes a condition
+    constants: set = field(default_factory=set)  # (crate, file, name) of those that are said in digits
 
     def all(self, key):
         return [value for name, value in self.values if name == key]

@@ -13,6 +13,10 @@ pub fn sum(pair: &Pair) -> u32
     pair.first() + pair.second
 }
 
+const MOST: u32 = 9;
+
+const _: () = prove!(MOST == 9);
+
 fn other() -> u32
     ensures { result ≡ 1 }
 {
@@ -62,6 +66,10 @@ promise: The number one.
 by: other
 edits: other_is_two
 
+promise: Nine at most.
+by: prove! of pairs/src/lib.rt: MOST
+edits: most_is_ten
+
 promise: Sums are found.
 of: sum
 by tests: pairs::pair
@@ -75,6 +83,7 @@ not said: How long it takes.
 BODIES = {
     "first_is_the_second": ("src/pair.rt", "        self.first", "        self.second"),
     "sum_is_the_first": ("src/lib.rt", "pair.first() + pair.second", "pair.first()"),
+    "most_is_ten": ("src/lib.rt", "MOST: u32 = 9", "MOST: u32 = 10"),
     "other_is_two": ("src/lib.rt", "    1", "    2"),
 }
 HEADLINE = "> For every accepted graph all is well.\n"
@@ -83,6 +92,9 @@ FAULTS = [
     ("docs/promises/pairs.txt", "first: value, few", "first: value, few, least", "Pair::first has no clause least"),
     ("docs/promises/pairs.txt", "first: some", "first: value", "asks Pair::first has no condition value"),
     ("docs/promises/pairs.txt", "by: other", "by: another", "there is no function another"),
+    ("docs/promises/pairs.txt", "lib.rt: MOST", "lib.rt: LEAST", "no prove! of pairs/src/lib.rt says LEAST in digits"),
+    ("crates/pairs/src/lib.rt", "prove!(MOST == 9)", "prove!(MOST == MOST)", "says MOST in digits"),
+    ("docs/promises/pairs.txt", "edits: most_is_ten", "edits: most_is_ten, sum_is_the_first", "sum_is_the_first changes none"),
     ("docs/promises/pairs.txt", "(IsPair)", "(IsTriple)", "there is no IsTriple"),
     ("docs/promises/pairs.txt", "field few of", "field many of", "no type keeps field many of Pair"),
     # a wrong body of another function: `sum` calls `first`, and `first` does not call `sum`

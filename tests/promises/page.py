@@ -24,6 +24,8 @@ def told_name(one):
     kept = re.fullmatch(r"(invariant|field) (?:(\w+) )?of (\w+)", one)
     if kept:
         return f"the invariant of `{kept[3]}`" if kept[1] == "invariant" else f"the ghost field `{kept[2]}` of `{kept[3]}`"
+    if one.startswith("prove! of "):
+        return f"`prove!` in {one.removeprefix('prove! of ')}"
     impl = re.fullmatch(r"(\w+) of (\w+)", one)
     return f"`{impl[1]}` of `{impl[2]}`" if impl else f"`{one}`"
 
