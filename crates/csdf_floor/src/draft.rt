@@ -93,7 +93,11 @@ impl Draft {
         ensures firings { self.new.firings ≡ 0 }
         ensures is_made { self.new.is_made ≡ false }
     {
-        let Draft { firings, is_made, .. } = self;
+        let Draft {
+            firings,
+            is_made,
+            ..
+        } = self;
         *firings = 0;
         *is_made = false;
     }
