@@ -182,8 +182,8 @@ module _ (words : List Text) (e : Ending) where
 
   pub nothing_ends : (u : Unread) → IsUnread words u → EndsUnread u e → AreTaken words → (e.status ≡ 2) ⊎ EndsTold e fault.Memory
   nothing_ends (unread.Parse error) why ends taken = inr (memory_ends error e (of_taken words error why taken) ends)
-  nothing_ends (unread.Room text) why ends taken = inl ends
-  nothing_ends unread.Lengths why ends taken = inl ends
+  nothing_ends (unread.Room text) why ends taken = inl ends.status
+  nothing_ends unread.Lengths why ends taken = inl ends.status
 
 -- a status that is told of want of memory is 3
 pub memory_is_three : (e : Ending) → EndsTold e fault.Memory → e.status ≡ 3

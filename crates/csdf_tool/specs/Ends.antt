@@ -11,7 +11,8 @@ use Rattle.csdf_answers.specs.declared.question.Form.{Form}
 use Rattle.csdf_answers.specs.declared.question.Form.TheVariants as forms
 use Rattle.csdf_answers.specs.Faults.{status_of}
 use Rattle.csdf_answers.specs.Objects.{TellsFault}
-use Rattle.csdf_words.specs.CommandLine.{program}
+use Rattle.csdf_words.specs.CommandLine.{program, IsUnread}
+use Rattle.csdf_tool.specs.Refused.{lengths_refusal, room_refusal}
 use Rattle.csdf_words.specs.declared.command.Unread.{Unread}
 use Rattle.csdf_words.specs.declared.command.Unread.TheVariants as unread
 
@@ -76,11 +77,22 @@ EndsFor _ e = e.status ≡ 2
 abbrev pub EndsForOneOf : Kinds → Ending → Type 0
 EndsForOneOf kinds e = EndsTold e Memory ⊎ ((kind : ErrorKind) × IsAmong kind kinds × EndsFor kind e)
 
+-- the status is that of refused words, and standard error has this text, or failed
+pub record EndsRefused (text : List ℕ) (e : Ending) : Type 0 where
+  pub status : e.status ≡ 2
+  pub told : Appends e.before e.after text ⊎ (e.failed ≡ true)
+
 -- how words that are no request end
 abbrev pub EndsUnread : Unread → Ending → Type 0
 EndsUnread (unread.Parse error) e = EndsFor (kind_of error) e
-EndsUnread (unread.Room text) e = e.status ≡ 2
-EndsUnread unread.Lengths e = e.status ≡ 2
+EndsUnread (unread.Room text) e = EndsRefused (room_refusal text.now) e
+EndsUnread unread.Lengths e = EndsRefused lengths_refusal e
+
+-- how words that ask for nothing end: there is a reason why they are no request, and it is told
+pub record EndsUnasked (words : List Text) (e : Ending) : Type 0 where
+  pub why : Unread
+  pub unread : IsUnread words why
+  pub ends : EndsUnread why e
 
 -- the parser takes the words: by its test, or since no reason is among those that it may refuse them for
 abbrev pub AreTaken : List Text → Type 0

@@ -10,6 +10,7 @@ mod look;
 mod program;
 mod progress;
 mod put_fault;
+mod refused;
 mod report;
 mod run_files;
 

@@ -5,12 +5,13 @@ ghost use Rattle.std.specs.Io.KnownBytes.{Appends};
 ghost use Rattle.clap.specs.Words.{fault_of, kind_of};
 ghost use Rattle.csdf_words.specs.CommandLine.{program, asked_view, form_asked, form_of, words_ask, Asked};
 ghost use Rattle.csdf_tool.specs.Carried.{IsCarriedOut, IsCauseOf, reads_input};
-ghost use Rattle.csdf_tool.specs.Ends.{AreTaken, Ended, EndsAs, EndsBy, EndsFor, EndsForOneOf, EndsInForm, EndsTelling, EndsTold, EndsUnread, ending};
+ghost use Rattle.csdf_tool.specs.Ends.{AreTaken, Ended, EndsAs, EndsBy, EndsFor, EndsForOneOf, EndsInForm, EndsTelling, EndsTold, EndsUnasked, EndsUnread, ending};
 ghost use Rattle.csdf_tool.specs.Acts.{devices, marks};
 
 use crate::answer_files::{ask_file, play_file};
 use crate::disk::Disk;
 use crate::explain_files::explain_files;
+use crate::refused::{refuse_lengths, refuse_room};
 use crate::run_files::run_files;
 use clap::Error;
 use clap::error::ErrorKind;
@@ -137,30 +138,6 @@ fn status_of_error<O: Outlet, E: Outlet>(
     }
 }
 
-/// Tells that a text names no room, and answers the exit status of refused words.
-fn refuse_room<E: Outlet>(text: &str, err: &mut E) -> u8
-    ensures { result ≡ 2 }
-{
-    let _ = write!(
-        Printer(err),
-        "error: invalid value '{text}' for '--room <M>': it is neither 'auto' nor in 1..=65535\n\n\
-        For more information, try '--help'.\n",
-    );
-    2
-}
-
-/// Tells that a run has two lengths, and answers the exit status of refused words.
-fn refuse_lengths<E: Outlet>(err: &mut E) -> u8
-    ensures { result ≡ 2 }
-{
-    let _ = write!(
-        Printer(err),
-        "error: '--until-dry' and '--periods <K>' exclude each other\n\n\
-        For more information, try '--help'.\n",
-    );
-    2
-}
-
 /// The exit status where the words are no request.
 fn status_of_words<O: Outlet, E: Outlet>(
     alloc: Global,
@@ -204,6 +181,8 @@ pub fn run_words<
     ensures taken { AreTaken (map string_bytes words.now) → words_ask (map string_bytes words.now) ≢ None → result ≢ 2 }
     ensures nothing { AreTaken (map string_bytes words.now) → words_ask (map string_bytes words.now) ≡ None
         → (result ≡ 2) ⊎ EndsTold (ending result (E.written err.old) (E.written err.new) (E.failed err.new) (O.failed out.new)) ToolFault.Memory }
+    ensures reason { words_ask (map string_bytes words.now) ≡ None → EndsUnasked (map string_bytes words.now)
+        (ending result (E.written err.old) (E.written err.new) (E.failed err.new) (O.failed out.new)) }
     ensures unread { fault_of program (map string_bytes words.now) ≢ [] → EndsForOneOf (fault_of program (map string_bytes words.now))
         (ending result (E.written err.old) (E.written err.new) (E.failed err.new) (O.failed out.new)) }
     ensures untouched { (fault_of program (map string_bytes words.now) ≢ []) ⊎ (words_ask (map string_bytes words.now) ≡ None)

@@ -226,10 +226,10 @@ asked_with name rows room =
 abbrev pub asked_of : Text → List Row → Option Asked
 asked_of name rows = option_and_then (asked_with name rows) (room_of rows)
 
--- why words after a command ask for nothing: they name no room, or two lengths
+-- why words after a command ask for nothing: the text of their room is none, or they name two lengths
 abbrev pub AskForNothing : List Row → Unread → Type 0
 AskForNothing rows (unread.Parse error) = ⊥
-AskForNothing rows (unread.Room text) = room_of rows ≡ None
+AskForNothing rows (unread.Room text) = (room_of rows ≡ None) × (first_of (codes "room") rows ≡ Some text.now)
 AskForNothing rows unread.Lengths = how_long_of rows ≡ None
 
 -- what the command that was met asks for, and standard input where none was

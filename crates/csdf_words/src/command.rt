@@ -1,6 +1,6 @@
 //! The command line.
 
-ghost use Rattle.std.specs.Prelude.{◌≡◌, ◌≤◌, [], true, false, map, string_bytes, Some, None, Ok, IfErr, IfOk, IfSome, MatchResult, option_map};
+ghost use Rattle.std.specs.Prelude.{◌≡◌, ◌≤◌, [], true, false, codes, map, string_bytes, Some, None, Ok, IfErr, IfOk, IfSome, MatchResult, option_map};
 ghost use Rattle.clap.specs.Words.{app_of, fault_of, first_of, found_of, kind_of, rows_of, rule_of, subcommand_of, subcommand_rows_of, takes, with_rule, FailsBy};
 ghost use Rattle.clap.specs.declared.builder.command.Command.TheViews.{out-Command as fields_of};
 ghost use Rattle.clap.specs.declared.builder.value_parser.ValueParser.TheVariants.{Unsigned};
@@ -278,7 +278,7 @@ fn room_in(text: &str) -> Option<Room>
 /// The error is a text that names no room.
 fn room_of<'a>(arguments: &ArgMatches<'a>) -> Result<Room, &'a str>
     ensures value { MatchResult result (λ room. room_of (rows_of (found_of arguments.now)) ≡ Some room)
-        (λ _. room_of (rows_of (found_of arguments.now)) ≡ None) }
+        (λ text. (room_of (rows_of (found_of arguments.now)) ≡ None) × (first_of (codes "room") (rows_of (found_of arguments.now)) ≡ Some text.now)) }
     ensures some { IfOk result HasSomePeriod }
 {
     match arguments.get_str(ROOM) {

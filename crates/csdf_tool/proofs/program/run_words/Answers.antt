@@ -90,3 +90,12 @@ returns-in-Err-clause-lined g c =
     let status = c.status_of_words.result in
     let only : (status ≡ 1) ⊎ (status ≡ 3) → status ≡ 3 = grind (arith, common_steps) in
     lined_unread only c.status_of_words.ensures.lined
+
+pub returns-in-Err-clause-reason : goal.returns-in-Err-clause-reason
+returns-in-Err-clause-reason g c = λ none.
+    record { why = c.in-Err.unread; unread = c.in-Err.ensures.unread; ends = c.status_of_words.ensures.ends }
+
+pub returns-in-Ok-clause-reason : goal.returns-in-Ok-clause-reason
+returns-in-Ok-clause-reason g c = λ none.
+    let no : None ≡ Some (asked_view c.in-Ok.request) = sym none ∙ c.in-Ok.ensures.asked in
+    absurd (cc)

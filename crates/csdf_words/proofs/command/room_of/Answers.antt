@@ -1,4 +1,4 @@
-use Rattle.std.proofs.Common.{◌∙◌, sym}
+use Rattle.std.proofs.Common.{◌∙◌, ap, option_map, sym}
 use Rattle.clap.specs.Words.{found_of, rows_of}
 use Rattle.clap.proofs.WalkLemmas.{first_value-rows}
 use Rattle.csdf_words.proofs.CommandLemmas.{room_given, room_absent}
@@ -11,8 +11,10 @@ returns-in-Some-room_in-clause-value c =
 
 pub returns-in-None-room_in-clause-value : goal.returns-in-None-room_in-clause-value
 returns-in-None-room_in-clause-value c =
-    let found = c.get_str.ensures ∙ first_value-rows (found_of c.args.arguments.now) _ in
-    room_given (rows_of (found_of c.args.arguments.now)) c.get_str.result c.in-Some.text c.in-Some.is found ∙ sym c.room_in.ensures.value ∙ c.in-None-room_in.is
+    let found = c.get_str.ensures ∙ first_value-rows (found_of c.args.arguments.now) _ in (
+      room_given (rows_of (found_of c.args.arguments.now)) c.get_str.result c.in-Some.text c.in-Some.is found ∙ sym c.room_in.ensures.value ∙ c.in-None-room_in.is,
+      sym found ∙ ap (option_map (λ s. s.now)) c.in-Some.is,
+    )
 
 pub returns-in-None-clause-value : goal.returns-in-None-clause-value
 returns-in-None-clause-value c =

@@ -1,0 +1,57 @@
+//! Words that the parser takes and that ask for nothing.
+
+ghost use Rattle.std.specs.Prelude.{◌≡◌, ◌⊎◌, ◌++◌, true, OnErr, OnOk};
+ghost use Rattle.std.specs.Io.KnownBytes.{Appends};
+ghost use Rattle.csdf_tool.specs.Refused.{lengths_refusal, room_refusal};
+
+use csdf_bytes::{Outlet, WriteFault, write_bytes};
+
+/// Writes a text between two others.
+fn write_between<E: Outlet>(
+    front: &str,
+    text: &str,
+    back: &str,
+    err: &mut E,
+) -> Result<(), WriteFault>
+    ensures written { OnOk result (Appends (E.written err.old) (E.written err.new) (front.now ++ (text.now ++ back.now))) }
+    ensures failed { OnErr result (E.failed err.new ≡ true) }
+{
+    write_bytes(err, front.as_bytes())?;
+    write_bytes(err, text.as_bytes())?;
+    write_bytes(err, back.as_bytes())
+}
+
+/// Tells a text between two others. Where the device fails, that is all that comes of it.
+fn tell_between<E: Outlet>(front: &str, text: &str, back: &str, err: &mut E)
+    ensures { Appends (E.written err.old) (E.written err.new) (front.now ++ (text.now ++ back.now)) ⊎ (E.failed err.new ≡ true) }
+{
+    let _ = write_between(front, text, back, err);
+}
+
+/// Tells that a text names no room, and answers the exit status of refused words.
+pub(crate) fn refuse_room<E: Outlet>(text: &str, err: &mut E) -> u8
+    ensures status { result ≡ 2 }
+    ensures told { Appends (E.written err.old) (E.written err.new) (room_refusal text.now) ⊎ (E.failed err.new ≡ true) }
+{
+    tell_between(
+        "error: invalid value '",
+        text,
+        "' for '--room <M>': it is neither 'auto' nor in 1..=65535\n\nFor more information, try '--help'.\n",
+        err,
+    );
+    2
+}
+
+/// Tells that a run has two lengths, and answers the exit status of refused words.
+pub(crate) fn refuse_lengths<E: Outlet>(err: &mut E) -> u8
+    ensures status { result ≡ 2 }
+    ensures told { Appends (E.written err.old) (E.written err.new) lengths_refusal ⊎ (E.failed err.new ≡ true) }
+{
+    tell_between(
+        "",
+        "error: '--until-dry' and '--periods <K>' exclude each other\n\nFor more information, try '--help'.\n",
+        "",
+        err,
+    );
+    2
+}
