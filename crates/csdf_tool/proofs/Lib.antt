@@ -5,5 +5,6 @@ pub mod ExplainingLemmas
 pub mod FaultLemmas
 pub mod FeedLemmas
 pub mod InputExamples
+pub mod PutLemmas
 pub mod ReportLemmas
 pub mod RunLemmas

@@ -6,4 +6,5 @@ pub mod GraphFiles
 pub mod Refused
 pub mod Reports
 pub mod Running
+pub mod SystemCalls
 pub mod TokenFiles

@@ -10,9 +10,11 @@ mod look;
 mod program;
 mod progress;
 mod put_fault;
+mod putting;
 mod refused;
 mod report;
 mod run_files;
+mod system;
 
 pub use disk::{Disk, HostDisk};
 pub use program::run_words;

@@ -1,16 +1,18 @@
-//! What is found at the path of a token file.
+//! What is found at the path of a file that is to be read.
 
-ghost use Rattle.std.specs.Prelude.{◌≡◌, ◌↔◌, true, Ok, IfErr, IfOk};
+ghost use Rattle.std.specs.Prelude.{◌≡◌, ◌↔◌, [], ◌∷◌, true, None, Ok, IfErr, IfOk, IfSome, OnErr, Option};
 ghost use Rattle.std.specs.Fs.{IsDir, IsFile};
-ghost use Rattle.csdf_tool.specs.TokenFiles.{IsReadOf, unopened};
+ghost use Rattle.std.specs.IoError.{error_kind};
+ghost use Rattle.std.specs.declared.io.ErrorKind.{ErrorKind};
+ghost use Rattle.csdf_tool.specs.SystemCalls.{Called, Open, unopened_as};
+ghost use Rattle.csdf_tool.specs.TokenFiles.{IsOpenedAs, IsReadOf, Looks, unopened};
 
+use crate::system::System;
 use csdf_answers::{TokenFile, ToolFault};
 use csdf_bytes::{FromReader, InputFault, Intake, read_bytes};
 use std::alloc::Global;
-use std::fs;
 use std::fs::FileType;
-use std::io::ErrorKind;
-use std::rt::Files;
+use std::io::{self, ErrorKind, Read};
 
 /// What an error of the system says of a token file.
 fn unopened(kind: ErrorKind) -> Result<TokenFile, ToolFault>
@@ -39,46 +41,72 @@ fn read_file<I: Intake>(alloc: Global, reader: &mut I) -> Result<TokenFile, Tool
     }
 }
 
-/// What is found of a token file that is opened.
-fn open_file(rt: &(impl Files + AllocGlobal), path: &str) -> Result<TokenFile, ToolFault>
-    ensures { IfErr result (λ fault. fault ≡ ToolFault.Memory) }
+/// What is found of a token file that was to be opened.
+fn opened_file<F: Read + Drop>(alloc: Global, opened: io::Result<F>) -> Result<TokenFile, ToolFault>
+    ensures found { IfOk opened (λ file. IfOk result (IsReadOf (F.remaining file))) }
+    ensures opened { IsOpenedAs (unopened_as opened) result }
+    ensures memory { IfErr result (λ fault. fault ≡ ToolFault.Memory) }
 {
-    match fs::open(rt, path) {
-        Ok(file) => read_file(rt.alloc(), &mut FromReader::new(file)),
+    match opened {
+        Ok(file) => read_file(alloc, &mut FromReader::new(file)),
         Err(error) => unopened(error.kind()),
     }
 }
 
-/// What is found at a path where something of this kind is.
-///
-/// Only a file is opened: to open a pipe may wait, and to read it takes what it gives.
-fn file_of_kind(
-    rt: &(impl Files + AllocGlobal),
-    path: &str,
-    kind: FileType,
-) -> Result<TokenFile, ToolFault>
-    ensures folder { IsDir kind → result ≡ Ok TokenFile.Folder }
-    ensures special { ¬ IsDir kind → ¬ IsFile kind → result ≡ Ok TokenFile.Special }
-    ensures memory { IfErr result (λ fault. fault ≡ ToolFault.Memory) }
+/// What the kind of a file says of a token file: nothing of a plain one.
+fn by_kind(kind: FileType) -> Option<TokenFile>
+    ensures folder { IsDir kind → result ≡ Some TokenFile.Folder }
+    ensures special { ¬ IsDir kind → ¬ IsFile kind → result ≡ Some TokenFile.Special }
+    ensures plain { IsFile kind → result ≡ None }
 {
     if kind.is_dir() {
-        Ok(TokenFile::Folder)
+        Some(TokenFile::Folder)
     } else if kind.is_file() {
-        open_file(rt, path)
+        None
     } else {
-        Ok(TokenFile::Special)
+        Some(TokenFile::Special)
     }
 }
 
 /// What is found at the path of a token file.
-pub(crate) fn token_file_at(
-    rt: &(impl Files + AllocGlobal),
+///
+/// Only a file is opened: to open a pipe may wait, and to read it takes what it gives.
+pub(crate) fn token_file_at<S: System>(
+    alloc: Global,
+    system: &mut S,
     path: &str,
 ) -> Result<TokenFile, ToolFault>
-    ensures { IfErr result (λ fault. fault ≡ ToolFault.Memory) }
+    ensures looked { Looks path.now (S.calls system.old) (S.calls system.new) result }
+    ensures memory { IfErr result (λ fault. fault ≡ ToolFault.Memory) }
 {
-    match fs::metadata(rt, path) {
-        Ok(data) => file_of_kind(rt, path, data.file_type()),
+    match system.metadata(path) {
+        Ok(told) => match by_kind(told.file_type()) {
+            Some(file) => Ok(file),
+            None => opened_file(alloc, system.open(path)),
+        },
         Err(error) => unopened(error.kind()),
     }
+}
+
+/// All bytes of a file that was to be opened.
+fn opened_bytes<F: Read + Drop>(alloc: Global, opened: io::Result<F>) -> Result<Vec<u8>, InputFault>
+    ensures all { IfOk opened (λ file. IfOk result (λ bytes. IfSome (F.remaining file) (λ left. bytes.items ≡ left))) }
+    ensures unopened { OnErr opened (result ≡ Err InputFault.Read) }
+{
+    match opened {
+        Ok(file) => read_bytes(alloc, &mut FromReader::new(file)),
+        Err(_) => Err(InputFault::Read),
+    }
+}
+
+/// All bytes of the file at a path. One that can't be opened is one that fails.
+pub(crate) fn bytes_at<S: System>(
+    alloc: Global,
+    system: &mut S,
+    path: &str,
+) -> Result<Vec<u8>, InputFault>
+    ensures { (why : Option ErrorKind) × Called (S.calls system.old) (S.calls system.new) (Open path.now why ∷ [])
+        × IfSome why (λ kind. result ≡ Err InputFault.Read) }
+{
+    opened_bytes(alloc, system.open(path))
 }

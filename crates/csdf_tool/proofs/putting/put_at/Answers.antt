@@ -1,0 +1,21 @@
+use Rattle.std.proofs.Common.{List, [], ◌∷◌, Ok, refl, subst}
+use Rattle.std.specs.Prelude.{is_ok}
+use Rattle.csdf_tool.specs.SystemCalls.{Call, Says, See, Write}
+use Rattle.csdf_tool.specs.declared.putting.There.{There}
+use Rattle.csdf_tool.specs.declared.putting.There.TheVariants.{Other}
+use Rattle.csdf_tool.proofs.PutLemmas.{called_more, no_memory, one_call}
+use Rattle.csdf_tool.proofs.putting.put_at.Goals as goal
+
+pub returns-in-Ok-Other : goal.returns-in-Ok-Other
+returns-in-Ok-Other g c =
+    let written : List Call = Write c.args.path.now c.args.text.now (is_ok c.ended.result) ∷ [] in
+    record {
+      told = c.symlink_metadata.result;
+      there = Ok Other;
+      calls = written;
+      says = subst (λ (t : There). Says c.symlink_metadata.result (Ok t)) c.in-Ok-Other.field-0-is c.in-Ok-Other.ensures;
+      puts = (refl, no_memory _ c.ended.result c.ended.ensures.failed);
+      called =
+          called_more _ _ _ (See c.args.path.now c.symlink_metadata.result ∷ []) written c.symlink_metadata.ensures
+          (one_call (Write c.args.path.now c.args.text.now) _ _ c.write.result c.write.ensures c.ended.result c.ended.ensures.well c.ended.ensures.failed);
+    }

@@ -1,0 +1,104 @@
+-- What is called of the system's files to read a file and to put one in its place, and how the calls end.
+use Rattle.std.specs.Prelude.{◌≡◌, ◌≢◌, ◌++◌, ℕ, Bool, true, false, List, [], ◌∷◌, Option, Some, None, Result, Ok, Err, IfSome, codes, is_ok, map}
+use Rattle.std.specs.Fs.{IsFile, file_type, metadata_mode, permissions_mode}
+use Rattle.std.specs.declared.fs.attrs.Metadata.{Metadata}
+use Rattle.std.specs.declared.io.Error.{Error}
+use Rattle.std.specs.declared.io.ErrorKind.{ErrorKind}
+use Rattle.std.specs.declared.io.ErrorKind.TheVariants.{NotFound}
+use Rattle.std.specs.IoError.{error_kind}
+use Rattle.csdf_tool.specs.declared.put_fault.PutFault.{PutFault}
+use Rattle.csdf_tool.specs.declared.put_fault.PutFault.TheVariants.{Device, Memory}
+use Rattle.csdf_tool.specs.declared.putting.There.{There}
+use Rattle.csdf_tool.specs.declared.putting.There.TheVariants.{Free, Plain, Other}
+
+-- a call by its paths, and how it ended: what was told of a file, links followed or not; of what kind the error was where a file was not opened; that bytes
+-- were written to a file that was made or emptied, that one was given permissions, another path, or was taken away, and whether that went well
+pub data Call : Type 0 where
+  Follow : List ℕ → Result Metadata Error → Call
+  See : List ℕ → Result Metadata Error → Call
+  Open : List ℕ → Option ErrorKind → Call
+  Write : List ℕ → List ℕ → Bool → Call
+  Permit : List ℕ → ℕ → Bool → Call
+  Rename : List ℕ → List ℕ → Bool → Call
+  Remove : List ℕ → Bool → Call
+
+-- of what kind the error is, where a file is not opened
+abbrev pub unopened_as : {F : Type 0} → Result F Error → Option ErrorKind
+unopened_as (Ok file) = None
+unopened_as (Err error) = Some (error_kind error)
+
+-- these calls came after those before, where they are known
+abbrev pub Called : Option (List Call) → Option (List Call) → List Call → Type 0
+Called before after calls = IfSome before (λ done. after ≡ Some (done ++ calls))
+
+-- ---- steps
+
+-- a call, by whether it goes well
+abbrev pub Step : Type 0
+Step = Bool → Call
+
+-- steps that all go well
+abbrev pub well : List Step → List Call
+well steps = map (λ (step : Step). step true) steps
+
+-- the steps before one went well and that one did not; none came after it
+pub record IsCut (steps : List Step) (calls : List Call) : Type 0 where
+  pub front : List Step
+  pub failed : Step
+  pub rest : List Step
+  pub split : steps ≡ front ++ failed ∷ rest
+  pub called : calls ≡ well front ++ failed false ∷ []
+
+-- the steps were taken, or they were cut where the device failed
+abbrev pub Steps : List Step → Option (List Call) → Option (List Call) → Result (Unit {0}) PutFault → Type 0
+Steps steps before after (Ok done) = Called before after (well steps)
+Steps steps before after (Err why) = (why ≡ Device) × (calls : List Call) × Called before after calls × IsCut steps calls
+
+-- ---- a file in its place
+
+-- the path beside it at which a file is made
+abbrev pub part_of : List ℕ → List ℕ
+part_of path = path ++ codes ".part"
+
+-- permissions are given where there are some
+abbrev pub permits : List ℕ → Option ℕ → List Step
+permits part None = []
+permits part (Some mode) = Permit part mode ∷ []
+
+-- a part is made empty and given the permissions, the text is written to it, and then it is put in the place of the path
+abbrev pub steps_beside : List ℕ → Option ℕ → List ℕ → List ℕ → List Step
+steps_beside part mode path text = Write part [] ∷ permits part mode ++ Write part text ∷ Rename part path ∷ []
+
+-- what stands at a path, by what the system told
+abbrev pub Says : Result Metadata Error → Result There PutFault → Type 0
+Says (Ok told) (Ok Free) = ⊥
+Says (Ok told) (Ok (Plain permissions)) = IsFile (file_type told) × (permissions_mode permissions ≡ metadata_mode told)
+Says (Ok told) (Ok Other) = IsFile (file_type told) → ⊥
+Says (Ok told) (Err why) = ⊥
+Says (Err error) (Ok Free) = error_kind error ≡ NotFound
+Says (Err error) (Ok (Plain permissions)) = ⊥
+Says (Err error) (Ok Other) = ⊥
+Says (Err error) (Err why) = (error_kind error ≢ NotFound) × (why ≡ Device)
+
+-- a text is put beside its place and then there: all steps go well; or one fails and the part is taken away; or memory runs out before the first
+abbrev pub PutsBeside : Option ℕ → List ℕ → List ℕ → List Call → Result (Unit {0}) PutFault → Type 0
+PutsBeside mode path text calls (Ok done) = calls ≡ well (steps_beside (part_of path) mode path text)
+PutsBeside mode path text calls (Err Device) =
+    (cut : List Call) × (removed : Bool) × IsCut (steps_beside (part_of path) mode path text) cut × (calls ≡ cut ++ Remove (part_of path) removed ∷ [])
+PutsBeside mode path text calls (Err Memory) = calls ≡ []
+
+-- a text is put where that stands: beside a file or at a free place, and straight to what is no plain file
+abbrev pub PutsAt : Result There PutFault → List ℕ → List ℕ → List Call → Result (Unit {0}) PutFault → Type 0
+PutsAt (Ok Free) path text calls result = PutsBeside None path text calls result
+PutsAt (Ok (Plain permissions)) path text calls result = PutsBeside (Some (permissions_mode permissions)) path text calls result
+PutsAt (Ok Other) path text calls result = (calls ≡ Write path text (is_ok result) ∷ []) × (result ≢ Err Memory)
+PutsAt (Err why) path text calls result = (calls ≡ []) × (result ≡ Err why)
+
+-- what stands at the path is looked at, and the text is put there
+pub record Puts (path text : List ℕ) (before after : Option (List Call)) (result : Result (Unit {0}) PutFault) : Type 0 where
+  pub told : Result Metadata Error
+  pub there : Result There PutFault
+  pub calls : List Call
+  pub says : Says told there
+  pub puts : PutsAt there path text calls result
+  pub called : Called before after (See path told ∷ calls)

@@ -1,0 +1,85 @@
+//! The calls of the system that files are read and put by.
+
+ghost use Rattle.std.specs.Prelude.{[], ◌∷◌, List, None, Option, is_ok};
+ghost use Rattle.std.specs.Fs.{permissions_mode};
+ghost use Rattle.csdf_tool.specs.SystemCalls.{Call, Called, Follow, Open, Permit, Remove, Rename, See, Write, unopened_as};
+
+use std::fs::{self, Metadata, Permissions};
+use std::io::{self, Read};
+use std::rt::Files;
+
+/// The calls of the system on files, each as std has it.
+pub(crate) trait System {
+    /// A file that is open to be read.
+    type File: Read + Drop;
+
+    /// What was called so far and how it ended, in order, where that is known.
+    ghost calls: { Self → Option (List Call) };
+
+    /// What is told of the file at a path, or at the end of the links there.
+    fn metadata(&mut self, path: &str) -> io::Result<Metadata>
+        ensures { Called (calls self.old) (calls self.new) (Follow path.now result ∷ []) };
+
+    /// What is told of what stands at a path, which may be a link.
+    fn symlink_metadata(&mut self, path: &str) -> io::Result<Metadata>
+        ensures { Called (calls self.old) (calls self.new) (See path.now result ∷ []) };
+
+    /// Opens a file to be read.
+    fn open(&mut self, path: &str) -> io::Result<Self::File>
+        ensures { Called (calls self.old) (calls self.new) (Open path.now (unopened_as result) ∷ []) };
+
+    /// Makes a file, or empties the one that is there, and writes these bytes to it.
+    fn write(&mut self, path: &str, bytes: &[u8]) -> io::Result<()>
+        ensures { Called (calls self.old) (calls self.new) (Write path.now bytes.now (is_ok result) ∷ []) };
+
+    /// Gives a file permissions.
+    fn set_permissions(&mut self, path: &str, permissions: Permissions) -> io::Result<()>
+        ensures { Called (calls self.old) (calls self.new) (Permit path.now (permissions_mode permissions) (is_ok result) ∷ []) };
+
+    /// Gives a file another path, in place of what stands there.
+    fn rename(&mut self, from: &str, to: &str) -> io::Result<()>
+        ensures { Called (calls self.old) (calls self.new) (Rename from.now to.now (is_ok result) ∷ []) };
+
+    /// Takes a file away.
+    fn remove_file(&mut self, path: &str) -> io::Result<()>
+        ensures { Called (calls self.old) (calls self.new) (Remove path.now (is_ok result) ∷ []) };
+}
+
+/// The calls of std. What comes of them is not known to any contract: that each method is the call of its
+/// name is by reading.
+#[derive(Clone, Copy)]
+pub(crate) struct HostSystem<'a, R>(pub(crate) &'a R);
+
+impl<R: Files> System for HostSystem<'_, R> {
+    type File = R::File;
+
+    ghost calls = { λ _. None };
+
+    fn metadata(&mut self, path: &str) -> io::Result<Metadata> {
+        fs::metadata(self.0, path)
+    }
+
+    fn symlink_metadata(&mut self, path: &str) -> io::Result<Metadata> {
+        fs::symlink_metadata(self.0, path)
+    }
+
+    fn open(&mut self, path: &str) -> io::Result<R::File> {
+        fs::open(self.0, path)
+    }
+
+    fn write(&mut self, path: &str, bytes: &[u8]) -> io::Result<()> {
+        fs::write(self.0, path, bytes)
+    }
+
+    fn set_permissions(&mut self, path: &str, permissions: Permissions) -> io::Result<()> {
+        fs::set_permissions(self.0, path, permissions)
+    }
+
+    fn rename(&mut self, from: &str, to: &str) -> io::Result<()> {
+        fs::rename(self.0, from, to)
+    }
+
+    fn remove_file(&mut self, path: &str) -> io::Result<()> {
+        fs::remove_file(self.0, path)
+    }
+}
