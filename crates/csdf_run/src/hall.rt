@@ -10,10 +10,10 @@ use crate::gate::Gate;
 use crate::hand::Hand;
 use crate::hints::Hints;
 use crate::policy::{Crew, Policy, Teller};
-use crate::run_floor::{Asked, Delivered, Made, RunFloor};
+use crate::run_floor::{Asked, Delivered, Made, NotStarted, NotTaken, RunFloor};
 use crate::watched::{Stand, Watched};
 use csdf_claims::Place;
-use csdf_floor::{DeliverFault, Floor, StartFault};
+use csdf_floor::Floor;
 use std::alloc::Global;
 use std::sync::atomic::Ordering::SeqCst;
 use std::sync::atomic::{AtomicBool, AtomicU32, AtomicU64};
@@ -42,8 +42,8 @@ pub(crate) struct Hall<K: Asked> {
 /// woken.
 #[derive(Drop)]
 pub(crate) struct Turn {
-    pub(crate) delivered: Result<Option<Delivered>, DeliverFault>,
-    pub(crate) started: Result<bool, StartFault>,
+    pub(crate) delivered: Result<Option<Delivered>, NotTaken>,
+    pub(crate) started: Result<bool, NotStarted>,
     pub(crate) wakes: bool,
 }
 
@@ -51,7 +51,7 @@ pub(crate) struct Turn {
 /// is to be woken.
 #[derive(Drop)]
 pub(crate) struct BlockTurn {
-    pub(crate) made: Result<Made, StartFault>,
+    pub(crate) made: Result<Made, NotStarted>,
     pub(crate) wakes: bool,
 }
 

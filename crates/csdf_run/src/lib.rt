@@ -4,6 +4,7 @@
 mod actors;
 mod claims;
 mod gate;
+mod gave_up;
 mod hall;
 mod hand;
 mod hints;

@@ -13,8 +13,7 @@ use crate::gate::Gate;
 use crate::hand::Hand;
 use crate::hints::Hints;
 use crate::policy::{HEAVY_BLOCK, Policy};
-use crate::run_floor::{Asked, Delivered, Made, RunFloor};
-use csdf_floor::{DeliverFault, StartFault};
+use crate::run_floor::{Asked, Delivered, Made, NotStarted, NotTaken, RunFloor};
 use csdf_kernel::Job;
 use csdf_model::MAX_ACTORS;
 use std::alloc::Global;
@@ -46,7 +45,7 @@ pub(crate) struct Watched<K: Asked> {
 
 impl<K: Asked> Watched<K> {
     /// Starts the actor's firing.
-    fn start(&mut self, actor: u32, firing: u32, hand: &mut Hand) -> Result<(), StartFault>
+    fn start(&mut self, actor: u32, firing: u32, hand: &mut Hand) -> Result<(), NotStarted>
         ensures idle { hand.new.is_made ≡ false }
         ensures job { OnOk result ((hand.new.job.actor ≡ actor) × (hand.new.job.firing ≡ firing)) }
         ensures ready { OnOk result (IsReady hand.new.job) }
@@ -66,7 +65,7 @@ impl<K: Asked> Watched<K> {
         &mut self,
         next: Option<Claim>,
         hand: &mut Hand,
-    ) -> Result<bool, StartFault>
+    ) -> Result<bool, NotStarted>
         ensures idle { hand.new.is_made ≡ false }
         ensures started { IfOk result (λ is_started. IsStartOf next is_started hand.new.job) }
     {
@@ -87,7 +86,7 @@ impl<K: Asked> Watched<K> {
         &mut self,
         alloc: Global,
         hand: &Hand,
-    ) -> Result<Option<Delivered>, DeliverFault>
+    ) -> Result<Option<Delivered>, NotTaken>
         ensures { IfOk result (λ delivered. delivered ≡ claim_in hand.now) }
     {
         let delivered = self.floor.deliver(alloc, hand)?;
@@ -122,7 +121,7 @@ impl<K: Asked> Watched<K> {
         gate: &G,
         claim: Claim,
         hand: &mut Hand,
-    ) -> Result<Made, StartFault>
+    ) -> Result<Made, NotStarted>
         requires open { (a k : ℕ) → G.passed gate.now a k }
         ensures idle { hand.new.is_made ≡ false }
         ensures claim { IfOk result (λ made. made.claim ≡ claim) }
@@ -141,7 +140,7 @@ impl<K: Asked> Watched<K> {
         gate: &G,
         claim: Claim,
         hand: &mut Hand,
-    ) -> Result<Made, StartFault>
+    ) -> Result<Made, NotStarted>
         requires open { (a k : ℕ) → G.passed gate.now a k }
         ensures idle { hand.new.is_made ≡ false }
         ensures claim { IfOk result (λ made. made.claim ≡ claim) }

@@ -1,19 +1,20 @@
 //! What one worker does.
 
-ghost use Rattle.std.specs.Prelude.{◌≡◌, ◌<◌, ℕ, None, Some, IfOk, IsTrue, OnOk, false, true};
+ghost use Rattle.std.specs.Prelude.{◌≡◌, ◌<◌, ℕ, None, Some, IfErr, IfOk, IsTrue, OnOk, false, true};
 ghost use Rattle.csdf_claims.specs.Board.{HasFinished};
 ghost use Rattle.csdf_floor.specs.Floor.{IsReady};
+ghost use Rattle.csdf_floor.specs.declared.fault.RunFault.TheVariants.{Memory};
 ghost use Rattle.csdf_run.specs.Hand.{claim_for, claim_if, claim_in};
 ghost use Rattle.csdf_run.specs.Workers.{HasMade, HoldsJust, HoldsNothing, IsActor, IsStartOf};
 
 use crate::claims::{Claim, claim_among, finish, finish_block, give_back};
 use crate::gate::Gate;
+use crate::gave_up::{GaveUp, refused, unevaluated, untaken};
 use crate::hall::{BlockTurn, Hall, Turn};
 use crate::hand::Hand;
-use crate::run_floor::Asked;
+use crate::run_floor::{Asked, NotStarted};
 use crate::watched::Stand;
 use csdf_claims::{Board, Place};
-use csdf_floor::{DeliverFault, RunFault, StartFault};
 use std::alloc::Global;
 use std::sync::Wait;
 
@@ -21,7 +22,7 @@ use std::sync::Wait;
 #[derive(Drop)]
 pub(crate) struct Ended {
     pub(crate) place: Place,
-    pub(crate) answer: Result<(), RunFault>,
+    pub(crate) answer: Result<(), GaveUp>,
 }
 
 /// Claims the firing to start next, beside what is held: of those who can begin, or else of those who may
@@ -53,26 +54,15 @@ fn claim_next<K: Asked>(
     claim_among(board, place, beside, stand.next)
 }
 
-/// What a worker whose start was refused answers: nothing is made, or it gives up.
-fn refused(fault: StartFault) -> Result<bool, RunFault>
-    ensures { IfOk result (λ gets_on. gets_on ≡ false) }
-{
-    match fault {
-        StartFault::Refused(_) => Ok(false),
-        StartFault::Memory => Err(RunFault::Memory),
-        StartFault::Unknown | StartFault::Moved(_) => Err(RunFault::Mixed),
-    }
-}
-
 /// What becomes of a claim once a start was tried: that of a job which was started is held, and one that was
 /// refused is given up.
 fn settle_start(
     board: &Board,
     place: &mut Place,
     next: Option<Claim>,
-    started: Result<bool, StartFault>,
+    started: Result<bool, NotStarted>,
     hand: &Hand,
-) -> Result<bool, RunFault>
+) -> Result<bool, GaveUp>
     requires place { place.old.board ≡ board.now.id }
     requires actor { IsActor board.now.actors next }
     requires holds { HoldsJust place.old.view None next }
@@ -90,7 +80,7 @@ fn settle_start(
     give_back(board, place, next);
     match started {
         Ok(_) => Ok(false),
-        Err(fault) => refused(fault),
+        Err(why) => refused(why),
     }
 }
 
@@ -106,7 +96,7 @@ fn turn<K: Asked, R: Wait>(
     stand: &mut Stand,
     hand: &mut Hand,
     next: Option<Claim>,
-) -> Result<bool, RunFault>
+) -> Result<bool, GaveUp>
     requires place { place.old.board ≡ board.now.id }
     requires given { IsActor board.now.actors (claim_in hand.old) }
     requires next { IsActor board.now.actors next }
@@ -125,8 +115,7 @@ fn turn<K: Asked, R: Wait>(
     } = hall.turn(rt, alloc, place, stand, hand, next);
     let delivered = match delivered {
         Ok(delivered) => delivered,
-        Err(DeliverFault::Memory) => return Err(RunFault::Memory),
-        Err(DeliverFault::Stranger) => return Err(RunFault::Mixed),
+        Err(why) => return Err(untaken(why)),
     };
     finish(board, place, delivered, next);
     let answer = settle_start(board, place, next, started, hand);
@@ -150,25 +139,21 @@ fn pass<G: Gate>(board: &Board, gate: &G, place: &mut Place, hand: &Hand)
 }
 
 /// Passes the gate and evaluates the job in hand.
-fn fire<G: Gate>(
-    board: &Board,
-    gate: &G,
-    place: &mut Place,
-    hand: &mut Hand,
-) -> Result<(), RunFault>
+fn fire<G: Gate>(board: &Board, gate: &G, place: &mut Place, hand: &mut Hand) -> Result<(), GaveUp>
     requires place { place.old.board ≡ board.now.id }
     requires holds { HoldsJust place.old.view None (Some (claim_for hand.old.job)) }
     requires ready { IsReady hand.old.job }
     ensures board { place.new.board ≡ board.now.id }
     ensures job { hand.new.job ≡ hand.old.job }
     ensures made { OnOk result (hand.new.is_made ≡ true) }
+    ensures cause { IfErr result (λ fault. fault ≡ Memory) }
     ensures holds { HoldsJust place.new.view (Some (claim_for hand.old.job)) None }
     ensures finished { (a k : ℕ) → HasFinished place.old.view a k → HasFinished place.new.view a k }
 {
     pass(board, gate, place, hand);
     match hand.evaluate(gate) {
         Ok(()) => Ok(()),
-        Err(_error) => Err(RunFault::Memory),
+        Err(error) => Err(unevaluated(error)),
     }
 }
 
@@ -184,7 +169,7 @@ fn make<K: Asked, R: Wait, G: Gate>(
     stand: &mut Stand,
     hand: &mut Hand,
     claim: Claim,
-) -> Result<bool, RunFault>
+) -> Result<bool, GaveUp>
     requires place { place.old.board ≡ board.now.id }
     requires actor { claim.actor < board.now.actors }
     requires holds { HoldsJust place.old.view None (Some claim) }
@@ -201,9 +186,9 @@ fn make<K: Asked, R: Wait, G: Gate>(
             gate.has_made(count);
             Ok(true)
         }
-        Err(fault) => {
+        Err(why) => {
             give_back(board, place, Some(claim));
-            refused(fault)
+            refused(why)
         }
     };
     if wakes {
@@ -230,7 +215,7 @@ fn advance<K: Asked, R: Wait, G: Gate>(
     place: &mut Place,
     stand: &mut Stand,
     hand: &mut Hand,
-) -> Result<bool, RunFault>
+) -> Result<bool, GaveUp>
     requires place { place.old.board ≡ board.now.id }
     requires actor { IsActor board.now.actors (claim_in hand.old) }
     requires holds { HoldsJust place.old.view (claim_in hand.old) None }
@@ -253,10 +238,11 @@ fn advance<K: Asked, R: Wait, G: Gate>(
     }
     let is_started = turn(rt, alloc, hall, board, place, stand, hand, next)?;
     tell_delivered(gate, given);
-    if is_started {
-        fire(board, gate, place, hand)?;
+    if !is_started {
+        return Ok(false);
     }
-    Ok(is_started)
+    fire(board, gate, place, hand)?;
+    Ok(true)
 }
 
 /// Makes firings until the floor is quiet or a worker has given up.

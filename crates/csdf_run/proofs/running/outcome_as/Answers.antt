@@ -1,8 +1,12 @@
 use Rattle.std.proofs.Common.{◌≡◌, subst, sym, ◌∙◌}
 use Rattle.std.specs.Prelude.{Bool, IfOk}
+use Rattle.csdf_run.proofs.RunFaults.{settled_cause}
 use Rattle.csdf_run.proofs.running.outcome_as.Goals as goal
 
 pub returns-in-Ok-run_hall-clause-keeps : goal.returns-in-Ok-run_hall-clause-keeps
 returns-in-Ok-run_hall-clause-keeps g c =
     subst (λ (b : Bool). IfOk c.settle_and_hand_back.result.outcome (λ o. o.journal.keeps ≡ b)) (c.into_floor.ensures.keeps ∙ sym c.requires.keeps)
     c.settle_and_hand_back.ensures.keeps
+
+pub returns-in-Ok-run_hall-clause-cause : goal.returns-in-Ok-run_hall-clause-cause
+returns-in-Ok-run_hall-clause-cause g c = settled_cause _ _ c.args.request.workers c.settle_and_hand_back.ensures.answer
