@@ -11,6 +11,7 @@ mod hints;
 mod periods;
 mod policy;
 mod request;
+mod run_end;
 mod run_floor;
 mod running;
 mod script;

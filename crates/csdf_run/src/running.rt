@@ -16,6 +16,7 @@ use crate::gave_up::GaveUp;
 use crate::hall::Hall;
 use crate::policy::Crew;
 use crate::request::Request;
+use crate::run_end::{EndCause, RunEnd, Unstarted};
 use crate::run_floor::{Asked, RunFloor};
 use crate::worker::{Ended, work};
 use csdf_analysis::Accepted;
@@ -85,11 +86,11 @@ fn keep<'a>(
 }
 
 /// The first of two answers that is a fault.
-fn both(first: Result<(), GaveUp>, second: Result<(), GaveUp>) -> Result<(), GaveUp>
+fn both(first: Result<RunEnd, GaveUp>, second: Result<RunEnd, GaveUp>) -> Result<RunEnd, GaveUp>
     ensures { result ≡ both first second }
 {
     match first {
-        Ok(()) => second,
+        Ok(_) => second,
         Err(fault) => Err(fault),
     }
 }
@@ -110,9 +111,9 @@ fn join_all<'a, R: Threads>(
     rt: &R,
     board: &'a Board,
     place: &mut Place,
-    own: Result<(), GaveUp>,
+    own: Result<RunEnd, GaveUp>,
     handles: Vec<PromisedHandle<Ended, OfBoard<'a>>>,
-) -> Result<(), GaveUp>
+) -> Result<RunEnd, GaveUp>
     requires place { place.old.board ≡ board.now.id }
     requires handles { All (λ h. h.promise.0.now.id ≡ board.now.id) handles.items }
     ensures board { place.new.board ≡ board.now.id }
@@ -128,7 +129,7 @@ fn join_all<'a, R: Threads>(
 }
 
 /// The place of a worker that answered, unless the answer is a fault.
-fn place_after(place: Place, answer: Result<(), GaveUp>) -> Result<Place, RunFault>
+fn place_after(place: Place, answer: Result<RunEnd, GaveUp>) -> Result<Place, RunFault>
     requires { IfOk answer (λ _. HoldsNothing place.view) }
     ensures same { IfOk result (λ p. p ≡ place) }
     ensures answered { IfOk result (λ _. answer ≡ Ok tt) }
@@ -136,7 +137,7 @@ fn place_after(place: Place, answer: Result<(), GaveUp>) -> Result<Place, RunFau
     ensures free { IfOk result (λ p. HoldsNothing p.view) }
 {
     match answer {
-        Ok(()) => Ok(place),
+        Ok(_) => Ok(place),
         Err(gave_up) => Err(gave_up.fault()),
     }
 }
@@ -195,7 +196,7 @@ fn in_threads<K: Asked + Send + Sync, R: Threads + Wait + Sync, G: Gate>(
             }
             let threads = handles.len();
             if threads < count {
-                hall.give_up(rt);
+                hall.give_up(rt, EndCause::Unstarted(Unstarted::of(threads, count)));
             }
             let Ended { mut place, answer } = work(rt, alloc, hall, board, gate, first);
             let answer = join_all(rt, board, &mut place, answer, handles);

@@ -12,17 +12,18 @@ use crate::gate::Gate;
 use crate::gave_up::{GaveUp, refused, unevaluated, untaken};
 use crate::hall::{BlockTurn, Hall, Turn};
 use crate::hand::Hand;
+use crate::run_end::{EndCause, RunEnd};
 use crate::run_floor::{Asked, NotStarted};
 use crate::watched::Stand;
 use csdf_claims::{Board, Place};
 use std::alloc::Global;
 use std::sync::Wait;
 
-/// A worker's place at its end, and why it gave up if it did.
+/// A worker's place at its end, and the end of the run that it saw, or why it gave up.
 #[derive(Drop)]
 pub(crate) struct Ended {
     pub(crate) place: Place,
-    pub(crate) answer: Result<(), GaveUp>,
+    pub(crate) answer: Result<RunEnd, GaveUp>,
 }
 
 /// Claims the firing to start next, beside what is held: of those who can begin, or else of those who may
@@ -268,12 +269,17 @@ pub(crate) fn work<K: Asked, R: Wait, G: Gate>(
             rt, alloc, hall, board, gate, &mut place, &mut stand, &mut hand,
         ) {
             Ok(gets_on) => {
-                if is_idle && !gets_on && hall.wait(rt, &mut stand) {
-                    break;
+                if is_idle && !gets_on {
+                    if let Some(end) = hall.wait(rt, &mut stand) {
+                        return Ended {
+                            place,
+                            answer: Ok(end),
+                        };
+                    }
                 }
             }
             Err(fault) => {
-                hall.give_up(rt);
+                hall.give_up(rt, EndCause::GaveUp(&fault));
                 return Ended {
                     place,
                     answer: Err(fault),
@@ -281,8 +287,5 @@ pub(crate) fn work<K: Asked, R: Wait, G: Gate>(
             }
         }
     }
-    Ended {
-        place,
-        answer: Ok(()),
-    }
+    unreachable!()
 }
