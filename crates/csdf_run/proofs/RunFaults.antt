@@ -1,6 +1,6 @@
 -- Why a run has no outcome, as it is told of texts.
 use Rattle.std.proofs.Common.{◌≡◌, ℕ, List, Option, Some, None, Result, Ok, Err, sym, ap, subst}
-use Rattle.std.specs.Prelude.{IfErr, OnOk}
+use Rattle.std.specs.Prelude.{IfErr, IfOk, OnOk}
 use Rattle.csdf_floor.specs.declared.fault.RunFault.{RunFault}
 use Rattle.csdf_floor.specs.declared.fault.RunFault.TheVariants.{Memory, Mixed, Worker}
 use Rattle.csdf_floor.specs.declared.fault.StartFault.{StartFault}
@@ -53,3 +53,8 @@ is_run_cause workers (Ok o) (Err f) failed memory cause = subst (IsRunCause work
 is_run_cause workers (Err why) (Ok t) failed memory cause = tt
 is_run_cause workers (Err why) (Err f) failed memory cause =
     let e : f ≡ fault.Run why = cc in subst (IsRunCause workers) (sym e) cause
+
+-- what holds at any rate holds where there is an outcome
+pub where_ok : {A E : Type 0} → (P : Type 0) (result : Result A E) → P → IfOk result (λ _. P)
+where_ok P (Ok x) p = p
+where_ok P (Err e) p = tt

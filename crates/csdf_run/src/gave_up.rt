@@ -29,6 +29,13 @@ impl Model for GaveUp {
 }
 
 impl GaveUp {
+    fn of(fault: RunFault) -> GaveUp
+        requires { fault ≢ Worker }
+        ensures { result ≡ fault }
+    {
+        GaveUp { fault }
+    }
+
     /// The fault of the run.
     pub(crate) fn fault(&self) -> RunFault
         ensures value { result ≡ self.now }
@@ -46,12 +53,8 @@ pub(crate) fn refused(why: NotStarted) -> Result<bool, GaveUp>
 {
     match why.fault() {
         StartFault::Refused(_) => Ok(false),
-        StartFault::Memory => Err(GaveUp {
-            fault: RunFault::Memory,
-        }),
-        StartFault::Unknown | StartFault::Moved(_) => Err(GaveUp {
-            fault: RunFault::Mixed,
-        }),
+        StartFault::Memory => Err(GaveUp::of(RunFault::Memory)),
+        StartFault::Unknown | StartFault::Moved(_) => Err(GaveUp::of(RunFault::Mixed)),
     }
 }
 
@@ -60,12 +63,8 @@ pub(crate) fn untaken(why: NotTaken) -> GaveUp
     ensures { result ≡ cause_untaken why }
 {
     match why.fault() {
-        DeliverFault::Memory => GaveUp {
-            fault: RunFault::Memory,
-        },
-        DeliverFault::Stranger => GaveUp {
-            fault: RunFault::Mixed,
-        },
+        DeliverFault::Memory => GaveUp::of(RunFault::Memory),
+        DeliverFault::Stranger => GaveUp::of(RunFault::Mixed),
     }
 }
 
@@ -73,7 +72,5 @@ pub(crate) fn untaken(why: NotTaken) -> GaveUp
 pub(crate) fn unevaluated(_error: AllocError) -> GaveUp
     ensures { result ≡ Memory }
 {
-    GaveUp {
-        fault: RunFault::Memory,
-    }
+    GaveUp::of(RunFault::Memory)
 }

@@ -16,6 +16,7 @@ mod run_floor;
 mod running;
 mod script;
 mod texts;
+mod told;
 mod watched;
 mod worker;
 

@@ -8,7 +8,7 @@ ghost use Rattle.csdf_floor.specs.Work.{AreFeeds, HasFewFirings, feeds_in};
 ghost use Rattle.csdf_floor.specs.Outcome.{HasHonestJournal, EndsSettled, TakesInOrder, StaysWithinCapacities, LeavesClosedAlone};
 ghost use Rattle.csdf_floor.specs.Outcome.{TellsSinks, TellsReport, TellsEnding, IsAsSequentialRun, IsAsInAnyRoom, CompletesWhereAmple, IsOutcome};
 ghost use Rattle.csdf_run.specs.Causes.{IsCauseAmong};
-ghost use Rattle.csdf_run.specs.Requests.{IsFedOf};
+ghost use Rattle.csdf_run.specs.Requests.{IsFedOf, most_firings};
 ghost use Rattle.csdf_run.specs.Workers.{AnswersForAll, HoldsNothing, IsEndAt, TakesIn, both};
 
 use crate::gate::Gate;
@@ -18,6 +18,7 @@ use crate::policy::Crew;
 use crate::request::Request;
 use crate::run_end::{EndCause, RunEnd, Unstarted};
 use crate::run_floor::{Asked, RunFloor};
+use crate::told::{Telling, Told};
 use crate::worker::{Ended, work};
 use csdf_analysis::Accepted;
 use csdf_claims::{Board, Place};
@@ -143,7 +144,7 @@ fn place_after(place: Place, answer: Result<RunEnd, GaveUp>) -> Result<Place, Ru
 }
 
 /// Runs a worker at the first place, on the calling thread.
-fn alone<K: Asked, R: Wait, G: Gate>(
+fn alone<K: Asked, R: Wait, G: Told>(
     rt: &R,
     alloc: Global,
     hall: &Hall<K>,
@@ -161,7 +162,7 @@ fn alone<K: Asked, R: Wait, G: Gate>(
 
 /// Runs a worker at the first place on the calling thread, and one at each other place in a thread of its
 /// own, and joins them into the first.
-fn in_threads<K: Asked + Send + Sync, R: Threads + Wait + Sync, G: Gate>(
+fn in_threads<K: Asked + Send + Sync, R: Threads + Wait + Sync, G: Told>(
     rt: &R,
     alloc: Global,
     hall: &Hall<K>,
@@ -254,7 +255,7 @@ fn totals_of(alloc: Global, board: Board, place: Place) -> Result<Vec<u32>, RunF
 }
 
 /// Runs what is in the hall by so many workers, and answers how many firings of each actor they finished.
-fn run_hall<K: Asked + Send + Sync, R: Threads + Wait + Sync, G: Gate>(
+fn run_hall<K: Asked + Send + Sync, R: Threads + Wait + Sync, G: Told>(
     rt: &R,
     alloc: Global,
     hall: &Hall<K>,
@@ -305,7 +306,7 @@ fn hall_of<K: Asked>(
 }
 
 /// What [`outcome_of`] answers, where the type `K` says what is asked.
-fn outcome_as<K: Asked + Send + Sync, R: Threads + Wait + Sync, G: Gate>(
+fn outcome_as<K: Asked + Send + Sync, R: Threads + Wait + Sync, G: Told>(
     rt: &R,
     alloc: Global,
     request: Request,
@@ -317,6 +318,7 @@ fn outcome_as<K: Asked + Send + Sync, R: Threads + Wait + Sync, G: Gate>(
     ensures fed { IsFedOf request.work result.fed }
     ensures outcome { IfOk result.outcome (IsOutcome request.work) }
     ensures cause { IfErr result.outcome (IsCauseAmong request.workers) }
+    ensures most { IfOk result.outcome (λ _. G.knows_most gate.now (most_firings request.work)) }
     ensures keeps { IfOk result.outcome (λ o. o.journal.keeps ≡ is_kept keeping) }
 {
     let crew = Crew {
@@ -334,7 +336,7 @@ fn outcome_as<K: Asked + Send + Sync, R: Threads + Wait + Sync, G: Gate>(
             };
         }
     };
-    gate.begins(most);
+    gate.tell_most(most);
     match run_hall(rt, alloc, &hall, actors, crew.workers, gate) {
         Ok(totals) => settle_and_hand_back(alloc, hall.into_floor(), totals.as_slice()),
         Err(fault) => Settled {
@@ -357,7 +359,8 @@ pub(crate) fn outcome_of<R: Threads + Wait + Sync, G: Gate>(
     ensures cause { IfErr result.outcome (IsCauseAmong request.workers) }
     ensures keeps { IfOk result.outcome (λ o. o.journal.keeps ≡ is_kept keeping) }
 {
-    outcome_as::<Brand, R, G>(rt, alloc, request, gate, keeping)
+    let told = Telling { gate };
+    outcome_as::<Brand, R, Telling<'_, G>>(rt, alloc, request, &told, keeping)
 }
 
 /// Runs so many periods of an accepted graph over these feeds by worker threads: each firing is computed

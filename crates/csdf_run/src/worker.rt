@@ -14,6 +14,7 @@ use crate::hall::{BlockTurn, Hall, Turn};
 use crate::hand::Hand;
 use crate::run_end::{EndCause, RunEnd};
 use crate::run_floor::{Asked, NotStarted};
+use crate::told::Told;
 use crate::watched::Stand;
 use csdf_claims::{Board, Place};
 use std::alloc::Global;
@@ -88,11 +89,12 @@ fn settle_start(
 /// Delivers what is in hand and starts what is claimed, in one hold of the lock. Behind it the claims end:
 /// what was given is finished, and what was refused is given up. Only then another worker is woken. True
 /// where a job was started, which is then in hand.
-fn turn<K: Asked, R: Wait>(
+fn turn<K: Asked, R: Wait, G: Told>(
     rt: &R,
     alloc: Global,
     hall: &Hall<K>,
     board: &Board,
+    gate: &G,
     place: &mut Place,
     stand: &mut Stand,
     hand: &mut Hand,
@@ -118,7 +120,7 @@ fn turn<K: Asked, R: Wait>(
         Ok(delivered) => delivered,
         Err(why) => return Err(untaken(why)),
     };
-    finish(board, place, delivered, next);
+    finish(board, gate, place, delivered, next);
     let answer = settle_start(board, place, next, started, hand);
     if wakes {
         hall.wake();
@@ -161,7 +163,7 @@ fn fire<G: Gate>(board: &Board, gate: &G, place: &mut Place, hand: &mut Hand) ->
 /// Makes firings of an actor one after another, the claimed one first, in one hold of the lock. Behind it
 /// the claim ends: what was made is finished, and a claim that was refused is given up. Only then another
 /// worker is woken. True where some were made.
-fn make<K: Asked, R: Wait, G: Gate>(
+fn make<K: Asked, R: Wait, G: Told>(
     rt: &R,
     hall: &Hall<K>,
     board: &Board,
@@ -182,9 +184,7 @@ fn make<K: Asked, R: Wait, G: Gate>(
     let BlockTurn { made, wakes } = hall.make(rt, gate, place, stand, hand, claim);
     let answer = match made {
         Ok(made) => {
-            let count = made.count();
-            finish_block(board, place, made);
-            gate.has_made(count);
+            finish_block(board, gate, place, made);
             Ok(true)
         }
         Err(why) => {
@@ -198,16 +198,9 @@ fn make<K: Asked, R: Wait, G: Gate>(
     answer
 }
 
-/// Tells that a firing was delivered, where one was.
-fn tell_delivered<G: Gate>(gate: &G, given: Option<Claim>) {
-    if given.is_some() {
-        gate.has_made(1);
-    }
-}
-
 /// Delivers what is in hand, and makes the next firing, up to its delivery, or some firings one after
 /// another, where one can be had. True where some firing was started or made.
-fn advance<K: Asked, R: Wait, G: Gate>(
+fn advance<K: Asked, R: Wait, G: Told>(
     rt: &R,
     alloc: Global,
     hall: &Hall<K>,
@@ -237,8 +230,7 @@ fn advance<K: Asked, R: Wait, G: Gate>(
             return make(rt, hall, board, gate, place, stand, hand, claim);
         }
     }
-    let is_started = turn(rt, alloc, hall, board, place, stand, hand, next)?;
-    tell_delivered(gate, given);
+    let is_started = turn(rt, alloc, hall, board, gate, place, stand, hand, next)?;
     if !is_started {
         return Ok(false);
     }
@@ -247,7 +239,7 @@ fn advance<K: Asked, R: Wait, G: Gate>(
 }
 
 /// Makes firings until the floor is quiet or a worker has given up.
-pub(crate) fn work<K: Asked, R: Wait, G: Gate>(
+pub(crate) fn work<K: Asked, R: Wait, G: Told>(
     rt: &R,
     alloc: Global,
     hall: &Hall<K>,
