@@ -1,7 +1,8 @@
 -- What the first place holds once the ends of workers are taken in.
 use Rattle.std.proofs.Common.{IfOk, ◌≡◌, ℕ, zero, suc, true, List, [], ◌∷◌, ◌++◌, get_or, map, Ok, Err, refl, sym, ap, subst, ◌∙◌, arith}
 use Rattle.std.proofs.lemmas.List.Elements.{All-cons, All-nil}
-use Rattle.std.specs.Prelude.{All}
+use Rattle.std.proofs.lemmas.List.{length-append}
+use Rattle.std.specs.Prelude.{◌+◌, ◌≤◌, All, Option, None, Some, length, option_to_list}
 use Rattle.std.specs.List.{Contains}
 use Rattle.std.specs.Result.{IsOk, is_ok}
 use Rattle.csdf_claims.specs.declared.rule.Track.{Track}
@@ -49,16 +50,16 @@ answer_holds_nothing board threads own v (Ok tt) w h ok free =
     (λ k d below. h.answered.well (suc k) d (omega arith)))
 answer_holds_nothing board threads own v (Err why) w h ok free = cc
 
-first_ok : (x y : Answer) → both x y ≡ Ok tt → x ≡ Ok tt
-first_ok (Ok u) y h = refl
-first_ok (Err e) y h = cc
-
 -- where no answer was a fault, nothing is held
-pub whole_holds_nothing : (board : BoardFace) (threads : ℕ) (own : Answer) (v : View) (answer more whole : Answer) (w : View)
-    → AnswersForAll board threads own v answer w → whole ≡ both answer more → IfOk own (λ _. HoldsNothing v) → IfOk whole (λ _. HoldsNothing w)
-whole_holds_nothing board threads own v answer more (Ok u) w h is free =
-    answer_holds_nothing board threads own v answer w h (first_ok answer more (sym is)) free
-whole_holds_nothing board threads own v answer more (Err why) w h is free = tt
+pub whole_holds_nothing : (board : BoardFace) (threads : ℕ) (own : Answer) (v : View) (answer : Answer) (w : View)
+    → AnswersForAll board threads own v answer w → IfOk own (λ _. HoldsNothing v) → IfOk answer (λ _. HoldsNothing w)
+whole_holds_nothing board threads own v (Ok tt) w h free = answer_holds_nothing board threads own v (Ok tt) w h refl free
+whole_holds_nothing board threads own v (Err why) w h free = tt
+
+-- a handle was kept where there is one
+pub kept_one : {X : Type 0} → (xs ys : List X) (x : Option X) → ys ≡ xs ++ option_to_list x → length ys ≤ length xs + 1
+kept_one xs ys None e = let l = ap length e ∙ length-append xs [] in omega (arith, l)
+kept_one xs ys (Some x) e = let l = ap length e ∙ length-append xs (x ∷ []) in omega (arith, l)
 
 -- ---- one end after another
 

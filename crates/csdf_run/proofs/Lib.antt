@@ -3,3 +3,4 @@ pub mod RoomTexts
 pub mod Held
 pub mod Lengths
 pub mod Ends
+pub mod RunFaults

@@ -1,3 +1,4 @@
+pub mod Causes
 pub mod Hand
 pub mod Looking
 pub mod Requests

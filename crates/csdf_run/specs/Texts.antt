@@ -15,7 +15,6 @@ use Rattle.csdf_core.specs.Planned.{is_source_kernel}
 use Rattle.csdf_core.specs.Streams.{IsPrefix}
 use Rattle.csdf_floor.specs.declared.ending.Ending.{Ending}
 use Rattle.csdf_floor.specs.declared.ending.Ending.TheVariants.{Complete, Stopped, Starved, Dry}
-use Rattle.csdf_floor.specs.declared.fault.RunFault.{RunFault}
 use Rattle.csdf_floor.specs.declared.outcome.Outcome.{Outcome}
 use Rattle.csdf_run.specs.declared.texts.Texts.{Texts}
 use Rattle.csdf_run.specs.declared.texts.TextsFault.{TextsFault}
@@ -25,6 +24,7 @@ use Rattle.csdf_floor.specs.Outcome.{IsOutcome, sequential_list}
 use Rattle.csdf_floor.specs.Report.{names_of, report_text}
 use Rattle.csdf_floor.specs.Sequential.{IsSequential}
 use Rattle.csdf_floor.specs.Work.{Work, HasFewFirings, IsMostPeriods, feed_of, feeds_in, is_sink_kernel}
+use Rattle.csdf_run.specs.Causes.{IsCauseAmong}
 use Rattle.csdf_run.specs.Scripts.{kept_script}
 use Rattle.csdf_analysis.specs.declared.length.Length.{Length}
 use Rattle.csdf_analysis.specs.declared.length.Length.TheVariants.{Periods, UntilDry}
@@ -123,9 +123,13 @@ IsGraphRefusal room g texts fault.FeedCount = (a : Accepted) × IsInRoom room g 
 IsGraphRefusal room g texts (fault.Feed n why) = (a : Accepted) × IsInRoom room g a × IsFeedFault a.graph.actors texts (fault.Feed n why)
 IsGraphRefusal room g texts (fault.Run why) = (a : Accepted) × (feeds : List (List ℤ)) × AreTextsOf room g texts a feeds
 
--- the run has no outcome
-abbrev pub IsRunFault : TextsFault → Type 0
-IsRunFault told = (why : RunFault) × (told ≡ fault.Run why)
+-- where it is the run itself that has no outcome, why is what a run by so many workers can end with
+abbrev pub IsRunCause : ℕ → TextsFault → Type 0
+IsRunCause workers (fault.Graph why) = Unit {0}
+IsRunCause workers (fault.Accept why) = Unit {0}
+IsRunCause workers fault.FeedCount = Unit {0}
+IsRunCause workers (fault.Feed n why) = Unit {0}
+IsRunCause workers (fault.Run why) = IsCauseAmong workers why
 
 -- why there is no run: the file comes first, and then its graph
 abbrev pub IsRefusal : Room → List ℕ → List (List ℕ) → TextsFault → Type 0

@@ -5,11 +5,12 @@ use Rattle.std.specs.List.{Contains}
 use Rattle.std.specs.Result.{IsOk}
 use Rattle.csdf_model.specs.declared.limits.TheConstants.{MAX_FIRINGS_PER_ACTOR}
 use Rattle.csdf_claims.specs.declared.rule.View.{View}
-use Rattle.csdf_claims.specs.Face.{BoardFace}
+use Rattle.csdf_claims.specs.Face.{BoardFace, PlaceFace}
 use Rattle.csdf_claims.specs.Board.{track_of, Holds, HasFinished, KeepsJust, joined_view}
 use Rattle.csdf_kernel.specs.declared.Job.{Job}
+use Rattle.csdf_floor.specs.declared.fault.DeliverFault.{DeliverFault}
 use Rattle.csdf_floor.specs.declared.fault.RunFault.{RunFault}
-use Rattle.csdf_floor.specs.Floor.{FloorView, HasGone, IsReady, closes_after, ending_of, task_of}
+use Rattle.csdf_floor.specs.Floor.{FloorView, HasGone, IsDeliverAnswer, IsReady, closes_after, ending_of, task_of}
 use Rattle.csdf_run.specs.declared.claims.Claim.{Claim}
 use Rattle.csdf_run.specs.declared.worker.Ended.{Ended}
 use Rattle.csdf_run.specs.Hand.{claim_for}
@@ -51,6 +52,10 @@ HasMade v (Some c) = HasFinished v c.actor c.firing
 abbrev pub HasTaken : Bool → Job → FloorView → FloorView → Type 0
 HasTaken true job f g = HasGone f g (ending_of (task_of job) ++ closes_after f (task_of job))
 HasTaken false job f g = g ≡ f
+
+-- the floor did not take what is in hand: it was made, and its job is not under way, or it is and memory ran out
+abbrev pub IsUntaken : Bool → Job → FloorView → DeliverFault → Type 0
+IsUntaken made job f why = (made ≡ true) × IsDeliverAnswer f (task_of job) (Err why)
 
 -- firings of an actor one after another: the claim of the first one, and how many they are
 pub record Block : Type 0 where
@@ -112,3 +117,11 @@ pub record AnswersForAll (board : BoardFace) (threads : ℕ) (own : Answer) (v :
   pub at_board : All (λ (e : Ended). IsEndAt board e) ends
   pub answered : IsAnswerOf (own ∷ map (λ (e : Ended). e.answer) ends) answer
   pub joined : w ≡ joined_by v ends
+
+-- a first worker's place has taken in the ends of so many threads at this board
+pub record TakesIn (board : BoardFace) (threads : ℕ) (p : PlaceFace) : Type 0 where
+  pub own : View
+  pub ends : List Ended
+  pub each_thread : length ends ≡ threads
+  pub at_board : All (λ (e : Ended). IsEndAt board e) ends
+  pub joined : p.view ≡ joined_by own ends

@@ -1,10 +1,11 @@
 //! How a worker claims firings, and how its claims end.
 
-ghost use Rattle.std.specs.Prelude.{◌≡◌, ◌<◌, ◌≤◌, ◌+◌, ℕ, None, Some};
+ghost use Rattle.std.specs.Prelude.{◌≡◌, ◌<◌, ◌≤◌, ◌+◌, ℕ, IfSome, None, Some};
 ghost use Rattle.csdf_claims.specs.Board.{HasFinished};
 ghost use Rattle.csdf_run.specs.Workers.{CanEnd, HasMade, HasMadeAll, HoldsJust, IsActor, IsClaimBeside};
 
 use crate::run_floor::{Delivered, Made};
+use crate::told::Told;
 use csdf_claims::{Board, Place};
 use csdf_model::{MAX_ACTORS, MAX_FIRINGS_PER_ACTOR};
 
@@ -80,9 +81,10 @@ fn mark_done(board: &Board, place: &mut Place, claim: Claim, beside: Option<Clai
     board.done(place, claim.actor);
 }
 
-/// Marks the claim done whose result the floor has taken, where there is one.
-pub(crate) fn finish(
+/// Marks the claim done whose result the floor has taken, where there is one, and tells of it.
+pub(crate) fn finish<G: Told>(
     board: &Board,
+    gate: &G,
     place: &mut Place,
     delivered: Option<Delivered>,
     beside: Option<Claim>,
@@ -93,9 +95,11 @@ pub(crate) fn finish(
     ensures board { place.new.board ≡ board.now.id }
     ensures holds { HoldsJust place.new.view None beside }
     ensures made { HasMade place.new.view delivered }
+    ensures told { IfSome delivered (λ _. G.knows_made gate.now 1) }
 {
     if let Some(delivered) = delivered {
         mark_done(board, place, delivered.claim(), beside);
+        gate.tell_made(1);
     }
 }
 
@@ -111,8 +115,9 @@ pub(crate) fn most_from(firing: u32) -> u32
     }
 }
 
-/// Marks the firings done that the floor has made, of which the first is the claimed one.
-pub(crate) fn finish_block(board: &Board, place: &mut Place, made: Made)
+/// Marks the firings done that the floor has made, of which the first is the claimed one, and tells of
+/// them.
+pub(crate) fn finish_block<G: Told>(board: &Board, gate: &G, place: &mut Place, made: Made)
     requires place { place.old.board ≡ board.now.id }
     requires actor { made.claim.actor < board.now.actors }
     requires holds { HoldsJust place.old.view None (Some made.claim) }
@@ -121,8 +126,10 @@ pub(crate) fn finish_block(board: &Board, place: &mut Place, made: Made)
     ensures board { place.new.board ≡ board.now.id }
     ensures holds { HoldsJust place.new.view None None }
     ensures made { HasMadeAll place.new.view made }
+    ensures told { G.knows_made gate.now made.count }
 {
     board.done_many(place, made.claim().actor, made.count());
+    gate.tell_made(made.count());
 }
 
 /// The claim is given up: nothing is held any more.

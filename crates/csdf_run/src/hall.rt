@@ -10,13 +10,14 @@ use crate::gate::Gate;
 use crate::hand::Hand;
 use crate::hints::Hints;
 use crate::policy::{Crew, Policy, Teller};
-use crate::run_floor::{Asked, Delivered, Made, RunFloor};
+use crate::run_end::{EndCause, EndWord, RunEnd};
+use crate::run_floor::{Asked, Delivered, Made, NotStarted, NotTaken, RunFloor};
 use crate::watched::{Stand, Watched};
 use csdf_claims::Place;
-use csdf_floor::{DeliverFault, Floor, StartFault};
+use csdf_floor::Floor;
 use std::alloc::Global;
 use std::sync::atomic::Ordering::SeqCst;
-use std::sync::atomic::{AtomicBool, AtomicU32, AtomicU64};
+use std::sync::atomic::{AtomicU32, AtomicU64};
 use std::sync::{Condvar, Mutex, Wait};
 use std::thread;
 
@@ -33,7 +34,7 @@ pub(crate) struct Hall<K: Asked> {
     ready: AtomicU64,
     spare: AtomicU64,
     looking: AtomicU32,
-    is_ended: AtomicBool,
+    end: EndWord,
     is_alone: bool,
     drafts: bool,
 }
@@ -42,8 +43,8 @@ pub(crate) struct Hall<K: Asked> {
 /// woken.
 #[derive(Drop)]
 pub(crate) struct Turn {
-    pub(crate) delivered: Result<Option<Delivered>, DeliverFault>,
-    pub(crate) started: Result<bool, StartFault>,
+    pub(crate) delivered: Result<Option<Delivered>, NotTaken>,
+    pub(crate) started: Result<bool, NotStarted>,
     pub(crate) wakes: bool,
 }
 
@@ -51,7 +52,7 @@ pub(crate) struct Turn {
 /// is to be woken.
 #[derive(Drop)]
 pub(crate) struct BlockTurn {
-    pub(crate) made: Result<Made, StartFault>,
+    pub(crate) made: Result<Made, NotStarted>,
     pub(crate) wakes: bool,
 }
 
@@ -76,7 +77,7 @@ impl<K: Asked> Hall<K> {
             ready: AtomicU64::new(ready),
             spare: AtomicU64::new(ready),
             looking: AtomicU32::new(0),
-            is_ended: AtomicBool::new(false),
+            end: EndWord::new(),
             is_alone: crew.is_alone(),
             drafts: crew.drafts(),
         }
@@ -93,7 +94,7 @@ impl<K: Asked> Hall<K> {
             ready: _,
             spare: _,
             looking: _,
-            is_ended: _,
+            end: _,
             is_alone: _,
             drafts: _,
         } = self;
@@ -119,7 +120,7 @@ impl<K: Asked> Hall<K> {
 
     /// Whether all is over, or a worker has given up.
     pub(crate) fn is_ended(&self) -> bool {
-        self.is_ended.load(SeqCst)
+        self.end.get().is_some()
     }
 
     /// The actors that this worker may take.
@@ -268,16 +269,17 @@ impl<K: Asked> Hall<K> {
         self.changed.notify_one();
     }
 
-    /// Ends the run for all workers.
-    pub(crate) fn give_up<R: Wait>(&self, rt: &R) {
+    /// Ends the run for all workers, for this cause.
+    pub(crate) fn give_up<R: Wait>(&self, rt: &R, cause: EndCause<'_>) {
         let _watched = self.watched.lock(rt);
-        self.end();
+        let _ = self.end(cause);
     }
 
-    /// The run has ended: whoever sleeps is to see it. The lock is held.
-    fn end(&self) {
-        self.is_ended.store(true, SeqCst);
+    /// The run ends for this cause: whoever sleeps is to see it. The lock is held.
+    fn end(&self, cause: EndCause<'_>) -> RunEnd {
+        let end = self.end.set(cause);
         self.changed.notify_all();
+        end
     }
 
     /// Yields until something is spare or the run has ended, or often enough.
@@ -292,38 +294,47 @@ impl<K: Asked> Hall<K> {
         self.looking.fetch_sub(1, SeqCst);
     }
 
-    /// The worker tends no longer. True where all is over.
-    fn rest<R: Wait>(&self, rt: &R, stand: &mut Stand) -> bool {
+    /// The worker tends no longer. The end of the run, where all is over.
+    fn rest<R: Wait>(&self, rt: &R, stand: &mut Stand) -> Option<RunEnd> {
         let mut guard = self.watched.lock(rt);
         let watched = &mut *guard;
         watched.policy.rests(stand.tends);
         stand.tends = false;
-        let is_over = watched.is_over();
+        let over = watched.is_over();
         stand.ready = watched.hints.ready();
-        if is_over {
-            self.end();
-        } else if self.tell(watched, Teller::Looks) {
+        if let Some(quiet) = over {
+            return Some(self.end(EndCause::Quiet(quiet)));
+        }
+        if self.tell(watched, Teller::Looks) {
             self.wake();
         }
-        is_over
+        None
     }
 
-    /// Waits until something is spare. True where there is nothing more to do.
-    pub(crate) fn wait<R: Wait>(&self, rt: &R, stand: &mut Stand) -> bool {
-        if self.is_ended() || self.rest(rt, stand) {
-            return true;
+    /// The end of the run, where it has ended or all is over.
+    fn seen_or_rest<R: Wait>(&self, rt: &R, stand: &mut Stand) -> Option<RunEnd> {
+        match self.end.get() {
+            Some(end) => Some(end),
+            None => self.rest(rt, stand),
+        }
+    }
+
+    /// Waits until something is spare. The end of the run, where there is nothing more to do.
+    pub(crate) fn wait<R: Wait>(&self, rt: &R, stand: &mut Stand) -> Option<RunEnd> {
+        if let Some(end) = self.seen_or_rest(rt, stand) {
+            return Some(end);
         }
         if self.is_alone {
-            return false;
+            return None;
         }
         self.linger();
         let mut watched = self.watched.lock(rt);
         for _ in rt.forever() {
-            if self.is_ended() {
-                return true;
+            if let Some(end) = self.end.get() {
+                return Some(end);
             }
             if self.spare.load(SeqCst) != 0 {
-                return false;
+                return None;
             }
             watched.policy.sleeps();
             watched = self.changed.wait(rt, watched);

@@ -2,7 +2,7 @@
 
 ghost use Rattle.std.specs.Prelude.{◌≡◌, ◌<◌, ◌≤◌, ◌++◌, ℕ, IfOk, MatchOption, OnOk, false, true};
 ghost use Rattle.csdf_kernel.specs.Value.{value_of};
-ghost use Rattle.csdf_floor.specs.Floor.{HasGone, IsReady};
+ghost use Rattle.csdf_floor.specs.Floor.{HasGone, IsReady, IsStartAnswer, start_refusal};
 ghost use Rattle.csdf_floor.specs.Making.{closes_made, made_moves};
 ghost use Rattle.csdf_run.specs.Hand.{claim_in};
 
@@ -106,6 +106,7 @@ impl Hand {
         actor: u32,
         firing: u32,
     ) -> Result<(), StartFault>
+        ensures answer { IsStartAnswer (start_refusal floor.old actor firing) result }
         ensures idle { self.new.is_made ≡ false }
         ensures job { OnOk result ((self.new.job.actor ≡ actor) × (self.new.job.firing ≡ firing)) }
         ensures ready { OnOk result (IsReady self.new.job) }
@@ -154,6 +155,7 @@ impl Hand {
         requires open { (k : ℕ) → claim.firing ≤ k → G.passed gate.now claim.actor k }
         requires some { 0 < most }
         ensures idle { self.new.is_made ≡ false }
+        ensures answer { IsStartAnswer (start_refusal floor.old claim.actor claim.firing) result }
         ensures some { IfOk result (λ n. 0 < n) }
         ensures most { IfOk result (λ n. n ≤ most) }
         ensures gone { IfOk result (λ n. HasGone floor.old floor.new

@@ -4,16 +4,19 @@
 mod actors;
 mod claims;
 mod gate;
+mod gave_up;
 mod hall;
 mod hand;
 mod hints;
 mod periods;
 mod policy;
 mod request;
+mod run_end;
 mod run_floor;
 mod running;
 mod script;
 mod texts;
+mod told;
 mod watched;
 mod worker;
 

@@ -1,22 +1,22 @@
 //! What a run is asked for.
 
-ghost use Rattle.std.specs.Prelude.{◌≡◌, ◌≤◌, IfErr, IfOk, length};
+ghost use Rattle.std.specs.Prelude.{◌≡◌, ◌≤◌, ◌*◌, All, IfErr, IfOk, length};
 ghost use Rattle.csdf_journal.specs.View.{is_kept};
 ghost use Rattle.csdf_floor.specs.Work.{AreFeeds, HasFewFirings, feeds_in};
-ghost use Rattle.csdf_run.specs.Requests.{IsFedOf};
+ghost use Rattle.csdf_run.specs.Requests.{IsFedOf, firings_in, most_firings};
 ghost use Rattle.csdf_run.specs.Texts.{work_for};
 
 use crate::hints::Hints;
 use csdf_floor::{Fed, Floor};
 use csdf_journal::Keeping;
-use csdf_model::MAX_ACTORS;
+use csdf_model::{MAX_ACTORS, MAX_FIRINGS_PER_ACTOR};
 use std::alloc::{AllocError, Global};
 use std::marker::Model;
 
 /// What a run is asked for: an accepted graph and the feeds of its sources, the number of workers and of
 /// periods, and the limit on all firings where there is one.
 ///
-/// A contract sees the work: all but the number of workers, on which no outcome depends.
+/// A contract sees the work and the number of workers apart, since no outcome depends on that.
 #[derive(Drop)]
 pub(crate) struct Request {
     fed: Fed,
@@ -27,15 +27,29 @@ pub(crate) struct Request {
 
 impl Model for Request {
     ghost use Rattle.std.specs.Prelude.{◌≤◌};
-    ghost use Rattle.csdf_floor.specs.Work.{AreFeeds, HasFewFirings, Work, feeds_in};
+    ghost use Rattle.csdf_floor.specs.Work.{AreFeeds, HasFewFirings, feeds_in};
+    ghost use Rattle.csdf_run.specs.Requests.{RequestView};
     ghost use Rattle.csdf_run.specs.Texts.{work_for};
 
-    ghost Value = { Work };
+    ghost Value = { RequestView };
 
-    ghost view = { λ r. work_for r.fed.accepted (feeds_in r.fed.feeds.items) r.periods r.firings };
+    ghost view = { λ r. record { work = work_for r.fed.accepted (feeds_in r.fed.feeds.items) r.periods r.firings; workers = r.workers } };
 
     ghost invariant = { λ r. AreFeeds r.fed.accepted.graph (feeds_in r.fed.feeds.items) × (1 ≤ r.periods)
         × HasFewFirings r.fed.accepted r.periods };
+}
+
+/// How many firings the actors make in so many periods, all together.
+fn firings_in(periods: u32, q: &[u32]) -> u64
+    requires few { All (λ n. periods * n ≤ MAX_FIRINGS_PER_ACTOR) q.now }
+    requires actors { length q.now ≤ MAX_ACTORS }
+    ensures { result ≡ firings_in periods q.now }
+{
+    let mut all: u64 = 0;
+    for firings in q {
+        all += u64::from(periods) * u64::from(*firings);
+    }
+    all
 }
 
 impl Request {
@@ -43,7 +57,8 @@ impl Request {
         requires fed { AreFeeds fed.accepted.graph (feeds_in fed.feeds.items) }
         requires some_period { 1 ≤ periods }
         requires few_firings { HasFewFirings fed.accepted periods }
-        ensures { result ≡ work_for fed.accepted (feeds_in fed.feeds.items) periods firings }
+        ensures work { result.work ≡ work_for fed.accepted (feeds_in fed.feeds.items) periods firings }
+        ensures workers { result.workers ≡ workers }
     {
         Request {
             fed,
@@ -55,26 +70,27 @@ impl Request {
 
     /// How many actors the graph has.
     pub(crate) fn actors(&self) -> u32
-        ensures count { result ≡ length self.now.accepted.graph.actors }
+        ensures count { result ≡ length self.now.work.accepted.graph.actors }
         ensures few { result ≤ MAX_ACTORS }
     {
         self.fed.accepted.graph().actors().len() as u32
     }
 
     /// How many workers are asked for.
-    pub(crate) fn workers(&self) -> u32 {
+    pub(crate) fn workers(&self) -> u32
+        ensures { result ≡ self.now.workers }
+    {
         self.workers
     }
 
     /// How many firings it makes at most.
-    pub(crate) fn most_firings(&self) -> u64 {
-        let mut all: u64 = 0;
-        for firings in self.fed.accepted.vector().q.as_slice() {
-            all = all.saturating_add(u64::from(*firings).saturating_mul(u64::from(self.periods)));
-        }
+    pub(crate) fn most_firings(&self) -> u64
+        ensures { result ≡ most_firings self.now.work }
+    {
+        let all = firings_in(self.periods, self.fed.accepted.vector().q.as_slice());
         match self.firings {
-            Some(most) => all.min(u64::from(most)),
-            None => all,
+            Some(most) if u64::from(most) < all => u64::from(most),
+            _ => all,
         }
     }
 
@@ -85,7 +101,7 @@ impl Request {
 
     /// What is run, handed back.
     pub(crate) fn into_fed(self) -> Fed
-        ensures { IsFedOf self result }
+        ensures { IsFedOf self.work result }
     {
         self.fed
     }
@@ -93,9 +109,9 @@ impl Request {
     /// A floor for it on which nothing has fired, with a journal that keeps its moves or does not. What is
     /// run comes back where memory runs out.
     pub(crate) fn into_floor(self, alloc: Global, keeping: Keeping) -> Result<Floor, Fed>
-        ensures work { IfOk result (λ floor. floor.work ≡ self) }
+        ensures work { IfOk result (λ floor. floor.work ≡ self.work) }
         ensures keeps { IfOk result (λ floor. floor.keeps ≡ is_kept keeping) }
-        ensures back { IfErr result (IsFedOf self) }
+        ensures back { IfErr result (IsFedOf self.work) }
     {
         let Request {
             fed,

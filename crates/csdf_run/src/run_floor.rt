@@ -1,11 +1,11 @@
-//! The floor of a run, and what says that it took a result.
+//! The floor of a run, and what says that it took a result, or why it did not.
 
-ghost use Rattle.std.specs.Prelude.{◌≡◌, ◌<◌, ◌≤◌, ◌++◌, ℕ, Bool, IfOk, OnOk, false, true};
-ghost use Rattle.csdf_floor.specs.Floor.{HasGone, IsReady};
+ghost use Rattle.std.specs.Prelude.{◌≡◌, ◌<◌, ◌≤◌, ◌++◌, ℕ, Bool, IfErr, IfOk, OnOk, false, true};
+ghost use Rattle.csdf_floor.specs.Floor.{HasGone, IsReady, IsStartAnswer, start_refusal};
 ghost use Rattle.csdf_floor.specs.Making.{closes_made, made_moves};
 ghost use Rattle.csdf_run.specs.Hand.{claim_in};
 ghost use Rattle.csdf_floor.specs.Work.{Work};
-ghost use Rattle.csdf_run.specs.Workers.{HasTaken, IsBlockOf};
+ghost use Rattle.csdf_run.specs.Workers.{HasTaken, IsBlockOf, IsUntaken};
 ghost use Rattle.csdf_run.specs.Requests.{no_work};
 
 use crate::claims::Claim;
@@ -96,6 +96,50 @@ impl Made {
     }
 }
 
+/// Why the floor did not start a firing, or made none. Only [`RunFloor`] makes one.
+#[derive(Drop)]
+pub(crate) struct NotStarted {
+    fault: StartFault,
+}
+
+impl Model for NotStarted {
+    ghost use Rattle.csdf_floor.specs.declared.fault.StartFault.{StartFault};
+
+    ghost Value = { StartFault };
+
+    ghost view = { λ n. n.fault };
+}
+
+impl NotStarted {
+    pub(crate) fn fault(&self) -> StartFault
+        ensures { result ≡ self.now }
+    {
+        self.fault
+    }
+}
+
+/// Why the floor did not take a result. Only [`RunFloor::deliver`] makes one.
+#[derive(Drop)]
+pub(crate) struct NotTaken {
+    fault: DeliverFault,
+}
+
+impl Model for NotTaken {
+    ghost use Rattle.csdf_floor.specs.declared.fault.DeliverFault.{DeliverFault};
+
+    ghost Value = { DeliverFault };
+
+    ghost view = { λ n. n.fault };
+}
+
+impl NotTaken {
+    pub(crate) fn fault(&self) -> DeliverFault
+        ensures { result ≡ self.now }
+    {
+        self.fault
+    }
+}
+
 impl<K: Asked> RunFloor<K> {
     pub(crate) fn new(floor: Floor) -> RunFloor<K>
         requires keeps { floor.keeps ≡ K.keeps }
@@ -129,12 +173,16 @@ impl<K: Asked> RunFloor<K> {
         actor: u32,
         firing: u32,
         hand: &mut Hand,
-    ) -> Result<(), StartFault>
+    ) -> Result<(), NotStarted>
+        ensures answer { IsStartAnswer (start_refusal self.old.floor actor firing) result }
         ensures idle { hand.new.is_made ≡ false }
         ensures job { OnOk result ((hand.new.job.actor ≡ actor) × (hand.new.job.firing ≡ firing)) }
         ensures ready { OnOk result (IsReady hand.new.job) }
     {
-        hand.start(&mut self.floor, actor, firing)
+        match hand.start(&mut self.floor, actor, firing) {
+            Ok(()) => Ok(()),
+            Err(fault) => Err(NotStarted { fault }),
+        }
     }
 
     /// Drafts firings of an actor, the claimed one first: at most so many, which take so many products at
@@ -154,16 +202,19 @@ impl<K: Asked> RunFloor<K> {
         claim: Claim,
         most: u32,
         hand: &mut Hand,
-    ) -> Result<Made, StartFault>
+    ) -> Result<Made, NotStarted>
         requires open { (k : ℕ) → claim.firing ≤ k → G.passed gate.now claim.actor k }
         requires some { 0 < most }
         ensures idle { hand.new.is_made ≡ false }
+        ensures answer { IsStartAnswer (start_refusal self.old.floor claim.actor claim.firing) result }
         ensures made { IfOk result (IsBlockOf claim most) }
         ensures gone { IfOk result (λ made. HasGone self.old.floor self.new.floor
             (made_moves self.old.floor claim.actor made.count ++ closes_made self.old.floor claim.actor made.count)) }
     {
-        let count = hand.make(&mut self.floor, gate, claim, most)?;
-        Ok(Made { claim, count })
+        match hand.make(&mut self.floor, gate, claim, most) {
+            Ok(count) => Ok(Made { claim, count }),
+            Err(fault) => Err(NotStarted { fault }),
+        }
     }
 
     /// Gives the floor what is in hand, where something is.
@@ -171,15 +222,18 @@ impl<K: Asked> RunFloor<K> {
         &mut self,
         alloc: Global,
         hand: &Hand,
-    ) -> Result<Option<Delivered>, DeliverFault>
+    ) -> Result<Option<Delivered>, NotTaken>
         ensures claim { IfOk result (λ delivered. delivered ≡ claim_in hand.now) }
         ensures taken { OnOk result (HasTaken hand.now.is_made hand.now.job self.old.floor self.new.floor) }
+        ensures untaken { IfErr result (IsUntaken hand.now.is_made hand.now.job self.old.floor) }
     {
         let Some(tokens) = hand.tokens() else {
             return Ok(None);
         };
         let job = hand.job();
-        self.floor.deliver_value(alloc, job, tokens)?;
+        if let Err(fault) = self.floor.deliver_value(alloc, job, tokens) {
+            return Err(NotTaken { fault });
+        }
         let claim = Claim {
             actor: job.actor,
             firing: job.firing,

@@ -1,19 +1,24 @@
 //! A run by worker threads.
 
-ghost use Rattle.std.specs.Prelude.{◌≡◌, ◌≤◌, ◌<◌, All, IfErr, IfOk, IfSome, length, true};
+ghost use Rattle.std.specs.Prelude.{◌≡◌, ◌≢◌, ◌≤◌, ◌<◌, ◌-◌, ◌++◌, All, Err, IfErr, IfOk, IfSome, IsSome, Ok, if◌then◌else◌, length, nat_lt, option_to_list, true, vec_capacity, vec_len};
+ghost use Rattle.csdf_floor.specs.declared.fault.RunFault.TheVariants.{Worker};
 ghost use Rattle.csdf_journal.specs.View.{is_kept};
 ghost use Rattle.csdf_floor.specs.Journal.{program_for};
 ghost use Rattle.csdf_floor.specs.Work.{AreFeeds, HasFewFirings, feeds_in};
 ghost use Rattle.csdf_floor.specs.Outcome.{HasHonestJournal, EndsSettled, TakesInOrder, StaysWithinCapacities, LeavesClosedAlone};
 ghost use Rattle.csdf_floor.specs.Outcome.{TellsSinks, TellsReport, TellsEnding, IsAsSequentialRun, IsAsInAnyRoom, CompletesWhereAmple, IsOutcome};
-ghost use Rattle.csdf_run.specs.Requests.{IsFedOf};
-ghost use Rattle.csdf_run.specs.Workers.{AnswersForAll, HoldsNothing, IsEndAt, both};
+ghost use Rattle.csdf_run.specs.Causes.{IsCauseAmong};
+ghost use Rattle.csdf_run.specs.Requests.{IsFedOf, most_firings};
+ghost use Rattle.csdf_run.specs.Workers.{AnswersForAll, HoldsNothing, IsEndAt, TakesIn, both};
 
 use crate::gate::Gate;
+use crate::gave_up::GaveUp;
 use crate::hall::Hall;
 use crate::policy::Crew;
 use crate::request::Request;
+use crate::run_end::{EndCause, RunEnd, Unstarted};
 use crate::run_floor::{Asked, RunFloor};
+use crate::told::{Telling, Told};
 use crate::worker::{Ended, work};
 use csdf_analysis::Accepted;
 use csdf_claims::{Board, Place};
@@ -53,48 +58,52 @@ fn split_places(
 ) -> Result<Vec<Place>, AllocError>
     requires { place.old.board ≡ board.now.id }
     ensures same { place.new ≡ place.old }
+    ensures count { IfOk result (λ v. length v.items ≡ count) }
     ensures places { IfOk result (λ v. All (λ p. (p.board ≡ board.now.id) × HoldsNothing p.view) v.items) }
 {
     let mut places = Vec::with_capacity(alloc, count as usize)?;
-    for _ in 0..count {
+    for _other in 0..count {
         places.push(place_beside(alloc, board, place)?)?;
     }
     Ok(places)
 }
 
-/// Keeps the handle of a thread that was started. False where there is none.
+/// Keeps the handle of a thread that was started, for which there is room.
 fn keep<'a>(
     board: &'a Board,
     handles: &mut Vec<PromisedHandle<Ended, OfBoard<'a>>>,
     handle: Option<PromisedHandle<Ended, OfBoard<'a>>>,
-) -> bool
+)
     requires handle { IfSome handle (λ h. h.promise.0.now.id ≡ board.now.id) }
     requires handles { All (λ h. h.promise.0.now.id ≡ board.now.id) handles.old.items }
-    ensures { All (λ h. h.promise.0.now.id ≡ board.now.id) handles.new.items }
+    requires room { vec_len handles.old < vec_capacity handles.old }
+    ensures kept { handles.new.items ≡ handles.old.items ++ option_to_list handle.entry }
+    ensures room { vec_capacity handles.old ≤ vec_capacity handles.new }
+    ensures handles { All (λ h. h.promise.0.now.id ≡ board.now.id) handles.new.items }
 {
-    match handle {
-        Some(handle) => handles.push(handle).is_ok(),
-        None => false,
+    if let Some(handle) = handle {
+        let _is_kept = handles.push(handle).is_ok();
     }
 }
 
 /// The first of two answers that is a fault.
-fn both(first: Result<(), RunFault>, second: Result<(), RunFault>) -> Result<(), RunFault>
+fn both(first: Result<RunEnd, GaveUp>, second: Result<RunEnd, GaveUp>) -> Result<RunEnd, GaveUp>
     ensures { result ≡ both first second }
 {
     match first {
-        Ok(()) => second,
+        Ok(_) => second,
         Err(fault) => Err(fault),
     }
 }
 
-/// A fault where a thread could not be started.
-fn all_started(are_all: bool) -> Result<(), RunFault> {
-    if are_all {
-        Ok(())
-    } else {
-        Err(RunFault::Worker)
+/// A fault where there are fewer threads than places, since one could not be started.
+fn all_started(threads: usize, places: usize) -> Result<(), RunFault>
+    ensures { result ≡ (if nat_lt threads places then Err Worker else Ok tt) }
+{
+    if threads < places {
+        return Err(RunFault::Worker);
     }
+    Ok(())
 }
 
 /// Joins the threads, one after another, and their places into the first. The answer is a fault where the
@@ -103,9 +112,9 @@ fn join_all<'a, R: Threads>(
     rt: &R,
     board: &'a Board,
     place: &mut Place,
-    own: Result<(), RunFault>,
+    own: Result<RunEnd, GaveUp>,
     handles: Vec<PromisedHandle<Ended, OfBoard<'a>>>,
-) -> Result<(), RunFault>
+) -> Result<RunEnd, GaveUp>
     requires place { place.old.board ≡ board.now.id }
     requires handles { All (λ h. h.promise.0.now.id ≡ board.now.id) handles.items }
     ensures board { place.new.board ≡ board.now.id }
@@ -121,19 +130,21 @@ fn join_all<'a, R: Threads>(
 }
 
 /// The place of a worker that answered, unless the answer is a fault.
-fn place_after(place: Place, answer: Result<(), RunFault>) -> Result<Place, RunFault>
+fn place_after(place: Place, answer: Result<RunEnd, GaveUp>) -> Result<Place, RunFault>
     requires { IfOk answer (λ _. HoldsNothing place.view) }
     ensures same { IfOk result (λ p. p ≡ place) }
+    ensures answered { IfOk result (λ _. answer ≡ Ok tt) }
+    ensures cause { IfErr result (λ fault. (answer ≡ Err fault) × (fault ≢ Worker)) }
     ensures free { IfOk result (λ p. HoldsNothing p.view) }
 {
     match answer {
-        Ok(()) => Ok(place),
-        Err(fault) => Err(fault),
+        Ok(_) => Ok(place),
+        Err(gave_up) => Err(gave_up.fault()),
     }
 }
 
 /// Runs a worker at the first place, on the calling thread.
-fn alone<K: Asked, R: Wait, G: Gate>(
+fn alone<K: Asked, R: Wait, G: Told>(
     rt: &R,
     alloc: Global,
     hall: &Hall<K>,
@@ -142,7 +153,8 @@ fn alone<K: Asked, R: Wait, G: Gate>(
     first: Place,
 ) -> Result<Place, RunFault>
     requires { (first.board ≡ board.now.id) × HoldsNothing first.view }
-    ensures { IfOk result (λ p. (p.board ≡ board.now.id) × HoldsNothing p.view) }
+    ensures place { IfOk result (λ p. (p.board ≡ board.now.id) × HoldsNothing p.view) }
+    ensures cause { IfErr result (λ fault. fault ≢ Worker) }
 {
     let Ended { place, answer } = work(rt, alloc, hall, board, gate, first);
     place_after(place, answer)
@@ -150,7 +162,7 @@ fn alone<K: Asked, R: Wait, G: Gate>(
 
 /// Runs a worker at the first place on the calling thread, and one at each other place in a thread of its
 /// own, and joins them into the first.
-fn in_threads<K: Asked + Send + Sync, R: Threads + Wait + Sync, G: Gate>(
+fn in_threads<K: Asked + Send + Sync, R: Threads + Wait + Sync, G: Told>(
     rt: &R,
     alloc: Global,
     hall: &Hall<K>,
@@ -161,17 +173,18 @@ fn in_threads<K: Asked + Send + Sync, R: Threads + Wait + Sync, G: Gate>(
 ) -> Result<Place, RunFault>
     requires first { (first.board ≡ board.now.id) × HoldsNothing first.view }
     requires places { All (λ p. (p.board ≡ board.now.id) × HoldsNothing p.view) places.items }
-    ensures { IfOk result (λ p. (p.board ≡ board.now.id) × HoldsNothing p.view) }
+    ensures place { IfOk result (λ p. (p.board ≡ board.now.id) × HoldsNothing p.view) }
+    ensures threads { IfOk result (TakesIn board.now (length places.items)) }
 {
     thread::scope(
         thread::scope_env(),
         rt,
         move |scope| -> Result<Place, RunFault>
             requires { ((first.board ≡ board.now.id) × HoldsNothing first.view) × All (λ p. (p.board ≡ board.now.id) × HoldsNothing p.view) places.items }
-            ensures { IfOk result (λ p. (p.board ≡ board.entry.now.id) × HoldsNothing p.view) }
+            ensures { IfOk result (λ p. ((p.board ≡ board.entry.now.id) × HoldsNothing p.view) × TakesIn board.entry.now (length places.items) p) }
         {
-            let mut handles = Vec::with_capacity(alloc, places.len())?;
-            let mut are_all = true;
+            let count = places.len();
+            let mut handles = Vec::with_capacity(alloc, count)?;
             for place in places {
                 let started = scope.spawn_with(
                     OfBoard(board),
@@ -180,14 +193,17 @@ fn in_threads<K: Asked + Send + Sync, R: Threads + Wait + Sync, G: Gate>(
                         ensures { IsEndAt board.entry.now result }
                     { work(rt, alloc, hall, board, gate, place) },
                 );
-                are_all &= keep(board, &mut handles, started.ok());
+                keep(board, &mut handles, started.ok());
             }
-            if !are_all {
-                hall.give_up(rt);
+            let threads = handles.len();
+            if threads < count {
+                hall.give_up(rt, EndCause::Unstarted(Unstarted::of(threads, count)));
             }
             let Ended { mut place, answer } = work(rt, alloc, hall, board, gate, first);
             let answer = join_all(rt, board, &mut place, answer, handles);
-            place_after(place, both(answer, all_started(are_all)))
+            let place = place_after(place, answer)?;
+            all_started(threads, count)?;
+            Ok(place)
         },
     )
 }
@@ -213,6 +229,7 @@ fn make_seats(alloc: Global, actors: u32, others: u32) -> Result<Seats, AllocErr
     requires { actors ≤ MAX_ACTORS }
     ensures actors { IfOk result (λ s. s.board.actors ≡ actors) }
     ensures first { IfOk result (λ s. (s.first.board ≡ s.board.id) × HoldsNothing s.first.view) }
+    ensures count { IfOk result (λ s. length s.places.items ≡ others) }
     ensures places { IfOk result (λ s. All (λ p. (p.board ≡ s.board.id) × HoldsNothing p.view) s.places.items) }
 {
     let (board, mut first) = first_seat(alloc, actors)?;
@@ -227,7 +244,8 @@ fn make_seats(alloc: Global, actors: u32, others: u32) -> Result<Seats, AllocErr
 /// How many firings of each actor were finished.
 fn totals_of(alloc: Global, board: Board, place: Place) -> Result<Vec<u32>, RunFault>
     requires { place.board ≡ board.id }
-    ensures { IfOk result (λ totals. length totals.items ≡ board.actors) }
+    ensures count { IfOk result (λ totals. length totals.items ≡ board.actors) }
+    ensures cause { IfErr result (λ fault. fault ≢ Worker) }
 {
     let mut totals = vec![in alloc; 0; board.actors() as usize]?;
     match board.gather(place, totals.as_mut_slice()) {
@@ -237,7 +255,7 @@ fn totals_of(alloc: Global, board: Board, place: Place) -> Result<Vec<u32>, RunF
 }
 
 /// Runs what is in the hall by so many workers, and answers how many firings of each actor they finished.
-fn run_hall<K: Asked + Send + Sync, R: Threads + Wait + Sync, G: Gate>(
+fn run_hall<K: Asked + Send + Sync, R: Threads + Wait + Sync, G: Told>(
     rt: &R,
     alloc: Global,
     hall: &Hall<K>,
@@ -246,7 +264,8 @@ fn run_hall<K: Asked + Send + Sync, R: Threads + Wait + Sync, G: Gate>(
     gate: &G,
 ) -> Result<Vec<u32>, RunFault>
     requires { actors ≤ MAX_ACTORS }
-    ensures { IfOk result (λ totals. length totals.items ≡ actors) }
+    ensures count { IfOk result (λ totals. length totals.items ≡ actors) }
+    ensures cause { IfErr result (IsCauseAmong workers) }
 {
     let Seats {
         board,
@@ -269,8 +288,8 @@ fn hall_of<K: Asked>(
     crew: Crew,
 ) -> Result<Hall<K>, Fed>
     requires keeps { is_kept keeping ≡ K.keeps }
-    requires work { request ≡ K.work }
-    ensures back { IfErr result (IsFedOf request) }
+    requires work { request.work ≡ K.work }
+    ensures back { IfErr result (IsFedOf request.work) }
 {
     let mut hints = match request.hints(alloc) {
         Ok(hints) => hints,
@@ -287,7 +306,7 @@ fn hall_of<K: Asked>(
 }
 
 /// What [`outcome_of`] answers, where the type `K` says what is asked.
-fn outcome_as<K: Asked + Send + Sync, R: Threads + Wait + Sync, G: Gate>(
+fn outcome_as<K: Asked + Send + Sync, R: Threads + Wait + Sync, G: Told>(
     rt: &R,
     alloc: Global,
     request: Request,
@@ -295,9 +314,11 @@ fn outcome_as<K: Asked + Send + Sync, R: Threads + Wait + Sync, G: Gate>(
     keeping: Keeping,
 ) -> Settled
     requires keeps { is_kept keeping ≡ K.keeps }
-    requires work { request ≡ K.work }
-    ensures fed { IsFedOf request result.fed }
-    ensures outcome { IfOk result.outcome (IsOutcome request) }
+    requires work { request.work ≡ K.work }
+    ensures fed { IsFedOf request.work result.fed }
+    ensures outcome { IfOk result.outcome (IsOutcome request.work) }
+    ensures cause { IfErr result.outcome (IsCauseAmong request.workers) }
+    ensures most { IfOk result.outcome (λ _. G.knows_most gate.now (most_firings request.work)) }
     ensures keeps { IfOk result.outcome (λ o. o.journal.keeps ≡ is_kept keeping) }
 {
     let crew = Crew {
@@ -315,7 +336,7 @@ fn outcome_as<K: Asked + Send + Sync, R: Threads + Wait + Sync, G: Gate>(
             };
         }
     };
-    gate.begins(most);
+    gate.tell_most(most);
     match run_hall(rt, alloc, &hall, actors, crew.workers, gate) {
         Ok(totals) => settle_and_hand_back(alloc, hall.into_floor(), totals.as_slice()),
         Err(fault) => Settled {
@@ -333,11 +354,13 @@ pub(crate) fn outcome_of<R: Threads + Wait + Sync, G: Gate>(
     gate: &G,
     keeping: Keeping,
 ) -> Settled
-    ensures fed { IsFedOf request result.fed }
-    ensures outcome { IfOk result.outcome (IsOutcome request) }
+    ensures fed { IsFedOf request.work result.fed }
+    ensures outcome { IfOk result.outcome (IsOutcome request.work) }
+    ensures cause { IfErr result.outcome (IsCauseAmong request.workers) }
     ensures keeps { IfOk result.outcome (λ o. o.journal.keeps ≡ is_kept keeping) }
 {
-    outcome_as::<Brand, R, G>(rt, alloc, request, gate, keeping)
+    let told = Telling { gate };
+    outcome_as::<Brand, R, Telling<'_, G>>(rt, alloc, request, &told, keeping)
 }
 
 /// Runs so many periods of an accepted graph over these feeds by worker threads: each firing is computed
@@ -347,8 +370,8 @@ pub(crate) fn outcome_of<R: Threads + Wait + Sync, G: Gate>(
 /// The feeds are one list for each actor, empty for one that is no source. Each worker passes the gate
 /// with its place, which holds the actor at the firing that it is about to compute.
 ///
-/// [`RunFault::Memory`] says that memory ran out, here or in a worker; [`RunFault::Worker`] that a worker
-/// could not be started or taken in; [`RunFault::Mixed`] does not come.
+/// [`RunFault::Memory`] says that memory ran out, here or in a worker; [`RunFault::Worker`] that a thread
+/// could not be started, which one worker alone asks for none of; [`RunFault::Mixed`] does not come.
 ///
 /// The outcome does not depend on the number of workers, but for the order of the journal, which is kept,
 /// and the peaks: see [`settle`]. Which worker makes which firing is open. Nor do the sinks of complete
@@ -380,6 +403,7 @@ pub fn run<R: Threads + Wait + Sync, G: Gate>(
     ensures rooms { IfOk result (IsAsInAnyRoom (program_for accepted.now (feeds_in feeds.now) periods firings)) }
     ensures complete { IfOk result (CompletesWhereAmple accepted.now (feeds_in feeds.now) periods firings) }
     ensures keeps { IfOk result (λ o. o.journal.keeps ≡ true) }
+    ensures cause { IfErr result (IsCauseAmong workers) }
 {
     let fed = Fed::copied(alloc, accepted, feeds)?;
     let request = Request::new(fed, workers, periods, firings);

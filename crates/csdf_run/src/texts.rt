@@ -1,11 +1,11 @@
 //! A run from texts to texts.
 
-ghost use Rattle.std.specs.Prelude.{◌≡◌, ◌++◌, ◌∷◌, ◌≤◌, [], Bool, Ok, IfErr, IfOk, OnOk, is_some, length, map, option_map, slice_index_or, string_bytes};
+ghost use Rattle.std.specs.Prelude.{◌≡◌, ◌++◌, ◌∷◌, ◌≤◌, ℕ, [], Bool, Ok, Err, IfErr, IfOk, OnOk, is_some, length, map, option_map, slice_index_or, string_bytes};
 ghost use Rattle.csdf_model.specs.Graph.{actor_view};
 ghost use Rattle.csdf_bytes.specs.TokenText.{token_line, token_text};
 ghost use Rattle.csdf_analysis.specs.Room.{HasSomePeriod};
 ghost use Rattle.csdf_core.specs.Planned.{is_source_kernel};
-ghost use Rattle.csdf_run.specs.Texts.{AreTextsOf, IsFeedFault, IsGraphRefusal, IsHandedBack, IsReadFault, IsRefusal, IsRunFault, MayGoOn, MayGraphGoOn, TellOutcome};
+ghost use Rattle.csdf_run.specs.Texts.{AreTextsOf, IsFeedFault, IsGraphRefusal, IsHandedBack, IsReadFault, IsRefusal, IsRunCause, MayGoOn, MayGraphGoOn, TellOutcome};
 ghost use Rattle.csdf_run.specs.Texts.{TellGraphRun, TellGraphSameInAnyRoom, TellRun, TellSameInAnyRoom, TellSequentialGraphRun, TellSequentialRun};
 ghost use Rattle.csdf_run.specs.Texts.{feed_in, feeds_from, sink_texts, source_count, texts_in, work_for};
 ghost use Rattle.csdf_floor.specs.declared.outcome.Outcome.{Outcome as OutcomeCode};
@@ -195,6 +195,7 @@ fn fed_of(alloc: Global, graph: Graph, texts: &[Vec<u8>], room: Room) -> Result<
     ensures read { IfOk result (λ fed. AreTextsOf room graph (texts_in texts.now) fed.accepted (feeds_in fed.feeds.items)) }
     ensures graph { IfErr result (λ unfed. IsHandedBack room graph unfed.graph) }
     ensures refused { IfErr result (λ unfed. IsGraphRefusal room graph (texts_in texts.now) unfed.fault) }
+    ensures cause { IfErr result (λ unfed. (n : ℕ) → IsRunCause n unfed.fault) }
 {
     let accepted = match accept_or_hand_back(alloc, graph, room) {
         Ok(accepted) => accepted,
@@ -289,6 +290,8 @@ fn texts_where(
     ensures told { (w : Work) → w.accepted.graph ≡ graph.now → IfOk outcome (IsOutcome w)
         → IfOk result (λ texts. (o : OutcomeCode) × TellOutcome w o texts) }
     ensures kept { (keeps : Bool) → IfOk outcome (λ o. o.journal.keeps ≡ keeps) → IfOk result (λ texts. is_some texts.journal ≡ keeps) }
+    ensures failed { IfErr outcome (λ why. result ≡ Err why) }
+    ensures memory { OnOk outcome (IfErr result (λ why. why ≡ RunFault.Memory)) }
 {
     let outcome = outcome?;
     let texts = texts_of(alloc, graph, &outcome)?;
@@ -304,7 +307,8 @@ fn told_of(
     ensures told { (w : Work) → w.accepted.graph ≡ graph.now → IfOk outcome (IsOutcome w)
         → IfOk result (λ texts. (o : OutcomeCode) × TellOutcome w o texts) }
     ensures kept { (keeps : Bool) → IfOk outcome (λ o. o.journal.keeps ≡ keeps) → IfOk result (λ texts. is_some texts.journal ≡ keeps) }
-    ensures failed { IfErr result IsRunFault }
+    ensures failed { IfErr outcome (λ why. result ≡ Err (TextsFault.Run why)) }
+    ensures memory { OnOk outcome (IfErr result (λ fault. fault ≡ TextsFault.Run RunFault.Memory)) }
 {
     match texts_where(alloc, graph, outcome) {
         Ok(texts) => Ok(texts),
@@ -339,6 +343,7 @@ pub fn run_texts<R: Threads + Wait + Sync>(
     ensures sequential { IfOk result (TellSequentialRun Room.Least graph.now (texts_in feeds.now) (Length.Periods periods) firings) }
     ensures rooms { IfOk result (TellSameInAnyRoom graph.now (texts_in feeds.now) (Length.Periods periods)) }
     ensures refused { IfErr result (IsRefusal Room.Least graph.now (texts_in feeds.now)) }
+    ensures cause { IfErr result (IsRunCause workers) }
 {
     let options = RunOptions {
         workers,
@@ -372,6 +377,7 @@ pub fn run_texts_with<R: Threads + Wait + Sync, G: Gate>(
     ensures rooms { IfOk result (TellSameInAnyRoom graph.now (texts_in feeds.now) options.how_long) }
     ensures kept { IfOk result (λ texts. is_some texts.journal ≡ is_kept options.keeping) }
     ensures refused { IfErr result (IsRefusal options.room graph.now (texts_in feeds.now)) }
+    ensures cause { IfErr result (IsRunCause options.workers) }
 {
     match read_graph(alloc, graph) {
         Ok(graph) => run_graph_with(rt, alloc, graph, feeds, options, gate),
@@ -399,6 +405,7 @@ pub fn run_graph_with<R: Threads + Wait + Sync, G: Gate>(
     ensures rooms { IfOk result (TellGraphSameInAnyRoom graph (texts_in feeds.now) options.how_long) }
     ensures kept { IfOk result (λ texts. is_some texts.journal ≡ is_kept options.keeping) }
     ensures refused { IfErr result (IsGraphRefusal options.room graph (texts_in feeds.now)) }
+    ensures cause { IfErr result (IsRunCause options.workers) }
 {
     let GraphRun { graph: _, texts } = run_and_hand_back(rt, alloc, graph, feeds, options, gate);
     texts
@@ -426,6 +433,7 @@ pub fn run_and_hand_back<R: Threads + Wait + Sync, G: Gate>(
     ensures rooms { IfOk result.texts (TellGraphSameInAnyRoom graph (texts_in feeds.now) options.how_long) }
     ensures kept { IfOk result.texts (λ texts. is_some texts.journal ≡ is_kept options.keeping) }
     ensures refused { IfErr result.texts (IsGraphRefusal options.room graph (texts_in feeds.now)) }
+    ensures cause { IfErr result.texts (IsRunCause options.workers) }
 {
     let (workers, firings) = (options.workers, options.firings);
     let fed = match fed_of(alloc, graph, feeds, options.room) {

@@ -1,6 +1,6 @@
 //! What the workers share behind the lock.
 
-ghost use Rattle.std.specs.Prelude.{◌≡◌, ◌<◌, ℕ, IfOk, IsTrue, OnOk, false};
+ghost use Rattle.std.specs.Prelude.{◌≡◌, ◌<◌, ℕ, IfOk, IsNone, IsSome, OnOk, false};
 ghost use Rattle.csdf_analysis.specs.Waking.{IsIn};
 ghost use Rattle.csdf_core.specs.Step.{IsQuiet};
 ghost use Rattle.csdf_floor.specs.Floor.{IsReady};
@@ -13,8 +13,8 @@ use crate::gate::Gate;
 use crate::hand::Hand;
 use crate::hints::Hints;
 use crate::policy::{HEAVY_BLOCK, Policy};
-use crate::run_floor::{Asked, Delivered, Made, RunFloor};
-use csdf_floor::{DeliverFault, StartFault};
+use crate::run_end::Quiet;
+use crate::run_floor::{Asked, Delivered, Made, NotStarted, NotTaken, RunFloor};
 use csdf_kernel::Job;
 use csdf_model::MAX_ACTORS;
 use std::alloc::Global;
@@ -46,7 +46,7 @@ pub(crate) struct Watched<K: Asked> {
 
 impl<K: Asked> Watched<K> {
     /// Starts the actor's firing.
-    fn start(&mut self, actor: u32, firing: u32, hand: &mut Hand) -> Result<(), StartFault>
+    fn start(&mut self, actor: u32, firing: u32, hand: &mut Hand) -> Result<(), NotStarted>
         ensures idle { hand.new.is_made ≡ false }
         ensures job { OnOk result ((hand.new.job.actor ≡ actor) × (hand.new.job.firing ≡ firing)) }
         ensures ready { OnOk result (IsReady hand.new.job) }
@@ -66,7 +66,7 @@ impl<K: Asked> Watched<K> {
         &mut self,
         next: Option<Claim>,
         hand: &mut Hand,
-    ) -> Result<bool, StartFault>
+    ) -> Result<bool, NotStarted>
         ensures idle { hand.new.is_made ≡ false }
         ensures started { IfOk result (λ is_started. IsStartOf next is_started hand.new.job) }
     {
@@ -87,7 +87,7 @@ impl<K: Asked> Watched<K> {
         &mut self,
         alloc: Global,
         hand: &Hand,
-    ) -> Result<Option<Delivered>, DeliverFault>
+    ) -> Result<Option<Delivered>, NotTaken>
         ensures { IfOk result (λ delivered. delivered ≡ claim_in hand.now) }
     {
         let delivered = self.floor.deliver(alloc, hand)?;
@@ -122,7 +122,7 @@ impl<K: Asked> Watched<K> {
         gate: &G,
         claim: Claim,
         hand: &mut Hand,
-    ) -> Result<Made, StartFault>
+    ) -> Result<Made, NotStarted>
         requires open { (a k : ℕ) → G.passed gate.now a k }
         ensures idle { hand.new.is_made ≡ false }
         ensures claim { IfOk result (λ made. made.claim ≡ claim) }
@@ -141,7 +141,7 @@ impl<K: Asked> Watched<K> {
         gate: &G,
         claim: Claim,
         hand: &mut Hand,
-    ) -> Result<Made, StartFault>
+    ) -> Result<Made, NotStarted>
         requires open { (a k : ℕ) → G.passed gate.now a k }
         ensures idle { hand.new.is_made ≡ false }
         ensures claim { IfOk result (λ made. made.claim ≡ claim) }
@@ -182,22 +182,22 @@ impl<K: Asked> Watched<K> {
         self.policy.spare(self.hints.ready())
     }
 
-    /// Whether no firing is under way and none can begin. The core, which looks at all actors, is asked
-    /// only where no firing is under way and no actor is hinted; if one can begin all the same, all that
-    /// can are hinted from then on.
-    pub(crate) fn is_over(&mut self) -> bool
+    /// That no firing is under way and none can begin, where it is so. The core, which looks at all actors,
+    /// is asked only where no firing is under way and no actor is hinted; if one can begin all the same, all
+    /// that can are hinted from then on.
+    pub(crate) fn is_over(&mut self) -> Option<Quiet>
         ensures floor { self.new.floor ≡ self.old.floor }
-        ensures over { IsTrue result → IsQuiet self.new.floor.floor.core.plan self.new.floor.floor.core.now }
-        ensures looked { self.old.running ≡ 0 → self.old.hints.ready ≡ 0 → result ≡ false
+        ensures over { IsSome result → IsQuiet self.new.floor.floor.core.plan self.new.floor.floor.core.now }
+        ensures looked { self.old.running ≡ 0 → self.old.hints.ready ≡ 0 → IsNone result
             → (a : ℕ) → a < MAX_ACTORS → CanBegin self.new.floor.floor.core a → IsIn self.new.hints.ready a }
     {
         if self.running != 0 || self.hints.ready() != 0 {
-            return false;
+            return None;
         }
         if self.floor.core().is_quiet() {
-            return true;
+            return Some(Quiet::of(self.floor.core()));
         }
         self.hints.look_at_all(self.floor.core());
-        false
+        None
     }
 }

@@ -1,27 +1,30 @@
 //! What one worker does.
 
-ghost use Rattle.std.specs.Prelude.{◌≡◌, ◌<◌, ℕ, None, Some, IfOk, IsTrue, OnOk, false, true};
+ghost use Rattle.std.specs.Prelude.{◌≡◌, ◌<◌, ℕ, None, Some, IfErr, IfOk, IsTrue, OnOk, false, true};
 ghost use Rattle.csdf_claims.specs.Board.{HasFinished};
 ghost use Rattle.csdf_floor.specs.Floor.{IsReady};
+ghost use Rattle.csdf_floor.specs.declared.fault.RunFault.TheVariants.{Memory};
 ghost use Rattle.csdf_run.specs.Hand.{claim_for, claim_if, claim_in};
 ghost use Rattle.csdf_run.specs.Workers.{HasMade, HoldsJust, HoldsNothing, IsActor, IsStartOf};
 
 use crate::claims::{Claim, claim_among, finish, finish_block, give_back};
 use crate::gate::Gate;
+use crate::gave_up::{GaveUp, refused, unevaluated, untaken};
 use crate::hall::{BlockTurn, Hall, Turn};
 use crate::hand::Hand;
-use crate::run_floor::Asked;
+use crate::run_end::{EndCause, RunEnd};
+use crate::run_floor::{Asked, NotStarted};
+use crate::told::Told;
 use crate::watched::Stand;
 use csdf_claims::{Board, Place};
-use csdf_floor::{DeliverFault, RunFault, StartFault};
 use std::alloc::Global;
 use std::sync::Wait;
 
-/// A worker's place at its end, and why it gave up if it did.
+/// A worker's place at its end, and the end of the run that it saw, or why it gave up.
 #[derive(Drop)]
 pub(crate) struct Ended {
     pub(crate) place: Place,
-    pub(crate) answer: Result<(), RunFault>,
+    pub(crate) answer: Result<RunEnd, GaveUp>,
 }
 
 /// Claims the firing to start next, beside what is held: of those who can begin, or else of those who may
@@ -53,26 +56,15 @@ fn claim_next<K: Asked>(
     claim_among(board, place, beside, stand.next)
 }
 
-/// What a worker whose start was refused answers: nothing is made, or it gives up.
-fn refused(fault: StartFault) -> Result<bool, RunFault>
-    ensures { IfOk result (λ gets_on. gets_on ≡ false) }
-{
-    match fault {
-        StartFault::Refused(_) => Ok(false),
-        StartFault::Memory => Err(RunFault::Memory),
-        StartFault::Unknown | StartFault::Moved(_) => Err(RunFault::Mixed),
-    }
-}
-
 /// What becomes of a claim once a start was tried: that of a job which was started is held, and one that was
 /// refused is given up.
 fn settle_start(
     board: &Board,
     place: &mut Place,
     next: Option<Claim>,
-    started: Result<bool, StartFault>,
+    started: Result<bool, NotStarted>,
     hand: &Hand,
-) -> Result<bool, RunFault>
+) -> Result<bool, GaveUp>
     requires place { place.old.board ≡ board.now.id }
     requires actor { IsActor board.now.actors next }
     requires holds { HoldsJust place.old.view None next }
@@ -90,23 +82,24 @@ fn settle_start(
     give_back(board, place, next);
     match started {
         Ok(_) => Ok(false),
-        Err(fault) => refused(fault),
+        Err(why) => refused(why),
     }
 }
 
 /// Delivers what is in hand and starts what is claimed, in one hold of the lock. Behind it the claims end:
 /// what was given is finished, and what was refused is given up. Only then another worker is woken. True
 /// where a job was started, which is then in hand.
-fn turn<K: Asked, R: Wait>(
+fn turn<K: Asked, R: Wait, G: Told>(
     rt: &R,
     alloc: Global,
     hall: &Hall<K>,
     board: &Board,
+    gate: &G,
     place: &mut Place,
     stand: &mut Stand,
     hand: &mut Hand,
     next: Option<Claim>,
-) -> Result<bool, RunFault>
+) -> Result<bool, GaveUp>
     requires place { place.old.board ≡ board.now.id }
     requires given { IsActor board.now.actors (claim_in hand.old) }
     requires next { IsActor board.now.actors next }
@@ -125,10 +118,9 @@ fn turn<K: Asked, R: Wait>(
     } = hall.turn(rt, alloc, place, stand, hand, next);
     let delivered = match delivered {
         Ok(delivered) => delivered,
-        Err(DeliverFault::Memory) => return Err(RunFault::Memory),
-        Err(DeliverFault::Stranger) => return Err(RunFault::Mixed),
+        Err(why) => return Err(untaken(why)),
     };
-    finish(board, place, delivered, next);
+    finish(board, gate, place, delivered, next);
     let answer = settle_start(board, place, next, started, hand);
     if wakes {
         hall.wake();
@@ -150,32 +142,28 @@ fn pass<G: Gate>(board: &Board, gate: &G, place: &mut Place, hand: &Hand)
 }
 
 /// Passes the gate and evaluates the job in hand.
-fn fire<G: Gate>(
-    board: &Board,
-    gate: &G,
-    place: &mut Place,
-    hand: &mut Hand,
-) -> Result<(), RunFault>
+fn fire<G: Gate>(board: &Board, gate: &G, place: &mut Place, hand: &mut Hand) -> Result<(), GaveUp>
     requires place { place.old.board ≡ board.now.id }
     requires holds { HoldsJust place.old.view None (Some (claim_for hand.old.job)) }
     requires ready { IsReady hand.old.job }
     ensures board { place.new.board ≡ board.now.id }
     ensures job { hand.new.job ≡ hand.old.job }
     ensures made { OnOk result (hand.new.is_made ≡ true) }
+    ensures cause { IfErr result (λ fault. fault ≡ Memory) }
     ensures holds { HoldsJust place.new.view (Some (claim_for hand.old.job)) None }
     ensures finished { (a k : ℕ) → HasFinished place.old.view a k → HasFinished place.new.view a k }
 {
     pass(board, gate, place, hand);
     match hand.evaluate(gate) {
         Ok(()) => Ok(()),
-        Err(_error) => Err(RunFault::Memory),
+        Err(error) => Err(unevaluated(error)),
     }
 }
 
 /// Makes firings of an actor one after another, the claimed one first, in one hold of the lock. Behind it
 /// the claim ends: what was made is finished, and a claim that was refused is given up. Only then another
 /// worker is woken. True where some were made.
-fn make<K: Asked, R: Wait, G: Gate>(
+fn make<K: Asked, R: Wait, G: Told>(
     rt: &R,
     hall: &Hall<K>,
     board: &Board,
@@ -184,7 +172,7 @@ fn make<K: Asked, R: Wait, G: Gate>(
     stand: &mut Stand,
     hand: &mut Hand,
     claim: Claim,
-) -> Result<bool, RunFault>
+) -> Result<bool, GaveUp>
     requires place { place.old.board ≡ board.now.id }
     requires actor { claim.actor < board.now.actors }
     requires holds { HoldsJust place.old.view None (Some claim) }
@@ -196,14 +184,12 @@ fn make<K: Asked, R: Wait, G: Gate>(
     let BlockTurn { made, wakes } = hall.make(rt, gate, place, stand, hand, claim);
     let answer = match made {
         Ok(made) => {
-            let count = made.count();
-            finish_block(board, place, made);
-            gate.has_made(count);
+            finish_block(board, gate, place, made);
             Ok(true)
         }
-        Err(fault) => {
+        Err(why) => {
             give_back(board, place, Some(claim));
-            refused(fault)
+            refused(why)
         }
     };
     if wakes {
@@ -212,16 +198,9 @@ fn make<K: Asked, R: Wait, G: Gate>(
     answer
 }
 
-/// Tells that a firing was delivered, where one was.
-fn tell_delivered<G: Gate>(gate: &G, given: Option<Claim>) {
-    if given.is_some() {
-        gate.has_made(1);
-    }
-}
-
 /// Delivers what is in hand, and makes the next firing, up to its delivery, or some firings one after
 /// another, where one can be had. True where some firing was started or made.
-fn advance<K: Asked, R: Wait, G: Gate>(
+fn advance<K: Asked, R: Wait, G: Told>(
     rt: &R,
     alloc: Global,
     hall: &Hall<K>,
@@ -230,7 +209,7 @@ fn advance<K: Asked, R: Wait, G: Gate>(
     place: &mut Place,
     stand: &mut Stand,
     hand: &mut Hand,
-) -> Result<bool, RunFault>
+) -> Result<bool, GaveUp>
     requires place { place.old.board ≡ board.now.id }
     requires actor { IsActor board.now.actors (claim_in hand.old) }
     requires holds { HoldsJust place.old.view (claim_in hand.old) None }
@@ -251,16 +230,16 @@ fn advance<K: Asked, R: Wait, G: Gate>(
             return make(rt, hall, board, gate, place, stand, hand, claim);
         }
     }
-    let is_started = turn(rt, alloc, hall, board, place, stand, hand, next)?;
-    tell_delivered(gate, given);
-    if is_started {
-        fire(board, gate, place, hand)?;
+    let is_started = turn(rt, alloc, hall, board, gate, place, stand, hand, next)?;
+    if !is_started {
+        return Ok(false);
     }
-    Ok(is_started)
+    fire(board, gate, place, hand)?;
+    Ok(true)
 }
 
 /// Makes firings until the floor is quiet or a worker has given up.
-pub(crate) fn work<K: Asked, R: Wait, G: Gate>(
+pub(crate) fn work<K: Asked, R: Wait, G: Told>(
     rt: &R,
     alloc: Global,
     hall: &Hall<K>,
@@ -282,12 +261,17 @@ pub(crate) fn work<K: Asked, R: Wait, G: Gate>(
             rt, alloc, hall, board, gate, &mut place, &mut stand, &mut hand,
         ) {
             Ok(gets_on) => {
-                if is_idle && !gets_on && hall.wait(rt, &mut stand) {
-                    break;
+                if is_idle && !gets_on {
+                    if let Some(end) = hall.wait(rt, &mut stand) {
+                        return Ended {
+                            place,
+                            answer: Ok(end),
+                        };
+                    }
                 }
             }
             Err(fault) => {
-                hall.give_up(rt);
+                hall.give_up(rt, EndCause::GaveUp(&fault));
                 return Ended {
                     place,
                     answer: Err(fault),
@@ -295,8 +279,5 @@ pub(crate) fn work<K: Asked, R: Wait, G: Gate>(
             }
         }
     }
-    Ended {
-        place,
-        answer: Ok(()),
-    }
+    unreachable!()
 }

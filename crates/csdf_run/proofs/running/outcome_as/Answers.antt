@@ -1,8 +1,17 @@
-use Rattle.std.proofs.Common.{◌≡◌, subst, sym, ◌∙◌}
+use Rattle.std.proofs.Common.{◌≡◌, ℕ, subst, sym, ◌∙◌}
 use Rattle.std.specs.Prelude.{Bool, IfOk}
+use Rattle.csdf_run.proofs.RunFaults.{settled_cause, where_ok}
 use Rattle.csdf_run.proofs.running.outcome_as.Goals as goal
 
 pub returns-in-Ok-run_hall-clause-keeps : goal.returns-in-Ok-run_hall-clause-keeps
 returns-in-Ok-run_hall-clause-keeps g c =
     subst (λ (b : Bool). IfOk c.settle_and_hand_back.result.outcome (λ o. o.journal.keeps ≡ b)) (c.into_floor.ensures.keeps ∙ sym c.requires.keeps)
     c.settle_and_hand_back.ensures.keeps
+
+pub returns-in-Ok-run_hall-clause-cause : goal.returns-in-Ok-run_hall-clause-cause
+returns-in-Ok-run_hall-clause-cause g c = settled_cause _ _ c.args.request.workers c.settle_and_hand_back.ensures.answer
+
+pub returns-in-Ok-run_hall-clause-most : goal.returns-in-Ok-run_hall-clause-most
+returns-in-Ok-run_hall-clause-most g c =
+    where_ok _ c.settle_and_hand_back.result.outcome
+    (subst (λ (n : ℕ). g.G.Told.knows_most c.args.gate.now n) c.most_firings-most.ensures c.tell_most.ensures)

@@ -1,5 +1,5 @@
 use Rattle.std.proofs.lemmas.Grind.{common_steps}
-use Rattle.std.proofs.Common.{◌≡◌, List, Result, Ok, ap, ap₂, subst, ◌∙◌, arith}
+use Rattle.std.proofs.Common.{◌≡◌, List, Result, Ok, ap₂, subst, ◌∙◌, arith}
 use Rattle.std.specs.Prelude.{ℤ, IfOk, true}
 use Rattle.csdf_analysis.specs.Acceptance.{Accepted}
 use Rattle.csdf_floor.specs.declared.fault.RunFault.{RunFault}
@@ -15,8 +15,8 @@ module _ (g : Over) (c : In_ok-outcome g) where
   abbrev asked : Work
   asked = work_for c.args.accepted.now (feeds_in c.args.feeds.now) c.args.periods c.args.firings
 
-  is_asked : c.new-request.result ≡ asked
-  is_asked = c.new-request.ensures
+  is_asked : c.new-request.result.work ≡ asked
+  is_asked = c.new-request.ensures.work
       ∙ ap₂ (λ (a : Accepted) (fs : List (List ℤ)). work_for a fs c.args.periods c.args.firings) c.in_ok-fed.ensures.accepted c.in_ok-fed.ensures.feeds
 
   is_there : c.outcome_of-outcome.result.outcome ≡ Ok c.in_ok-outcome.outcome
@@ -26,7 +26,7 @@ module _ (g : Over) (c : In_ok-outcome g) where
   here P = subst (λ (r : Result Outcome RunFault). IfOk r P) is_there
 
   outcome : IsOutcome asked c.in_ok-outcome.outcome
-  outcome = subst (λ (w : Work). IsOutcome w c.in_ok-outcome.outcome) is_asked (here (IsOutcome c.new-request.result) c.outcome_of-outcome.ensures.outcome)
+  outcome = subst (λ (w : Work). IsOutcome w c.in_ok-outcome.outcome) is_asked (here (IsOutcome c.new-request.result.work) c.outcome_of-outcome.ensures.outcome)
 
 pub returns-clause-honest : goal.returns-clause-honest
 returns-clause-honest g c = (outcome g (goal.at.returns-clause-honest g c).In_ok-outcome).honest

@@ -3,6 +3,7 @@ use Rattle.std.proofs.lemmas.List.{length-map}
 use Rattle.std.specs.Global.{Vec}
 use Rattle.csdf_model.specs.Graph.{Graph}
 use Rattle.csdf_run.specs.Texts.{feeds_from, source_count, texts_in}
+use Rattle.csdf_run.proofs.RunFaults.{feed_cause}
 use Rattle.csdf_run.proofs.texts.fed_of.Goals as goal
 
 pub returns-in-Ok-counted_feeds-clause-read : goal.returns-in-Ok-counted_feeds-clause-read
@@ -19,3 +20,6 @@ returns-in-Err-counted_feeds-clause-graph c =
 
 pub returns-in-Err-clause-graph : goal.returns-in-Err-clause-graph
 returns-in-Err-clause-graph c = inl c.in-Err.ensures.unchanged
+
+pub returns-in-Err-counted_feeds-clause-cause : goal.returns-in-Err-counted_feeds-clause-cause
+returns-in-Err-counted_feeds-clause-cause c = feed_cause c.graph.result.now.actors (texts_in c.args.texts.now) c.in-Err-counted_feeds.fault c.in-Err-counted_feeds.ensures.refused

@@ -11,17 +11,8 @@ turn-requires-clause-holds g c = search rules
 pub returns-then-makes_blocks-clause-rests : goal.returns-then-makes_blocks-clause-rests
 returns-then-makes_blocks-clause-rests g c = grind (arith, common_steps)
 
-pub returns-in_ok-fire-clause-holds : goal.returns-in_ok-fire-clause-holds
-returns-in_ok-fire-clause-holds g c = grind (arith, common_steps)
-
-pub returns-in_ok-fire-clause-made : goal.returns-in_ok-fire-clause-made
-returns-in_ok-fire-clause-made g c = grind (arith, common_steps)
-
 pub fire-requires-clause-ready : goal.fire-requires-clause-ready
 fire-requires-clause-ready g c = grind (arith, common_steps)
-
-pub returns-else-is_started-clause-holds : goal.returns-else-is_started-clause-holds
-returns-else-is_started-clause-holds g c = grind (arith, common_steps)
 
 pub returns-then-makes_blocks-clause-actor : goal.returns-then-makes_blocks-clause-actor
 returns-then-makes_blocks-clause-actor g c = grind (arith, common_steps)
@@ -35,26 +26,11 @@ returns-then-makes_blocks-clause-made g c = grind (arith, common_steps)
 pub returns-in_default-clause-holds : goal.returns-in_default-clause-holds
 returns-in_default-clause-holds g c = grind (arith, common_steps)
 
-pub returns-in_ok-fire-clause-actor : goal.returns-in_ok-fire-clause-actor
-returns-in_ok-fire-clause-actor g c = grind (arith, common_steps)
-
-pub returns-else-is_started-clause-actor : goal.returns-else-is_started-clause-actor
-returns-else-is_started-clause-actor g c = grind (arith, common_steps)
-
 pub returns-in_default-clause-made : goal.returns-in_default-clause-made
 returns-in_default-clause-made g c = grind (arith, common_steps)
-
-pub returns-in_ok-fire-clause-rests : goal.returns-in_ok-fire-clause-rests
-returns-in_ok-fire-clause-rests g c = grind (arith, common_steps)
 
 pub turn-requires-clause-next : goal.turn-requires-clause-next
 turn-requires-clause-next g c = grind (arith, common_steps)
 
 pub returns-in_default-clause-rests : goal.returns-in_default-clause-rests
 returns-in_default-clause-rests g c = grind (arith, common_steps)
-
-pub returns-else-is_started-clause-rests : goal.returns-else-is_started-clause-rests
-returns-else-is_started-clause-rests g c = grind (arith, common_steps)
-
-pub returns-in_ok-fire-clause-board : goal.returns-in_ok-fire-clause-board
-returns-in_ok-fire-clause-board g c = grind (arith, common_steps)

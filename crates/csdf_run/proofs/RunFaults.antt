@@ -1,0 +1,60 @@
+-- Why a run has no outcome, as it is told of texts.
+use Rattle.std.proofs.Common.{◌≡◌, ℕ, List, Option, Some, None, Result, Ok, Err, sym, ap, subst}
+use Rattle.std.specs.Prelude.{IfErr, IfOk, OnOk}
+use Rattle.csdf_floor.specs.declared.fault.RunFault.{RunFault}
+use Rattle.csdf_floor.specs.declared.fault.RunFault.TheVariants.{Memory, Mixed, Worker}
+use Rattle.csdf_floor.specs.declared.fault.StartFault.{StartFault}
+use Rattle.csdf_floor.specs.Floor.{IsStartAnswer}
+use Rattle.csdf_floor.specs.Outcome.{IsSettleAnswer}
+use Rattle.csdf_model.specs.Graph.{Actor}
+use Rattle.csdf_run.specs.declared.texts.TextsFault.{TextsFault}
+use Rattle.csdf_run.specs.declared.texts.TextsFault.TheVariants as fault
+use Rattle.csdf_run.specs.Causes.{IsCauseAmong}
+use Rattle.csdf_run.specs.Texts.{IsFeedFault, IsRunCause}
+use Rattle.csdf_run.specs.Workers.{Block}
+
+-- a start that is refused answers alike, whether it would have given a number of firings or a block
+pub start_answer_as : (first : Option StartFault) (fault : StartFault) → IsStartAnswer {T = ℕ} first (Err fault) → IsStartAnswer {T = Block} first (Err fault)
+start_answer_as (Some why) fault h = let e : fault ≡ why = cc in ap Err e
+start_answer_as None fault h = h
+
+-- what is wrong with the texts is no fault of the run
+pub feed_cause : (actors : List Actor) (texts : List (List ℕ)) (why : TextsFault) → IsFeedFault actors texts why → (n : ℕ) → IsRunCause n why
+feed_cause actors texts fault.FeedCount h n = tt
+feed_cause actors texts (fault.Feed a why) h n = tt
+feed_cause actors texts (fault.Graph why) h n = tt
+feed_cause actors texts (fault.Accept why) h n = tt
+feed_cause actors texts (fault.Run why) h n = absurd h
+
+-- what a settled run answers is no thread's fault
+pub settled_cause : {T : Type 0} → (end : Type 0) (result : Result T RunFault) (n : ℕ) → IsSettleAnswer end result → IfErr result (IsCauseAmong n)
+settled_cause end (Ok o) n h = tt
+settled_cause end (Err Mixed) n h = tt
+settled_cause end (Err Memory) n h = tt
+settled_cause end (Err Worker) n h = absurd h
+
+-- the run has no outcome
+abbrev pub IsRunFault : TextsFault → Type 0
+IsRunFault told = (why : RunFault) × (told ≡ fault.Run why)
+
+-- what is told where there is an outcome, and where there is none
+pub is_run_fault : {A B : Type 0} → (outcome : Result A RunFault) (told : Result B TextsFault) → IfErr outcome (λ why. told ≡ Err (fault.Run why))
+    → OnOk outcome (IfErr told (λ f. f ≡ fault.Run Memory)) → IfErr told IsRunFault
+is_run_fault (Ok o) (Ok t) failed memory = tt
+is_run_fault (Ok o) (Err f) failed memory = (Memory, memory)
+is_run_fault (Err why) (Ok t) failed memory = tt
+is_run_fault (Err why) (Err f) failed memory = (why, cc)
+
+pub is_run_cause : {A B : Type 0} → (workers : ℕ) (outcome : Result A RunFault) (told : Result B TextsFault)
+    → IfErr outcome (λ why. told ≡ Err (fault.Run why)) → OnOk outcome (IfErr told (λ f. f ≡ fault.Run Memory)) → IfErr outcome (IsCauseAmong workers)
+    → IfErr told (IsRunCause workers)
+is_run_cause workers (Ok o) (Ok t) failed memory cause = tt
+is_run_cause workers (Ok o) (Err f) failed memory cause = subst (IsRunCause workers) (sym memory) tt
+is_run_cause workers (Err why) (Ok t) failed memory cause = tt
+is_run_cause workers (Err why) (Err f) failed memory cause =
+    let e : f ≡ fault.Run why = cc in subst (IsRunCause workers) (sym e) cause
+
+-- what holds at any rate holds where there is an outcome
+pub where_ok : {A E : Type 0} → (P : Type 0) (result : Result A E) → P → IfOk result (λ _. P)
+where_ok P (Ok x) p = p
+where_ok P (Err e) p = tt
