@@ -3,6 +3,7 @@ pub mod Carried
 pub mod Ends
 pub mod Explaining
 pub mod GraphFiles
+pub mod Places
 pub mod Refused
 pub mod Reports
 pub mod Running
