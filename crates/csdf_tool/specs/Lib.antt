@@ -8,4 +8,5 @@ pub mod Refused
 pub mod Reports
 pub mod Running
 pub mod SystemCalls
+pub mod Telling
 pub mod TokenFiles

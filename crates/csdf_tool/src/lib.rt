@@ -18,6 +18,7 @@ mod refused;
 mod report;
 mod run_files;
 mod system;
+mod telling;
 
 pub use disk::{Disk, HostDisk};
 pub use place::{Node, Place};
