@@ -26,6 +26,7 @@ IsOfFile fault.TooLong = ⊥
 IsOfFile (fault.TokenSyntax name line) = ⊥
 IsOfFile (fault.TokenRange name line) = ⊥
 IsOfFile (fault.TooManyTokens name) = ⊥
+IsOfFile (fault.InUse name) = ⊥
 IsOfFile fault.Mixed = ⊥
 IsOfFile fault.Worker = ⊥
 IsOfFile (fault.Device d) = ⊥

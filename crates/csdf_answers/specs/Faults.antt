@@ -15,7 +15,7 @@ use Rattle.csdf_answers.specs.declared.fault.Stream.TheVariants.{Input, Output, 
 use Rattle.csdf_answers.specs.Printed.{name_at}
 use Rattle.csdf_answers.specs.declared.fault.ToolFault.{ToolFault}
 use Rattle.csdf_answers.specs.declared.fault.ToolFault.TheVariants.{Graph, Line, Unbalanced, TooLarge, Deadlock, TooTight, TooLong}
-use Rattle.csdf_answers.specs.declared.fault.ToolFault.TheVariants.{TokenSyntax, TokenRange, TooManyTokens, Mixed, Worker, Device, Memory}
+use Rattle.csdf_answers.specs.declared.fault.ToolFault.TheVariants.{TokenSyntax, TokenRange, TooManyTokens, InUse, Mixed, Worker, Device, Memory}
 
 -- ---- texts
 
@@ -55,6 +55,7 @@ reason_text TooLong = codes "input too long"
 reason_text (TokenSyntax name line) = codes "tokens " ++ name ++ end_text (end.Syntax line)
 reason_text (TokenRange name line) = codes "tokens " ++ name ++ end_text (end.Range line)
 reason_text (TooManyTokens name) = codes "tokens " ++ name ++ codes ": too many"
+reason_text (InUse name) = codes "file in use: " ++ name
 reason_text Mixed = codes "run: mixed"
 reason_text Worker = codes "run: worker"
 reason_text (Device stream) = codes "device: " ++ stream_text stream
@@ -108,7 +109,7 @@ abbrev pub Tells : {X Y : Type 0} → (X → Y) → Result X ToolFault → (Resu
 Tells view (Ok x) Allows = Allows (Ok (view x))
 Tells view (Err fault) Allows = fault ≢ Memory → Allows (Err fault)
 
--- the exit status: 1 where an input was refused, 3 where a device, memory or a run failed
+-- the exit status: 1 where an input was refused, 2 where the files of the command line are, 3 where a device, memory or a run failed
 abbrev pub status_of : ToolFault → ℕ
 status_of (Graph fault) = 1
 status_of (Line n) = 1
@@ -120,6 +121,7 @@ status_of TooLong = 1
 status_of (TokenSyntax name line) = 1
 status_of (TokenRange name line) = 1
 status_of (TooManyTokens name) = 1
+status_of (InUse name) = 2
 status_of Mixed = 3
 status_of Worker = 3
 status_of (Device d) = 3

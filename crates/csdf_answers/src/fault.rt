@@ -178,6 +178,8 @@ pub enum ToolFault {
     TokenRange(Name, u32),
     /// The source's token file has more than 1,000,000 tokens or 16,777,216 bytes.
     TooManyTokens(Name),
+    /// The file of this name, which a run is to write, is another of its files too.
+    InUse(Name),
     /// What came out of a run does not belong together.
     Mixed,
     /// A worker could not be started or taken in.
@@ -270,6 +272,7 @@ fn parts_of<'a>(fault: &'a ToolFault) -> Parts<'a>
         ToolFault::TokenSyntax(name, line) => of_tokens(name, Detail::End(LineEnd::Syntax(*line))),
         ToolFault::TokenRange(name, line) => of_tokens(name, Detail::End(LineEnd::Range(*line))),
         ToolFault::TooManyTokens(name) => of_tokens(name, Detail::Words(": too many")),
+        ToolFault::InUse(name) => named("file in use: ", name.as_str()),
         ToolFault::Mixed => named("run: mixed", ""),
         ToolFault::Worker => named("run: worker", ""),
         ToolFault::Device(stream) => named("device: ", stream.as_str()),
@@ -309,7 +312,8 @@ impl fmt::Display for ToolFault {
 }
 
 impl ToolFault {
-    /// The exit status: 1 where an input was refused, 3 where a device, memory or a run failed.
+    /// The exit status: 1 where an input was refused, 2 where the files of the command line are, 3 where a
+    /// device, memory or a run failed.
     pub fn status(&self) -> u8
         ensures { result ≡ status_of self.now }
     {
@@ -324,6 +328,7 @@ impl ToolFault {
             | ToolFault::TokenSyntax(_, _)
             | ToolFault::TokenRange(_, _)
             | ToolFault::TooManyTokens(_) => 1,
+            ToolFault::InUse(_) => 2,
             ToolFault::Mixed | ToolFault::Worker | ToolFault::Device(_) | ToolFault::Memory => 3,
         }
     }

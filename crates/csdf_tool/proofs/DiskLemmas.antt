@@ -28,7 +28,7 @@ asks_more (Some done) b c xs ys p q =
 
 -- ---- only reads
 
-both_read : (xs ys : List Act) → AllByRecursion IsRead xs → AllByRecursion IsRead ys → AllByRecursion IsRead (xs ++ ys)
+pub both_read : (xs ys : List Act) → AllByRecursion IsRead xs → AllByRecursion IsRead ys → AllByRecursion IsRead (xs ++ ys)
 both_read [] ys p q = q
 both_read (x ∷ xs) ys p q = (p.0, both_read xs ys p.1 q)
 
@@ -63,14 +63,10 @@ pub only_feeds : (a b : Option (List Act)) (folder : List ℕ) (actors : List Ac
     → OnlyReads a b
 only_feeds a b folder actors texts p = (feed_reads folder actors texts, rows_read (zip (feed_paths folder actors) texts), p)
 
-pub only_run : (a b : Option (List Act)) (order : Order) (g : Graph) (bytes : List ℕ) (feeds : List (List ℕ)) → Asks a b (run_reads order g bytes feeds)
-    → OnlyReads a b
-only_run a b order g bytes feeds p = (
-  run_reads order g bytes feeds,
-  both_read (graph_reads order.graph bytes) (feed_reads order.folder g.actors feeds) (graph_read order.graph bytes)
-      (rows_read (zip (feed_paths order.folder g.actors) feeds)),
-  p,
-)
+pub run_read : (order : Order) (g : Graph) (bytes : List ℕ) (feeds : List (List ℕ)) → AllByRecursion IsRead (run_reads order g bytes feeds)
+run_read order g bytes feeds =
+    both_read (graph_reads order.graph bytes) (feed_reads order.folder g.actors feeds) (graph_read order.graph bytes)
+    (rows_read (zip (feed_paths order.folder g.actors) feeds))
 
 -- ---- one source after another
 

@@ -10,7 +10,7 @@ use Rattle.csdf_words.specs.declared.command.Unread.{Unread}
 use Rattle.csdf_words.specs.declared.command.Unread.TheVariants as unread
 use Rattle.csdf_words.specs.CommandLine.{Asked, IsUnread, program, words_ask}
 use Rattle.csdf_tool.specs.Acts.{Devices}
-use Rattle.csdf_tool.specs.Ends.{AreTaken, Ended, Ending, EndsAs, EndsBy, EndsFor, EndsForOneOf, EndsHelp, EndsInForm, EndsTelling, EndsTold, EndsUnread, TellsLine}
+use Rattle.csdf_tool.specs.Ends.{AreTaken, Ended, Ending, EndsAs, EndsBy, EndsFor, EndsForOneOf, EndsHelp, EndsInForm, EndsInUse, EndsTelling, EndsTold, EndsUnread, TellsLine, told_in}
 use Rattle.std.specs.Io.KnownBytes.{Appends}
 use Rattle.csdf_answers.specs.declared.fault.Stream.TheVariants.{Output}
 use Rattle.csdf_answers.specs.declared.question.Form.{Form}
@@ -23,31 +23,33 @@ use Rattle.csdf_tool.proofs.CauseLemmas.{output_or_not}
 
 -- ---- statuses
 
--- a fault ends with status 1 or 3
-one_or_three : (f : ToolFault) → (status_of f ≡ 1) ⊎ (status_of f ≡ 3)
-one_or_three (fault.Graph g) = inl refl
-one_or_three (fault.Line n) = inl refl
-one_or_three (fault.Unbalanced name) = inl refl
-one_or_three (fault.TooLarge name) = inl refl
-one_or_three fault.Deadlock = inl refl
-one_or_three fault.TooTight = inl refl
-one_or_three fault.TooLong = inl refl
-one_or_three (fault.TokenSyntax name line) = inl refl
-one_or_three (fault.TokenRange name line) = inl refl
-one_or_three (fault.TooManyTokens name) = inl refl
-one_or_three fault.Mixed = inr refl
-one_or_three fault.Worker = inr refl
-one_or_three (fault.Device d) = inr refl
-one_or_three fault.Memory = inr refl
+-- a fault ends with status 1, 2 or 3
+one_to_three : (f : ToolFault) → (status_of f ≡ 1) ⊎ ((status_of f ≡ 2) ⊎ (status_of f ≡ 3))
+one_to_three (fault.Graph g) = inl refl
+one_to_three (fault.Line n) = inl refl
+one_to_three (fault.Unbalanced name) = inl refl
+one_to_three (fault.TooLarge name) = inl refl
+one_to_three fault.Deadlock = inl refl
+one_to_three fault.TooTight = inl refl
+one_to_three fault.TooLong = inl refl
+one_to_three (fault.TokenSyntax name line) = inl refl
+one_to_three (fault.TokenRange name line) = inl refl
+one_to_three (fault.TooManyTokens name) = inl refl
+one_to_three (fault.InUse name) = inr (inl refl)
+one_to_three fault.Mixed = inr (inr refl)
+one_to_three fault.Worker = inr (inr refl)
+one_to_three (fault.Device d) = inr (inr refl)
+one_to_three fault.Memory = inr (inr refl)
 
-not_zero : (n status : ℕ) → status ≡ n → (n ≡ 1) ⊎ (n ≡ 3) → status ≡ 0 → ⊥
+not_zero : (n status : ℕ) → status ≡ n → (n ≡ 1) ⊎ ((n ≡ 2) ⊎ (n ≡ 3)) → status ≡ 0 → ⊥
 not_zero n status is (inl one) zero = omega (arith, is, one, zero)
-not_zero n status is (inr three) zero = omega (arith, is, three, zero)
+not_zero n status is (inr (inl two)) zero = omega (arith, is, two, zero)
+not_zero n status is (inr (inr three)) zero = omega (arith, is, three, zero)
 
 -- ---- the line beside a status
 
 -- a line that tells a fault, where it was put or the device failed
-pub tells_line : (form : Form) (f : ToolFault) (line : List ℕ) (before after : Option (List ℕ)) (failed : Bool) → TellsFault form f line
+pub tells_line : (form : Form) (f : ToolFault) (line : List ℕ) (before after : Option (List ℕ)) (failed : Bool) → TellsFault (told_in form f) f line
     → Appends before after line ⊎ (failed ≡ true) → TellsLine form f before after failed
 tells_line form f line before after failed told (inl put) = inl (line, told, put)
 tells_line form f line before after failed told (inr gone) = inr gone
@@ -67,7 +69,7 @@ module _ {form : Form} {status : ℕ} {before after : Option (List ℕ)} {failed
   at_zero (Ok u) P h zero p = p
   at_zero (Err f) P h zero p =
       let told = ends_as f h.by in
-      absurd (not_zero (status_of told.0) status told.1.ends (one_or_three told.0) zero)
+      absurd (not_zero (status_of told.0) status told.1.ends (one_to_three told.0) zero)
 
   -- a failure of standard output ends with status 3
   of_output : (f : ToolFault) → f ≡ fault.Device Output → EndsBy form f status before after failed → status ≡ 3
@@ -92,14 +94,27 @@ module _ {form : Form} {status : ℕ} {before after : Option (List ℕ)} {failed
       by (inl output) = inr (q (ap Err output))
       by (inr other) = inl (p other)
 
-  -- it is never 2
-  pub never_two : (answer : Result (Unit {0}) ToolFault) → Ended form answer status before after failed → status ≢ 2
-  never_two (Ok u) h two = omega (arith, two, h.zero)
-  never_two (Err f) h two = let told = ends_as f h.by in by told.1.ends (one_or_three told.0)
-    where
-      by : {n : ℕ} → status ≡ n → (n ≡ 1) ⊎ (n ≡ 3) → ⊥
-      by is (inl one) = omega (arith, two, is, one)
-      by is (inr three) = omega (arith, two, is, three)
+  -- where it is 2, a file is in use
+  of_two : (f : ToolFault) → EndsAs form f status before after failed → status ≡ 2 → EndsInUse form status before after failed
+  of_two (fault.InUse name) h two = (name, h)
+  of_two (fault.Graph g) h two = absurd (let no : 2 ≡ 1 = sym two ∙ h.ends in cc)
+  of_two (fault.Line n) h two = absurd (let no : 2 ≡ 1 = sym two ∙ h.ends in cc)
+  of_two (fault.Unbalanced name) h two = absurd (let no : 2 ≡ 1 = sym two ∙ h.ends in cc)
+  of_two (fault.TooLarge name) h two = absurd (let no : 2 ≡ 1 = sym two ∙ h.ends in cc)
+  of_two fault.Deadlock h two = absurd (let no : 2 ≡ 1 = sym two ∙ h.ends in cc)
+  of_two fault.TooTight h two = absurd (let no : 2 ≡ 1 = sym two ∙ h.ends in cc)
+  of_two fault.TooLong h two = absurd (let no : 2 ≡ 1 = sym two ∙ h.ends in cc)
+  of_two (fault.TokenSyntax name line) h two = absurd (let no : 2 ≡ 1 = sym two ∙ h.ends in cc)
+  of_two (fault.TokenRange name line) h two = absurd (let no : 2 ≡ 1 = sym two ∙ h.ends in cc)
+  of_two (fault.TooManyTokens name) h two = absurd (let no : 2 ≡ 1 = sym two ∙ h.ends in cc)
+  of_two fault.Mixed h two = absurd (let no : 2 ≡ 3 = sym two ∙ h.ends in cc)
+  of_two fault.Worker h two = absurd (let no : 2 ≡ 3 = sym two ∙ h.ends in cc)
+  of_two (fault.Device d) h two = absurd (let no : 2 ≡ 3 = sym two ∙ h.ends in cc)
+  of_two fault.Memory h two = absurd (let no : 2 ≡ 3 = sym two ∙ h.ends in cc)
+
+  pub in_use : (answer : Result (Unit {0}) ToolFault) → Ended form answer status before after failed → status ≡ 2 → EndsInUse form status before after failed
+  in_use (Ok u) h two = absurd (let no : 2 ≡ 0 = sym two ∙ h.zero in cc)
+  in_use (Err f) h two = let told = ends_as f h.by in of_two told.0 told.1 two
 
   -- where it is 1 or 3, a fault is told
   pub lined : (answer : Result (Unit {0}) ToolFault) → Ended form answer status before after failed → (status ≡ 1) ⊎ (status ≡ 3)

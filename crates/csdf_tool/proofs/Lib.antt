@@ -1,3 +1,4 @@
+pub mod ApartLemmas
 pub mod CauseLemmas
 pub mod DiskLemmas
 pub mod EndLemmas

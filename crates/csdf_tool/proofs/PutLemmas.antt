@@ -48,6 +48,9 @@ pub permit_given : (part : List ℕ) (permissions : Option Permissions) (given :
 permit_given part permissions given a b r is h =
     subst (λ (p : Option Permissions). Steps (permits part (option_map permissions_mode p)) a b r) (sym is) h
 
+pub step_as : (step other : Step) (a b : Option (List Call)) (r : Result (Unit {0}) PutFault) → step ≡ other → Steps (other ∷ []) a b r → Steps (step ∷ []) a b r
+step_as step other a b r same h = subst (λ (s : Step). Steps (s ∷ []) a b r) (sym same) h
+
 -- ---- several
 
 cut_before : (xs ys : List Step) (calls : List Call) → IsCut xs calls → IsCut (xs ++ ys) calls

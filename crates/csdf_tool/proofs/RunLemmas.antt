@@ -1,7 +1,7 @@
 -- The files of a run, and the faults that are told of them.
 use Rattle.std.proofs.Common.{◌≡◌, ◌≢◌, ℕ, suc, zero, ◌+◌, ◌<◌, Bool, true, false, cond, List, [], ◌∷◌, ◌++◌, length, map, take, drop, get_or, refl, ap, sym}
 use Rattle.std.proofs.Common.{subst, ◌∙◌, arith, append_assoc, inl, inr, Ok, Err, Option, Some, None, Bor, option_map}
-use Rattle.std.specs.Prelude.{◌⊎◌, IfErr, IfOk, IsErrAnd, Result, is_some}
+use Rattle.std.specs.Prelude.{◌⊎◌, IfErr, IfOk, IsErrAnd, OnErr, OnOk, Result, is_some}
 use Rattle.std.proofs.lemmas.List.{get_or-drop, map-append, take_more}
 use Rattle.std.specs.Global.{Vec}
 use Rattle.csdf_model.specs.Graph.{Actor, Channel, Graph}
@@ -35,15 +35,17 @@ use Rattle.csdf_answers.specs.Faults.{accept_fault, fault_of}
 use Rattle.csdf_answers.specs.Printed.{name_at, names_of}
 use Rattle.csdf_tool.specs.Acts.{Act, Asks, Marks, OnlyReads, devices}
 use Rattle.csdf_tool.specs.Reports.{TellsReport, report_object}
-use Rattle.csdf_tool.specs.Running.{AreNamedAlike, EndsBeforeFiles, EndsOnFiles, IsCutShort, IsUnput, LacksFeed, RefusesGraphRun, RefusesRun, RunsOn, StopsRun, Written}
+use Rattle.csdf_tool.specs.Running.{AreNamedAlike, EndsBeforeFiles, EndsOnFiles, IsCutShort, IsKeptFrom, IsUnput, LacksFeed, RefusesGraphRun, RefusesRun, RunsOn, StopsOnPlaces, StopsOnTexts, StopsRun, Written}
 use Rattle.csdf_tool.specs.GraphFiles.{graph_reads}
-use Rattle.csdf_tool.specs.Running.{feed_fault, feed_paths, feed_reads, files_of, journal_files, out_file, put_fault, put_whole, run_reads, sink_files, texts_fault, token_fault}
+use Rattle.csdf_tool.specs.Running.{feed_fault, feed_paths, feed_reads, files_of, journal_files, out_file, put_fault, put_whole, run_asks, run_reads, sink_files, texts_fault, token_fault}
 use Rattle.csdf_tool.specs.declared.run_files.Ran.{Ran}
 use Rattle.csdf_tool.specs.declared.put_fault.PutFault.{PutFault}
 use Rattle.csdf_tool.specs.declared.put_fault.PutFault.TheVariants as put
 use Rattle.csdf_tool.proofs.CauseLemmas.{memory_or_not}
 use Rattle.csdf_tool.proofs.FeedLemmas.{no_stream}
-use Rattle.csdf_tool.proofs.DiskLemmas.{asks_more, only_feeds, only_graph, only_more}
+use Rattle.csdf_tool.specs.Places.{Apart, IsInUse, Listed, listed_files}
+use Rattle.csdf_tool.proofs.ApartLemmas.{apart_reads}
+use Rattle.csdf_tool.proofs.DiskLemmas.{asks_more, both_read, only_feeds, only_graph, only_more, run_read}
 
 -- ---- how long
 
@@ -104,10 +106,10 @@ report_alike forms.Json g h t text alike told =
 -- ---- sinks
 
 -- the graph file and then the token files
-pub run_asks : (order : Order) (g : Graph) (bytes seen : List ℕ) (actors : List Actor) (feeds others : List (List ℕ)) (a b c : Option (List Act))
+pub reads_asked : (order : Order) (g : Graph) (bytes seen : List ℕ) (actors : List Actor) (feeds others : List (List ℕ)) (a b c : Option (List Act))
     → Asks a b (graph_reads order.graph bytes) → Asks b c (feed_reads order.folder actors feeds) → bytes ≡ seen → actors ≡ g.actors → feeds ≡ others
     → Asks a c (run_reads order g seen others)
-run_asks order g bytes seen actors feeds others a b c read more same_bytes same_actors same_feeds =
+reads_asked order g bytes seen actors feeds others a b c read more same_bytes same_actors same_feeds =
     asks_more a b c (graph_reads order.graph seen) (feed_reads order.folder g.actors others)
     (subst (λ bs. Asks a b (graph_reads order.graph bs)) same_bytes read)
     (subst (λ fs. Asks b c (feed_reads order.folder g.actors fs)) same_feeds
@@ -287,44 +289,99 @@ module _ (order : Order) (left : Option (List ℕ)) (failed : Bool) (bytes seen 
               ),
             )
 
-    -- the texts make no run
-    pub stops_by_texts : (actors : List Actor) → actors ≡ g.actors → (feeds others : List (List ℕ)) → feeds ≡ others
-        → Asks b c (feed_reads order.folder actors feeds) → length (feed_paths order.folder actors) ≡ length feeds
-        → (f ≢ fault.Memory → RefusesGraphRun order.room g others f) → EndsBeforeFiles order (devices left a c) failed f
-    stops_by_texts actors same_actors feeds others same_feeds more each refuses = record {
-      only = only_more a b c (only_graph a b order.graph bytes read) (only_feeds b c order.folder actors feeds more);
-      why = by (memory_or_not f);
+    -- a file that is to be written is in use, or the texts make no run
+    pub stops_by_run : (actors : List Actor) → actors ≡ g.actors → (feeds others : List (List ℕ)) → feeds ≡ others
+        → Asks b c (feed_reads order.folder actors feeds) → length (feed_paths order.folder actors) ≡ length feeds → (e : Option (List Act)) → OnlyReads c e
+        → (f ≡ fault.Memory) ⊎ ((looks : List Act) × Asks c e looks × IsKeptFrom order g others looks f) → EndsBeforeFiles order (devices left a e) failed f
+    stops_by_run actors same_actors feeds others same_feeds more each e only kept = record {
+      only = only_more a c e (only_more a b c (only_graph a b order.graph bytes read) (only_feeds b c order.folder actors feeds more)) only;
+      why = by kept;
     }
       where
-        by : (f ≡ fault.Memory) ⊎ (f ≢ fault.Memory) → StopsRun order (devices left a c) failed f
+        each_one : length (feed_paths order.folder g.actors) ≡ length others
+        each_one =
+            subst (λ fs. length (feed_paths order.folder g.actors) ≡ length fs) same_feeds
+            (subst (λ xs. length (feed_paths order.folder xs) ≡ length feeds) same_actors each)
+
+        asked : (looks : List Act) → Asks c e looks → Asks a e (run_asks order g seen others looks)
+        asked looks last =
+            asks_more a c e (run_reads order g seen others) looks (reads_asked order g bytes seen actors feeds others a b c read more same same_actors same_feeds)
+            last
+
+        on : (looks : List Act) → Asks c e looks → IsKeptFrom order g others looks f
+            → StopsOnPlaces order g seen (devices left a e) f ⊎ StopsOnTexts order g seen (devices left a e) f
+        on looks last (inl used) = inl (record { feeds = others; looks = looks; files = asked looks last; each = each_one; in_use = used })
+        on looks last (inr refused) =
+            inr (record {
+              feeds = others;
+              looks = looks;
+              apart = refused.0;
+              files = asked looks last;
+              each = each_one;
+              refuses = refuses_run order.room seen g others f is refused.1;
+              no_stream = no_stream order.room g others f refused.1;
+            })
+
+        by : (f ≡ fault.Memory) ⊎ ((looks : List Act) × Asks c e looks × IsKeptFrom order g others looks f) → StopsRun order (devices left a e) failed f
         by (inl memory) = inl (inl memory)
-        by (inr other) =
-            inr (
-              seen,
-              subst (IsNamed order.graph left) same named,
-              inr (
-                g,
-                is,
-                inr (record {
-                  feeds = others;
-                  files = run_asks order g bytes seen actors feeds others a b c read more same same_actors same_feeds;
-                  each = subst (λ fs. length (feed_paths order.folder g.actors) ≡ length fs) same_feeds
-                      (subst (λ xs. length (feed_paths order.folder xs) ≡ length feeds) same_actors each);
-                  refuses = refuses_run order.room seen g others f is (refuses other);
-                  no_stream = no_stream order.room g others f (refuses other);
-                }),
-              ),
-            )
+        by (inr why) = inr (seen, subst (IsNamed order.graph left) same named, inr (g, is, inr (on why.0 why.1 why.2)))
+
+-- a file in use is told of no stream
+pub in_use_ends : (files : List Listed) (acts : List Act) (f : ToolFault) → IsInUse files acts f → f ≢ fault.Device Output
+in_use_ends files acts f used = λ e. let no : fault.InUse used.file.name ≡ fault.Device Output = sym used.told ∙ e in cc
+
+pub kept_ends : (order : Order) (g : Graph) (feeds : List (List ℕ)) (a b : Option (List Act)) (f : ToolFault)
+    → (f ≡ fault.Memory) ⊎ ((looks : List Act) × Asks a b looks × IsKeptFrom order g feeds looks f) → f ≢ fault.Device Output
+kept_ends order g feeds a b f (inl memory) = memory_ends f memory
+kept_ends order g feeds a b f (inr kept) = by kept.2
+  where
+    by : IsKeptFrom order g feeds kept.0 f → f ≢ fault.Device Output
+    by (inl used) = in_use_ends (listed_files order g.actors) kept.0 f used
+    by (inr refused) = no_stream order.room g feeds f refused.1 Output
+
+-- why a run is kept from beginning: a file is in use
+pub kept_by_place : (order : Order) (g : Graph) (feeds : List (List ℕ)) (a b : Option (List Act)) (f : ToolFault) (actors : List Actor) → actors ≡ g.actors
+    → (f ≡ fault.Memory) ⊎ ((acts : List Act) × Asks a b acts × IsInUse (listed_files order actors) acts f)
+    → (f ≡ fault.Memory) ⊎ ((looks : List Act) × Asks a b looks × IsKeptFrom order g feeds looks f)
+kept_by_place order g feeds a b f actors same (inl memory) = inl memory
+kept_by_place order g feeds a b f actors same (inr used) =
+    inr (used.0, used.1, inl (subst (λ (xs : List Actor). IsInUse (listed_files order xs) used.0 f) same used.2))
+
+-- or none is, and the texts make no run
+pub kept_by_texts : (order : Order) (g : Graph) (feeds : List (List ℕ)) (a b : Option (List Act)) (f : ToolFault)
+    → (looks : List Act) × Asks a b looks × Apart (listed_files order g.actors) looks → (f ≢ fault.Memory → RefusesGraphRun order.room g feeds f)
+    → (f ≡ fault.Memory) ⊎ ((looks : List Act) × Asks a b looks × IsKeptFrom order g feeds looks f)
+kept_by_texts order g feeds a b f apart refuses = by (memory_or_not f)
+  where
+    by : (f ≡ fault.Memory) ⊎ (f ≢ fault.Memory) → (f ≡ fault.Memory) ⊎ ((looks : List Act) × Asks a b looks × IsKeptFrom order g feeds looks f)
+    by (inl memory) = inl memory
+    by (inr other) = inr (apart.0, apart.1, inr (apart.2, refuses other))
+
+pub apart_as : (order : Order) (g : Graph) (a b : Option (List Act)) (actors : List Actor) → actors ≡ g.actors
+    → (acts : List Act) × Asks a b acts × Apart (listed_files order actors) acts → (looks : List Act) × Asks a b looks × Apart (listed_files order g.actors) looks
+apart_as order g a b actors same apart = (apart.0, apart.1, subst (λ (xs : List Actor). Apart (listed_files order xs) apart.0) same apart.2)
+
+pub only_apart_looks : (a b : Option (List Act)) (files : List Listed) → (looks : List Act) × Asks a b looks × Apart files looks → OnlyReads a b
+only_apart_looks a b files apart = (apart.0, apart_reads apart.2.1, apart.1)
+
+pub on_ok : {X E : Type 0} (r : Result X E) (P : Type 0) → P → OnOk r P
+on_ok (Ok x) P p = p
+on_ok (Err e) P p = tt
+
+pub both_errs : (r : Result Ran ToolFault) (P : Type 0) (Q : ToolFault → Type 0) → OnErr r P → IfErr r Q → IfErr r (λ f. P × Q f)
+both_errs (Ok ran) P Q p q = tt
+both_errs (Err f) P Q p q = (p, q)
 
 -- the run of a graph is that of its file
-pub ran_of_file : (order : Order) (left : Option (List ℕ)) (g : Graph) (bytes : List ℕ) (feeds : List (List ℕ)) (a b : Option (List Act)) (keeps : Bool)
+pub ran_of_file : (order : Order) (left : Option (List ℕ)) (g : Graph) (bytes : List ℕ) (feeds : List (List ℕ)) (a b c : Option (List Act)) (keeps : Bool)
     (r : Result Ran ToolFault) → IsNamed order.graph left bytes → IsGraphOf bytes (Ok g) → Asks a b (run_reads order g bytes feeds) → is_some order.journal ≡ keeps
     → IfOk r (λ ran. TellGraphRun order.room g feeds order.how_long order.firings ran.texts)
     → IfOk r (λ ran. TellSequentialGraphRun order.room g feeds order.how_long order.firings ran.texts) → IfOk r (λ ran. is_some ran.texts.journal ≡ keeps)
     → IfOk r (λ ran. AreNamedAlike g ran.graph)
-    → IfOk r (λ ran. (h : Graph) × (bs : List ℕ) × (fs : List (List ℕ)) × RunsOn order left h bs fs ran.texts × Asks a b (run_reads order h bs fs)
-    × AreNamedAlike h ran.graph)
-ran_of_file order left g bytes feeds a b keeps (Ok ran) named read asked word told sequential kept alike = (
+    → OnOk r ((looks : List Act) × Asks b c looks × Apart (listed_files order g.actors) looks)
+    → IfOk r (λ ran. (h : Graph) × (bs : List ℕ) × (fs : List (List ℕ)) × RunsOn order left h bs fs ran.texts × AreNamedAlike h ran.graph
+    × (looks : List Act) × Apart (listed_files order h.actors) looks × Asks a c (run_asks order h bs fs looks))
+ran_of_file order left g bytes feeds a b c keeps (Ok ran) named read asked word told sequential kept alike apart = (
   g,
   bytes,
   feeds,
@@ -337,17 +394,25 @@ ran_of_file order left g bytes feeds a b keeps (Ok ran) named read asked word to
       kept = kept ∙ sym word;
     };
   },
-  asked,
   alike,
+  apart.0,
+  apart.2,
+  asks_more a b c (run_reads order g bytes feeds) apart.0 asked apart.1,
 )
-ran_of_file order left g bytes feeds a b keeps (Err f) named read asked word told sequential kept alike = tt
+ran_of_file order left g bytes feeds a b c keeps (Err f) named read asked word told sequential kept alike apart = tt
+
+-- a run that asked and looked has only read
+pub only_asks : (a b : Option (List Act)) (order : Order) (g : Graph) (bytes : List ℕ) (feeds : List (List ℕ)) (looks : List Act)
+    → Apart (listed_files order g.actors) looks → Asks a b (run_asks order g bytes feeds looks) → OnlyReads a b
+only_asks a b order g bytes feeds looks apart asked =
+    (run_asks order g bytes feeds looks, both_read (run_reads order g bytes feeds) looks (run_read order g bytes feeds) (apart_reads apart.1), asked)
 
 -- the files were put after all was read
-pub puts_alike : (a b c : Option (List Act)) (order : Order) (g h : Graph) (bytes : List ℕ) (feeds : List (List ℕ)) (t : Texts) → AreNamedAlike g h
-    → Asks a b (run_reads order g bytes feeds) → Asks b c (map put_whole (files_of order h t))
-    → Asks a c (run_reads order g bytes feeds ++ map put_whole (files_of order g t))
-puts_alike a b c order g h bytes feeds t alike read put =
-    asks_more a b c (run_reads order g bytes feeds) (map put_whole (files_of order g t)) read
+pub puts_alike : (a b c : Option (List Act)) (order : Order) (g h : Graph) (bytes : List ℕ) (feeds : List (List ℕ)) (looks : List Act) (t : Texts)
+    → AreNamedAlike g h → Asks a b (run_asks order g bytes feeds looks) → Asks b c (map put_whole (files_of order h t))
+    → Asks a c (run_asks order g bytes feeds looks ++ map put_whole (files_of order g t))
+puts_alike a b c order g h bytes feeds looks t alike read put =
+    asks_more a b c (run_asks order g bytes feeds looks) (map put_whole (files_of order g t)) read
     (subst (λ (files : List Written). Asks b c (map put_whole files)) (files_alike order g h t alike) put)
 
 -- memory ran out before a file was put

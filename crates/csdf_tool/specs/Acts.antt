@@ -2,16 +2,20 @@
 use Rattle.std.specs.Prelude.{◌≡◌, ◌++◌, ℕ, Bool, List, Option, Some, None, Result, Ok, Err, IfSome}
 use Rattle.std.specs.List.{AllByRecursion}
 use Rattle.std.specs.Global.{Vec}
+use Rattle.std.specs.declared.alloc.AllocError.{AllocError}
 use Rattle.clap.specs.Words.{Text}
 use Rattle.csdf_bytes.specs.declared.intake.InputFault.{InputFault}
 use Rattle.csdf_answers.specs.declared.fault.ToolFault.{ToolFault}
 use Rattle.csdf_answers.specs.declared.token_note.TokenFile.{TokenFile}
+use Rattle.csdf_tool.specs.declared.place.Place.{Place}
 use Rattle.csdf_tool.specs.declared.put_fault.PutFault.{PutFault}
 
--- a file was asked for, by its path, and these bytes came or none for this reason; it was looked at, and this was found, where memory sufficed; or a text was to be put in the place of a file, and was or not
+-- a file was asked for, by its path, and these bytes came or none for this reason; it was looked at, and this was found, where memory sufficed; it was looked for which file a path stands
+-- for, and this place was found, where memory sufficed; or a text was to be put in the place of a file, and was or not
 pub data Act : Type 0 where
   Read : Text → Result (List ℕ) InputFault → Act
   Look : Text → Option TokenFile → Act
+  Locate : Text → Option Place → Act
   Put : Text → List ℕ → Result (Unit {0}) PutFault → Act
 
 -- the bytes that came
@@ -28,10 +32,16 @@ abbrev pub found : Result TokenFile ToolFault → Option TokenFile
 found (Ok file) = Some file
 found (Err why) = None
 
+-- the place that was found, where memory sufficed
+abbrev pub placed : Result Place AllocError → Option Place
+placed (Ok place) = Some place
+placed (Err why) = None
+
 -- no file was to be put
 abbrev pub IsRead : Act → Type 0
 IsRead (Read path came) = Unit {0}
 IsRead (Look path found) = Unit {0}
+IsRead (Locate path found) = Unit {0}
 IsRead (Put path text came) = ⊥
 
 -- files were asked for or looked at, and none was to be put

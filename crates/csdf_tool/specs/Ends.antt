@@ -5,7 +5,7 @@ use Rattle.clap.specs.Words.{Kinds, Text, IsAmong, fault_of, kind_of, takes}
 use Rattle.clap.specs.declared.error.kind.ErrorKind.{ErrorKind}
 use Rattle.clap.specs.declared.error.kind.ErrorKind.TheVariants.{DisplayHelp, DisplayVersion, OutOfMemory}
 use Rattle.csdf_answers.specs.declared.fault.ToolFault.{ToolFault}
-use Rattle.csdf_answers.specs.declared.fault.ToolFault.TheVariants.{Device, Memory}
+use Rattle.csdf_answers.specs.declared.fault.ToolFault.TheVariants.{Device, InUse, Memory}
 use Rattle.csdf_answers.specs.declared.fault.Stream.TheVariants.{Output}
 use Rattle.csdf_answers.specs.declared.question.Form.{Form}
 use Rattle.csdf_answers.specs.declared.question.Form.TheVariants as forms
@@ -16,9 +16,14 @@ use Rattle.csdf_tool.specs.Refused.{lengths_refusal, room_refusal}
 use Rattle.csdf_words.specs.declared.command.Unread.{Unread}
 use Rattle.csdf_words.specs.declared.command.Unread.TheVariants as unread
 
+-- the form in which a fault is told: one of the command line in words
+abbrev pub told_in : Form → ToolFault → Form
+told_in form (InUse name) = forms.Text
+told_in form _ = form
+
 -- a text that tells the fault in a form was put at the end of what a device has taken, where that is known, or the device failed
 abbrev pub TellsLine : Form → ToolFault → Option (List ℕ) → Option (List ℕ) → Bool → Type 0
-TellsLine form fault before after failed = ((line : List ℕ) × TellsFault form fault line × Appends before after line) ⊎ (failed ≡ true)
+TellsLine form fault before after failed = ((line : List ℕ) × TellsFault (told_in form fault) fault line × Appends before after line) ⊎ (failed ≡ true)
 
 -- the status is the fault's, and it is told in this form
 pub record EndsAs (form : Form) (fault : ToolFault) (status : ℕ) (before after : Option (List ℕ)) (failed : Bool) : Type 0 where
@@ -43,6 +48,10 @@ EndsInForm form fault status before after failed =
 abbrev pub EndsTelling : Form → ToolFault → ℕ → Option (List ℕ) → Option (List ℕ) → Bool → Type 0
 EndsTelling form fault status before after failed =
     EndsBy form fault status before after failed ⊎ EndsAs forms.Text Memory status before after failed
+
+-- a file that was to be written is in use
+abbrev pub EndsInUse : Form → ℕ → Option (List ℕ) → Option (List ℕ) → Bool → Type 0
+EndsInUse form status before after failed = (name : List ℕ) × EndsAs form (InUse name) status before after failed
 
 -- ---- words that are refused
 

@@ -3,8 +3,10 @@ pub mod Carried
 pub mod Ends
 pub mod Explaining
 pub mod GraphFiles
+pub mod Places
 pub mod Refused
 pub mod Reports
 pub mod Running
 pub mod SystemCalls
+pub mod Telling
 pub mod TokenFiles

@@ -31,18 +31,13 @@ use Rattle.csdf_tool.specs.Acts.{Act, Asks, Devices, Marks, OnlyReads, Put, Read
 use Rattle.csdf_words.specs.CommandLine.{Order}
 use Rattle.csdf_tool.specs.GraphFiles.{IsNamed, IsNotGiven, graph_reads}
 use Rattle.csdf_tool.specs.Reports.{TellsReport}
+pub use Rattle.csdf_tool.specs.Places.{in_file, out_file}
+use Rattle.csdf_tool.specs.Places.{Apart, IsInUse, listed_files}
 use Rattle.csdf_answers.specs.Described.{actor_names}
 use Rattle.csdf_answers.specs.Faults.{accept_fault, fault_of}
 use Rattle.csdf_answers.specs.Printed.{name_at, names_of}
 
 -- ---- files
-
--- the token file of a source, and that of a sink, by its name in the folder
-abbrev pub in_file : List ℕ → List ℕ
-in_file name = name ++ codes ".in"
-
-abbrev pub out_file : List ℕ → List ℕ
-out_file name = name ++ codes ".out"
 
 -- a file that is written: its folder, its name there and its text
 pub record Written : Type 0 where
@@ -105,6 +100,11 @@ RefusesGraphRun room g feeds fault = (why : TextsFault) × IsGraphRefusal room g
 abbrev pub RefusesRun : Room → Graph → List ℕ → List (List ℕ) → ToolFault → Type 0
 RefusesRun room g bytes feeds fault = (why : TextsFault) × IsRefusal room bytes feeds why × (fault ≡ texts_fault g why)
 
+-- why a run of the graph is not begun: a file that it is to write is in use; or none is, and the texts make no run
+abbrev pub IsKeptFrom : Order → Graph → List (List ℕ) → List Act → ToolFault → Type 0
+IsKeptFrom order g feeds looks fault =
+    IsInUse (listed_files order g.actors) looks fault ⊎ (Apart (listed_files order g.actors) looks × RefusesGraphRun order.room g feeds fault)
+
 -- ---- runs
 
 -- the texts tell the run that is asked for, of the graph of a file over one text for each source, and they are those of the sequential run; its moves are told
@@ -138,6 +138,10 @@ feed_reads folder actors texts = map read_whole (zip (feed_paths folder actors) 
 -- all that a run asks for: the graph file and the token files
 abbrev pub run_reads : Order → Graph → List ℕ → List (List ℕ) → List Act
 run_reads order g bytes feeds = graph_reads order.graph bytes ++ feed_reads order.folder g.actors feeds
+
+-- and then it is looked whether a file that it writes is in use
+abbrev pub run_asks : Order → Graph → List ℕ → List (List ℕ) → List Act → List Act
+run_asks order g bytes feeds looks = run_reads order g bytes feeds ++ looks
 
 -- where an actor is a source, its token file was asked for, and its text stands behind the others; else nothing was done
 pub record IsReadAfter (folder : List ℕ) (actor : Actor) (before after : Option (List Act)) (texts more : List (List ℕ)) : Type 0 where
@@ -182,15 +186,17 @@ files_of order g t =
     sink_files order.sink_folder g.actors (texts_in t.sinks.items)
     ++ journal_files order.journal (option_map (λ (text : Vec ℕ). text.items) t.journal)
 
--- the run was made of the bytes of the graph file and of the sources' token files; then the text of each sink was put in the place of its file, and after them
--- the moves where they are asked for, and its report was written in the form that is asked for
+-- the run was made of the bytes of the graph file and of the sources' token files, after it was looked whether a file that it writes is in use; then the text of
+-- each sink was put in the place of its file, and after them the moves where they are asked for, and its report was written in the form that is asked for
 pub record RunsOnFiles (order : Order) (d : Devices) (before after : Option (List ℕ)) : Type 0 where
   pub graph : Graph
   pub bytes : List ℕ
   pub feeds : List (List ℕ)
+  pub looks : List Act
   pub texts : Texts
+  pub apart : Apart (listed_files order graph.actors) looks
   pub runs : RunsOn order d.left graph bytes feeds texts
-  pub files : Asks d.before d.after (run_reads order graph bytes feeds ++ map put_whole (files_of order graph texts))
+  pub files : Asks d.before d.after (run_asks order graph bytes feeds looks ++ map put_whole (files_of order graph texts))
   pub report : List ℕ
   pub tells : TellsReport order.form graph texts report
   pub written : Appends before after report
@@ -217,10 +223,12 @@ pub record EndsAmongFiles (order : Order) (d : Devices) (fault : ToolFault) : Ty
   pub graph : Graph
   pub bytes : List ℕ
   pub feeds : List (List ℕ)
+  pub looks : List Act
   pub texts : Texts
   pub puts : List Act
+  pub apart : Apart (listed_files order graph.actors) looks
   pub runs : RunsOn order d.left graph bytes feeds texts
-  pub files : Asks d.before d.after (run_reads order graph bytes feeds ++ puts)
+  pub files : Asks d.before d.after (run_asks order graph bytes feeds looks ++ puts)
   pub cut : IsCutShort (files_of order graph texts) puts fault
 
 -- the run was made and its files were put, and the report was not written
@@ -228,9 +236,11 @@ pub record EndsAfterFiles (order : Order) (d : Devices) : Type 0 where
   pub graph : Graph
   pub bytes : List ℕ
   pub feeds : List (List ℕ)
+  pub looks : List Act
   pub texts : Texts
+  pub apart : Apart (listed_files order graph.actors) looks
   pub runs : RunsOn order d.left graph bytes feeds texts
-  pub files : Asks d.before d.after (run_reads order graph bytes feeds ++ map put_whole (files_of order graph texts))
+  pub files : Asks d.before d.after (run_asks order graph bytes feeds looks ++ map put_whole (files_of order graph texts))
 
 -- ---- why a run ends before its files are put
 
@@ -239,19 +249,29 @@ abbrev pub StopsOnFeeds : Order → Graph → List ℕ → Devices → ToolFault
 StopsOnFeeds order g bytes d fault =
     (acts : List Act) × Asks d.before d.after (graph_reads order.graph bytes ++ acts) × LacksFeed order.folder g.actors acts fault
 
--- one text came for each source, and they make no run; that is never told of a stream
+-- one text came for each source, and a file that the run is to write is in use
+pub record StopsOnPlaces (order : Order) (g : Graph) (bytes : List ℕ) (d : Devices) (fault : ToolFault) : Type 0 where
+  pub feeds : List (List ℕ)
+  pub looks : List Act
+  pub files : Asks d.before d.after (run_asks order g bytes feeds looks)
+  pub each : length (feed_paths order.folder g.actors) ≡ length feeds
+  pub in_use : IsInUse (listed_files order g.actors) looks fault
+
+-- one text came for each source, no file is in use, and the texts make no run; that is never told of a stream
 pub record StopsOnTexts (order : Order) (g : Graph) (bytes : List ℕ) (d : Devices) (fault : ToolFault) : Type 0 where
   pub feeds : List (List ℕ)
-  pub files : Asks d.before d.after (run_reads order g bytes feeds)
+  pub looks : List Act
+  pub apart : Apart (listed_files order g.actors) looks
+  pub files : Asks d.before d.after (run_asks order g bytes feeds looks)
   pub each : length (feed_paths order.folder g.actors) ≡ length feeds
   pub refuses : RefusesRun order.room g bytes feeds fault
   pub no_stream : (stream : Stream) → fault ≢ Device stream
 
--- the graph of these bytes is refused, or a token file was not read, or they were all read and make no run
+-- the graph of these bytes is refused, or a token file was not read, or they were all read and a file to be written is in use, or they make no run
 abbrev pub StopsOnGraph : Order → List ℕ → Devices → ToolFault → Type 0
 StopsOnGraph order bytes d fault =
     ((why : GraphFault) × IsGraphOf bytes (Err why) × Asks d.before d.after (graph_reads order.graph bytes) × (fault ≡ fault_of why))
-    ⊎ ((g : Graph) × IsGraphOf bytes (Ok g) × (StopsOnFeeds order g bytes d fault ⊎ StopsOnTexts order g bytes d fault))
+    ⊎ ((g : Graph) × IsGraphOf bytes (Ok g) × (StopsOnFeeds order g bytes d fault ⊎ (StopsOnPlaces order g bytes d fault ⊎ StopsOnTexts order g bytes d fault)))
 
 -- memory ran out, or the graph file was not read, or its bytes and the token files make no run
 abbrev pub StopsRun : Order → Devices → Bool → ToolFault → Type 0

@@ -2,25 +2,36 @@
 use Rattle.std.specs.Prelude.{◌≡◌, ◌≢◌, ◌++◌, ℕ, Bool, true, false, List, [], ◌∷◌, Option, Some, None, Result, Ok, Err, IfSome, codes, is_ok, map}
 use Rattle.std.specs.Fs.{IsFile, file_type, metadata_mode, permissions_mode}
 use Rattle.std.specs.declared.fs.attrs.Metadata.{Metadata}
+use Rattle.std.specs.Path.{path_buf_bytes}
+use Rattle.std.specs.declared.path.buf.PathBuf.{PathBuf}
 use Rattle.std.specs.declared.io.Error.{Error}
 use Rattle.std.specs.declared.io.ErrorKind.{ErrorKind}
 use Rattle.std.specs.declared.io.ErrorKind.TheVariants.{NotFound}
 use Rattle.std.specs.IoError.{error_kind}
 use Rattle.csdf_tool.specs.declared.put_fault.PutFault.{PutFault}
 use Rattle.csdf_tool.specs.declared.put_fault.PutFault.TheVariants.{Device, Memory}
+use Rattle.csdf_tool.specs.declared.putting.Stage.{Stage}
+use Rattle.csdf_tool.specs.declared.putting.Stage.TheVariants as stage
 use Rattle.csdf_tool.specs.declared.putting.There.{There}
 use Rattle.csdf_tool.specs.declared.putting.There.TheVariants.{Free, Plain, Other}
 
--- a call by its paths, and how it ended: what was told of a file, links followed or not; of what kind the error was where a file was not opened; that bytes
+-- a call by its paths, and how it ended: what was told of a file, links followed or not; the text of a link, where there is
+-- one; of what kind the error was where a file was not opened; that bytes
 -- were written to a file that was made or emptied, that one was given permissions, another path, or was taken away, and whether that went well
 pub data Call : Type 0 where
   Follow : List ℕ → Result Metadata Error → Call
   See : List ℕ → Result Metadata Error → Call
+  Link : List ℕ → Option (List ℕ) → Call
   Open : List ℕ → Option ErrorKind → Call
   Write : List ℕ → List ℕ → Bool → Call
   Permit : List ℕ → ℕ → Bool → Call
   Rename : List ℕ → List ℕ → Bool → Call
   Remove : List ℕ → Bool → Call
+
+-- the text of a link
+abbrev pub text_of : {A : Type 0} → Result (PathBuf A) Error → Option (List ℕ)
+text_of (Ok path) = Some (path_buf_bytes path)
+text_of (Err error) = None
 
 -- of what kind the error is, where a file is not opened
 abbrev pub unopened_as : {F : Type 0} → Result F Error → Option ErrorKind
@@ -59,6 +70,11 @@ Steps steps before after (Err why) = (why ≡ Device) × (calls : List Call) × 
 -- the path beside it at which a file is made
 abbrev pub part_of : List ℕ → List ℕ
 part_of path = path ++ codes ".part"
+
+-- what is done to a part, as a step
+abbrev pub step_of : Stage → Step
+step_of (stage.Write part text) = Write part.now text.now
+step_of (stage.Rename part path) = Rename part.now path.now
 
 -- permissions are given where there are some
 abbrev pub permits : List ℕ → Option ℕ → List Step

@@ -1,14 +1,17 @@
 //! Files, as the program asks for them.
 
 ghost use Rattle.std.specs.Prelude.{◌≡◌, [], ◌∷◌, List, Option, None, IfErr};
-ghost use Rattle.csdf_tool.specs.Acts.{Act, Asks, Look, Read, Put, found, given};
+ghost use Rattle.csdf_tool.specs.Acts.{Act, Asks, Locate, Look, Read, Put, found, given, placed};
 
+use crate::locate::place_at;
 use crate::look::{bytes_at, token_file_at};
+use crate::place::Place;
 use crate::put_fault::PutFault;
 use crate::putting::put_at;
 use crate::system::HostSystem;
 use csdf_answers::{TokenFile, ToolFault};
 use csdf_bytes::InputFault;
+use std::alloc::AllocError;
 use std::rt::Files;
 
 /// Files by their paths.
@@ -24,6 +27,10 @@ pub trait Disk {
     fn look(&mut self, path: &str) -> Result<TokenFile, ToolFault>
         ensures found { Asks (acts self.old) (acts self.new) (Look path.now (found result) ∷ []) }
         ensures memory { IfErr result (λ fault. fault ≡ ToolFault.Memory) };
+
+    /// Which file a path stands for: it is neither read nor written.
+    fn locate(&mut self, path: &str) -> Result<Place, AllocError>
+        ensures { Asks (acts self.old) (acts self.new) (Locate path.now (placed result) ∷ []) };
 
     /// Puts a file with this text in its place, in that of a file that is there.
     fn put(&mut self, path: &str, text: &[u8]) -> Result<(), PutFault>
@@ -53,6 +60,10 @@ impl<R: Files + AllocGlobal> Disk for HostDisk<'_, R> {
 
     fn look(&mut self, path: &str) -> Result<TokenFile, ToolFault> {
         token_file_at(self.rt.alloc(), &mut HostSystem(self.rt), path)
+    }
+
+    fn locate(&mut self, path: &str) -> Result<Place, AllocError> {
+        place_at(self.rt.alloc(), &mut HostSystem(self.rt), path)
     }
 
     fn put(&mut self, path: &str, text: &[u8]) -> Result<(), PutFault> {

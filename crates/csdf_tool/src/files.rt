@@ -67,7 +67,7 @@ pub(crate) fn graph_bytes<D: Disk, I: Intake>(
 }
 
 /// The path of a file of a folder.
-fn path_in(alloc: Global, folder: &str, file: &Name) -> Result<PathBuf, AllocError>
+pub(crate) fn path_in(alloc: Global, folder: &str, file: &Name) -> Result<PathBuf, AllocError>
     ensures { IfOk result (λ path. path_buf_bytes path ≡ path_join folder.now file.now) }
 {
     Path::new(folder).join(alloc, file.as_str())

@@ -3,10 +3,13 @@
 #![tactic(auto)]
 
 mod answer_files;
+mod apart;
 mod disk;
 mod explain_files;
 mod files;
+mod locate;
 mod look;
+mod place;
 mod program;
 mod progress;
 mod put_fault;
@@ -15,7 +18,9 @@ mod refused;
 mod report;
 mod run_files;
 mod system;
+mod telling;
 
 pub use disk::{Disk, HostDisk};
+pub use place::{Node, Place};
 pub use program::run_words;
 pub use put_fault::PutFault;

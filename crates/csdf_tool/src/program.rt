@@ -5,7 +5,7 @@ ghost use Rattle.std.specs.Io.KnownBytes.{Appends};
 ghost use Rattle.clap.specs.Words.{fault_of, kind_of};
 ghost use Rattle.csdf_words.specs.CommandLine.{program, asked_view, form_asked, form_of, words_ask, Asked};
 ghost use Rattle.csdf_tool.specs.Carried.{IsCarriedOut, IsCauseOf, reads_input};
-ghost use Rattle.csdf_tool.specs.Ends.{AreTaken, Ended, EndsAs, EndsBy, EndsFor, EndsForOneOf, EndsInForm, EndsTelling, EndsTold, EndsUnasked, EndsUnread, ending};
+ghost use Rattle.csdf_tool.specs.Ends.{AreTaken, Ended, EndsAs, EndsBy, EndsFor, EndsForOneOf, EndsInForm, EndsInUse, EndsTelling, EndsTold, EndsUnasked, EndsUnread, ending, told_in};
 ghost use Rattle.csdf_tool.specs.Acts.{devices, marks};
 
 use crate::answer_files::{ask_file, play_file};
@@ -69,6 +69,16 @@ fn put_line<E: Outlet>(line: &[u8], err: &mut E)
     let _ = write_bytes(err, line);
 }
 
+/// The form in which a fault is told: one of the command line in words.
+fn told_in(form: Form, fault: &ToolFault) -> Form
+    ensures { result ≡ told_in form fault.now }
+{
+    match fault {
+        ToolFault::InUse(_) => Form::Text,
+        _ => form,
+    }
+}
+
 /// Tells a fault in a form on a device, and answers its exit status.
 ///
 /// Where there is no memory for its line, want of memory is told in its place. A failure of the
@@ -76,7 +86,8 @@ fn put_line<E: Outlet>(line: &[u8], err: &mut E)
 fn tell<E: Outlet>(alloc: Global, form: Form, fault: &ToolFault, err: &mut E) -> u8
     ensures { EndsBy form fault.now result (E.written err.old) (E.written err.new) (E.failed err.new) }
 {
-    let Ok(line) = fault_line(alloc, form, fault) else {
+    let told = told_in(form, fault);
+    let Ok(line) = fault_line(alloc, told, fault) else {
         put_line(memory_line(form).as_bytes(), err);
         return 3;
     };
@@ -159,8 +170,8 @@ fn status_of_words<O: Outlet, E: Outlet>(
 }
 
 /// Runs the program on the words of its command line, without its own name, and answers the exit
-/// status: 0 where it is answered, 1 where an input is refused, 2 where the words are, 3 where a
-/// device or memory failed.
+/// status: 0 where it is answered, 1 where an input is refused, 2 where the words are or a file that
+/// they name is in use, 3 where a device or memory failed.
 ///
 /// A fault of status 1 or 3 is told on `err` by its text and a newline, or where the words ask for
 /// JSON by its object, and nothing is written to `out` but for a fault of `out` itself. A failure of
@@ -178,7 +189,8 @@ pub fn run_words<
     ensures answered { result ≡ 0 → err.new ≡ err.old }
     ensures lined { (result ≡ 1) ⊎ (result ≡ 3) → (fault : ToolFault) × EndsInForm (form_asked (words_ask (map string_bytes words.now))) fault result
         (E.written err.old) (E.written err.new) (E.failed err.new) }
-    ensures taken { AreTaken (map string_bytes words.now) → words_ask (map string_bytes words.now) ≢ None → result ≢ 2 }
+    ensures taken { AreTaken (map string_bytes words.now) → words_ask (map string_bytes words.now) ≢ None → result ≡ 2
+        → EndsInUse (form_asked (words_ask (map string_bytes words.now))) result (E.written err.old) (E.written err.new) (E.failed err.new) }
     ensures nothing { AreTaken (map string_bytes words.now) → words_ask (map string_bytes words.now) ≡ None
         → (result ≡ 2) ⊎ EndsTold (ending result (E.written err.old) (E.written err.new) (E.failed err.new) (O.failed out.new)) ToolFault.Memory }
     ensures reason { words_ask (map string_bytes words.now) ≡ None → EndsUnasked (map string_bytes words.now)

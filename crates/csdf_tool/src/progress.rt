@@ -1,17 +1,29 @@
 //! How far a run has come, on standard error.
 
+ghost use Rattle.std.specs.Prelude.{None};
 ghost use Rattle.csdf_claims.specs.Board.{KeepsJust};
 
+use crate::telling::{Line, Telling, tell_begin, tell_end, tell_made};
+use csdf_bytes::DeviceFailed;
 use csdf_claims::{Board, Place};
 use csdf_run::Gate;
 use std::sync::atomic::AtomicU64;
 use std::sync::atomic::Ordering::SeqCst;
 
-/// After how many firings the line is written again: what half a second makes where they are made one by one.
-const STEP: u64 = 2_000_000;
+/// Standard error. What it takes is known to no contract: that a line is written there is by reading.
+#[derive(Clone, Copy)]
+struct OnError<'a, R>(&'a R);
 
-/// A gate that lets every firing through at once. Where it is asked to, it writes a line over and over
-/// that tells how many firings were made, of how many at most.
+impl<R: Eprint> Telling for OnError<'_, R> {
+    ghost told = { λ _. None };
+
+    fn tell(&mut self, line: Line) -> Result<(), DeviceFailed> {
+        eprint!(self.0; "{line}").map_err(|_| DeviceFailed)
+    }
+}
+
+/// A gate that lets every firing through at once. Where it is asked to, it tells over and over how many
+/// firings were made, of how many at most. A failure of standard error changes nothing.
 #[derive(Drop)]
 pub(crate) struct Progress<'a, R> {
     rt: &'a R,
@@ -31,18 +43,11 @@ impl<'a, R: Eprint> Progress<'a, R> {
         }
     }
 
-    /// Writes the line over the one before.
-    fn write(&self, made: u64) {
-        let most = self.most.load(SeqCst);
-        let _ = eprint!(self.rt; "\rcsdf: {made} of at most {most} firings");
-    }
-
-    /// Writes the last line, and ends it.
+    /// Tells of a run that has ended.
     pub(crate) fn end(&self) {
-        if self.is_asked {
-            self.write(self.made.load(SeqCst));
-            let _ = eprint!(self.rt; "\n");
-        }
+        let made = self.made.load(SeqCst);
+        let most = self.most.load(SeqCst);
+        let _ = tell_end(&mut OnError(self.rt), self.is_asked, made, most);
     }
 }
 
@@ -59,18 +64,14 @@ impl<R: Eprint + Sync> Gate for Progress<'_, R> {
 
     fn begins(&self, most: u64) {
         self.most.store(most, SeqCst);
-        if self.is_asked {
-            self.write(0);
-        }
+        let _ = tell_begin(&mut OnError(self.rt), self.is_asked, most);
     }
 
     fn has_made(&self, firings: u32) {
         if self.is_asked {
             let before = self.made.fetch_add(u64::from(firings), SeqCst);
-            let made = before.saturating_add(u64::from(firings));
-            if before / STEP != made / STEP {
-                self.write(made);
-            }
+            let most = self.most.load(SeqCst);
+            let _ = tell_made(&mut OnError(self.rt), self.is_asked, before, firings, most);
         }
     }
 }

@@ -2,7 +2,7 @@
 
 ghost use Rattle.std.specs.Prelude.{◌≡◌, [], ◌∷◌, List, true, false, IfErr, IfOk, OnOk, is_ok, option_map, string_bytes};
 ghost use Rattle.std.specs.Fs.{permissions_mode};
-ghost use Rattle.csdf_tool.specs.SystemCalls.{Call, Called, Puts, PutsBeside, Rename, Says, Steps, Write, part_of, permits, steps_beside};
+ghost use Rattle.csdf_tool.specs.SystemCalls.{Call, Called, Puts, PutsBeside, Says, Steps, part_of, permits, step_of, steps_beside};
 
 use crate::put_fault::PutFault;
 use crate::system::System;
@@ -53,18 +53,23 @@ fn ended(call: io::Result<()>) -> Result<(), PutFault>
     Ok(())
 }
 
-/// Writes a text to a file, which is made or emptied.
-fn write<S: System>(system: &mut S, path: &str, text: &[u8]) -> Result<(), PutFault>
-    ensures { Steps (Write path.now text.now ∷ []) (S.calls system.old) (S.calls system.new) result }
-{
-    ended(system.write(path, text))
+/// What is done to a part.
+#[derive(Clone, Copy)]
+enum Stage<'a> {
+    /// It is made or emptied, and this is written to it.
+    Write(&'a str, &'a [u8]),
+    /// It is put in the place of a file.
+    Rename(&'a str, &'a str),
 }
 
-/// Puts a part in the place of a file.
-fn rename<S: System>(system: &mut S, part: &str, path: &str) -> Result<(), PutFault>
-    ensures { Steps (Rename part.now path.now ∷ []) (S.calls system.old) (S.calls system.new) result }
+/// Does one thing to a part.
+fn advance<S: System>(system: &mut S, stage: Stage<'_>) -> Result<(), PutFault>
+    ensures { Steps (step_of stage.entry ∷ []) (S.calls system.old) (S.calls system.new) result }
 {
-    ended(system.rename(part, path))
+    match stage {
+        Stage::Write(part, text) => ended(system.write(part, text)),
+        Stage::Rename(part, path) => ended(system.rename(part, path)),
+    }
 }
 
 /// Gives a part the permissions of the file that it is to replace, where there is one.
@@ -91,10 +96,10 @@ fn put_whole<S: System>(
 ) -> Result<(), PutFault>
     ensures { Steps (steps_beside part.now (option_map permissions_mode permissions) path.now text.now) (S.calls system.old) (S.calls system.new) result }
 {
-    write(system, part, &[])?;
+    advance(system, Stage::Write(part, &[]))?;
     permit(system, part, permissions)?;
-    write(system, part, text)?;
-    rename(system, part, path)
+    advance(system, Stage::Write(part, text))?;
+    advance(system, Stage::Rename(part, path))
 }
 
 /// Puts a text beside its place and then there. A part that is not put there is taken away.

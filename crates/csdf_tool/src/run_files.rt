@@ -11,9 +11,11 @@ ghost use Rattle.csdf_words.specs.CommandLine.{order_view};
 ghost use Rattle.csdf_tool.specs.Acts.{Act, Asks, OnlyReads, devices, marks};
 ghost use Rattle.csdf_tool.specs.GraphFiles.{is_input};
 ghost use Rattle.csdf_tool.specs.Reports.{TellsReport};
-ghost use Rattle.csdf_tool.specs.Running.{AreNamedAlike, EndsBeforeFiles, EndsOnFiles, IsCutShort, IsFeedMissing, IsReadAfter, LacksFeed, RefusesGraphRun, RunsOn, RunsOnFiles};
-ghost use Rattle.csdf_tool.specs.Running.{feed_paths, feed_reads, file_view, files_of, journal_files, put_whole, run_fault, run_reads, sink_files, texts_fault, token_fault};
+ghost use Rattle.csdf_tool.specs.Running.{AreNamedAlike, EndsBeforeFiles, EndsOnFiles, IsCutShort, IsFeedMissing, IsKeptFrom, IsReadAfter, LacksFeed, RefusesGraphRun, RunsOn, RunsOnFiles};
+ghost use Rattle.csdf_tool.specs.Running.{feed_paths, feed_reads, file_view, files_of, journal_files, put_whole, run_asks, run_fault, sink_files, texts_fault, token_fault};
+ghost use Rattle.csdf_tool.specs.Places.{Apart, listed_files};
 
+use crate::apart::keep_apart;
 use crate::disk::Disk;
 use crate::files::{feed_bytes, graph_bytes, put_file};
 use crate::progress::Progress;
@@ -36,7 +38,7 @@ pub(crate) fn is_source(actor: &Actor) -> bool
     matches!(actor.kernel, Kernel::Source)
 }
 
-fn is_sink(actor: &Actor) -> bool
+pub(crate) fn is_sink(actor: &Actor) -> bool
     ensures { result ≡ is_sink_kernel (actor_view actor.now).kernel }
 {
     matches!(actor.kernel, Kernel::Sink)
@@ -176,6 +178,27 @@ fn ran_over<R: AllocGlobal + Eprint + Threads + Wait + Sync>(
     }
 }
 
+/// Runs a graph over the bytes of its sources' token files, where no file that it is to write is in use.
+fn ran_apart<R: AllocGlobal + Eprint + Threads + Wait + Sync, D: Disk>(
+    rt: &R,
+    disk: &mut D,
+    graph: Graph,
+    feeds: &[Vec<u8>],
+    order: RunWords<'_>,
+) -> Result<Ran, ToolFault>
+    ensures told { IfOk result (λ ran. TellGraphRun order.entry.room graph (texts_in feeds.now) order.entry.how_long order.entry.firings ran.texts) }
+    ensures sequential { IfOk result (λ ran. TellSequentialGraphRun order.entry.room graph (texts_in feeds.now) order.entry.how_long order.entry.firings ran.texts) }
+    ensures kept { IfOk result (λ ran. is_some ran.texts.journal ≡ is_some order.entry.journal) }
+    ensures alike { IfOk result (λ ran. AreNamedAlike graph ran.graph) }
+    ensures apart { OnOk result ((looks : List Act) × Asks (D.acts disk.old) (D.acts disk.new) looks × Apart (listed_files (order_view order.entry) graph.actors) looks) }
+    ensures refused { IfErr result (λ fault. (fault ≡ ToolFault.Memory) ⊎ ((looks : List Act) × Asks (D.acts disk.old) (D.acts disk.new) looks
+        × IsKeptFrom (order_view order.entry) graph (texts_in feeds.now) looks fault)) }
+    ensures only { OnErr result (OnlyReads (D.acts disk.old) (D.acts disk.new)) }
+{
+    keep_apart(rt.alloc(), disk, order, graph.actors())?;
+    ran_over(rt, graph, feeds, order)
+}
+
 /// Reads the files of a run, and runs.
 fn ran_by<R: AllocGlobal + Eprint + Threads + Wait + Sync, D: Disk, I: Intake>(
     rt: &R,
@@ -185,8 +208,8 @@ fn ran_by<R: AllocGlobal + Eprint + Threads + Wait + Sync, D: Disk, I: Intake>(
 ) -> Result<Ran, ToolFault>
     ensures ran { IfOk result (λ ran. (graph : GraphModel) × (bytes : List ℕ) × (feeds : List (List ℕ))
         × RunsOn (order_view order.entry) (I.left reader.old) graph bytes feeds ran.texts
-        × Asks (D.acts disk.old) (D.acts disk.new) (run_reads (order_view order.entry) graph bytes feeds)
-        × AreNamedAlike graph ran.graph) }
+        × AreNamedAlike graph ran.graph × (looks : List Act) × Apart (listed_files (order_view order.entry) graph.actors) looks
+        × Asks (D.acts disk.old) (D.acts disk.new) (run_asks (order_view order.entry) graph bytes feeds looks)) }
     ensures stopped { IfErr result (EndsBeforeFiles (order_view order.entry) (devices (I.left reader.old) (D.acts disk.old) (D.acts disk.new))
         (I.failed reader.new)) }
     ensures input { is_input order.entry.graph.now ≡ true → I.failed reader.new ≡ true → result ≡ Err (ToolFault.Device Stream.Input) }
@@ -196,7 +219,7 @@ fn ran_by<R: AllocGlobal + Eprint + Threads + Wait + Sync, D: Disk, I: Intake>(
     let bytes = graph_bytes(alloc, disk, order.graph, reader)?;
     let graph = read_graph(alloc, &bytes)?;
     let feeds = feeds_in(alloc, disk, order.folder, graph.actors())?;
-    ran_over(rt, graph, &feeds, order)
+    ran_apart(rt, disk, graph, &feeds, order)
 }
 
 /// A file that is to be put: its folder, its name there and its text.

@@ -2,10 +2,11 @@
 
 ghost use Rattle.std.specs.Prelude.{[], ◌∷◌, List, None, Option, is_ok};
 ghost use Rattle.std.specs.Fs.{permissions_mode};
-ghost use Rattle.csdf_tool.specs.SystemCalls.{Call, Called, Follow, Open, Permit, Remove, Rename, See, Write, unopened_as};
+ghost use Rattle.csdf_tool.specs.SystemCalls.{Call, Called, Follow, Link, Open, Permit, Remove, Rename, See, Write, text_of, unopened_as};
 
 use std::fs::{self, Metadata, Permissions};
 use std::io::{self, Read};
+use std::path::PathBuf;
 use std::rt::Files;
 
 /// The calls of the system on files, each as std has it.
@@ -23,6 +24,10 @@ pub(crate) trait System {
     /// What is told of what stands at a path, which may be a link.
     fn symlink_metadata(&mut self, path: &str) -> io::Result<Metadata>
         ensures { Called (calls self.old) (calls self.new) (See path.now result ∷ []) };
+
+    /// The text of a link.
+    fn read_link(&mut self, path: &str) -> io::Result<PathBuf>
+        ensures { Called (calls self.old) (calls self.new) (Link path.now (text_of result) ∷ []) };
 
     /// Opens a file to be read.
     fn open(&mut self, path: &str) -> io::Result<Self::File>
@@ -50,7 +55,7 @@ pub(crate) trait System {
 #[derive(Clone, Copy)]
 pub(crate) struct HostSystem<'a, R>(pub(crate) &'a R);
 
-impl<R: Files> System for HostSystem<'_, R> {
+impl<R: Files + AllocGlobal> System for HostSystem<'_, R> {
     type File = R::File;
 
     ghost calls = { λ _. None };
@@ -61,6 +66,10 @@ impl<R: Files> System for HostSystem<'_, R> {
 
     fn symlink_metadata(&mut self, path: &str) -> io::Result<Metadata> {
         fs::symlink_metadata(self.0, path)
+    }
+
+    fn read_link(&mut self, path: &str) -> io::Result<PathBuf> {
+        fs::read_link(self.0, path)
     }
 
     fn open(&mut self, path: &str) -> io::Result<R::File> {

@@ -6,7 +6,7 @@ use Rattle.csdf_words.specs.CommandLine.{asked_view, form_asked, form_of}
 use Rattle.csdf_answers.specs.declared.fault.ToolFault.TheVariants.{Memory}
 use Rattle.csdf_tool.specs.Carried.{reads_input}
 use Rattle.csdf_tool.proofs.CauseLemmas.{caused_as, memory_causes}
-use Rattle.csdf_tool.proofs.EndLemmas.{at_refusal, at_three, at_zero, carried_as, ended_in, lined, lined_unread, never_two, one_asked, some_asked, taken_words, told_as, told_of}
+use Rattle.csdf_tool.proofs.EndLemmas.{at_refusal, at_three, at_zero, carried_as, ended_in, in_use, lined, lined_unread, one_asked, some_asked, taken_words, told_as, told_of}
 use Rattle.csdf_tool.proofs.EndLemmas.{nothing_ends, taken_ends, unread_ends}
 use Rattle.csdf_tool.proofs.program.run_words.Goals as goal
 
@@ -80,7 +80,9 @@ pub returns-in-Ok-clause-answered : goal.returns-in-Ok-clause-answered
 returns-in-Ok-clause-answered g c = λ zero. at_zero c.carry_out.result _ c.status_after.ensures.ends zero c.status_after.ensures.silent
 
 pub returns-in-Ok-clause-taken : goal.returns-in-Ok-clause-taken
-returns-in-Ok-clause-taken g c = λ taken some. never_two c.carry_out.result c.status_after.ensures.ends
+returns-in-Ok-clause-taken g c = λ taken some.
+    in_use c.carry_out.result
+    (ended_in c.carry_out.result _ _ _ _ (c.form_of-form.ensures ∙ ap form_asked (sym c.in-Ok.ensures.asked)) c.status_after.ensures.ends)
 
 pub returns-in-Ok-clause-unread : goal.returns-in-Ok-clause-unread
 returns-in-Ok-clause-unread g c = λ some. absurd (some c.in-Ok.ensures.read)

@@ -9,7 +9,7 @@ use Rattle.csdf_answers.specs.declared.fault.Stream.TheVariants.{Input}
 use Rattle.csdf_answers.specs.declared.fault.ToolFault.TheVariants.{Device}
 use Rattle.csdf_tool.proofs.CauseLemmas.{err_as}
 use Rattle.csdf_tool.proofs.FaultLemmas.{gives_none}
-use Rattle.csdf_tool.proofs.RunLemmas.{graph_ends, is_some-map, lacks_ends, ran_of_file, run_asks, stops_by_feed, stops_by_graph, stops_by_texts, texts_end}
+use Rattle.csdf_tool.proofs.RunLemmas.{both_errs, graph_ends, is_some-map, lacks_ends, kept_ends, ran_of_file, reads_asked, stops_by_feed, stops_by_graph, stops_by_run}
 use Rattle.csdf_answers.proofs.ToldLemmas.{if_err_fault}
 use Rattle.csdf_tool.proofs.run_files.ran_by.Goals as goal
 
@@ -43,11 +43,11 @@ returns-in_err-feeds-clause-stopped g c =
 pub returns-clause-stopped : goal.returns-clause-stopped
 returns-clause-stopped g c =
     let left = g.I.Intake.left c.args.reader.now in
-    IfErr-weaker c.ran_over.result _ _ (λ fault refused.
-    stops_by_texts (order_view c.args.order) left _ c.in_ok-bytes.bytes.items c.deref.result.now (sym c.deref.ensures.value) c.in_ok-bytes.ensures.named fault
+    IfErr-weaker c.ran_apart.result _ _ (λ fault both.
+    stops_by_run (order_view c.args.order) left _ c.in_ok-bytes.bytes.items c.deref.result.now (sym c.deref.ensures.value) c.in_ok-bytes.ensures.named fault
     _ _ _ c.in_ok-bytes.ensures.read c.in_ok-graph.graph c.in_ok-graph.ensures (map actor_view c.actors.result.now) c.actors.ensures.value
     (texts_in c.in_ok-feeds.feeds.items) (texts_in c.deref-2.result.now) (ap texts_in (sym c.deref-2.ensures.value)) c.in_ok-feeds.ensures.read
-    c.in_ok-feeds.ensures.each refused) c.ran_over.ensures.refused
+    c.in_ok-feeds.ensures.each _ both.0 both.1) (both_errs c.ran_apart.result _ _ c.ran_apart.ensures.only c.ran_apart.ensures.refused)
 
 pub returns-clause-ran : goal.returns-clause-ran
 returns-clause-ran g c =
@@ -56,11 +56,12 @@ returns-clause-ran g c =
     let read = c.in_ok-graph.ensures in
     let left = g.I.Intake.left c.args.reader.now in
     let named = subst (λ bytes. IsNamed c.args.order.graph.now left bytes) (sym c.deref.ensures.value) c.in_ok-bytes.ensures.named in
-    let asked = run_asks (order_view c.args.order) graph c.in_ok-bytes.bytes.items seen (map actor_view c.actors.result.now)
+    let asked = reads_asked (order_view c.args.order) graph c.in_ok-bytes.bytes.items seen (map actor_view c.actors.result.now)
     (texts_in c.in_ok-feeds.feeds.items) (texts_in c.deref-2.result.now) _ _ _ c.in_ok-bytes.ensures.read c.in_ok-feeds.ensures.read
     (sym c.deref.ensures.value) c.actors.ensures.value (ap texts_in (sym c.deref-2.ensures.value)) in
-    ran_of_file (order_view c.args.order) left graph seen (texts_in c.deref-2.result.now) _ _ _ c.ran_over.result named read asked
-    (is_some-map c.args.order.journal) c.ran_over.ensures.told c.ran_over.ensures.sequential c.ran_over.ensures.kept c.ran_over.ensures.alike
+    ran_of_file (order_view c.args.order) left graph seen (texts_in c.deref-2.result.now) _ _ _ _ c.ran_apart.result named read asked
+    (is_some-map c.args.order.journal) c.ran_apart.ensures.told c.ran_apart.ensures.sequential c.ran_apart.ensures.kept c.ran_apart.ensures.alike
+    c.ran_apart.ensures.apart
 
 pub returns-in_err-bytes-clause-ran : goal.returns-in_err-bytes-clause-ran
 returns-in_err-bytes-clause-ran g c = gives_none c.from_residual.result c.in_err-bytes.field-0.0 _ c.from_residual.ensures.1
@@ -102,5 +103,5 @@ returns-clause-input g c = λ is failed.
 
 pub returns-clause-other : goal.returns-clause-other
 returns-clause-other g c =
-    IfErr-weaker c.ran_over.result _ _ (λ fault refused. texts_end c.args.order.room c.in_ok-graph.graph (texts_in c.deref-2.result.now) fault refused)
-    c.ran_over.ensures.refused
+    IfErr-weaker c.ran_apart.result _ _
+    (λ fault kept. kept_ends (order_view c.args.order) c.in_ok-graph.graph (texts_in c.deref-2.result.now) _ _ fault kept) c.ran_apart.ensures.refused

@@ -1,0 +1,12 @@
+use Rattle.csdf_tool.proofs.DiskLemmas.{on_err}
+use Rattle.csdf_tool.proofs.ApartLemmas.{only_located}
+use Rattle.csdf_tool.proofs.apart.look_for.Goals as goal
+
+pub returns-in_err-place-clause-only : goal.returns-in_err-place-clause-only
+returns-in_err-place-clause-only g c = on_err _ _ (only_located _ _ _ _ c.locate.ensures)
+
+pub returns-in_err-name-clause-only : goal.returns-in_err-name-clause-only
+returns-in_err-name-clause-only g c = on_err _ _ (only_located _ _ _ _ c.locate.ensures)
+
+pub returns-in_err-push-clause-only : goal.returns-in_err-push-clause-only
+returns-in_err-push-clause-only g c = on_err _ _ (only_located _ _ _ _ c.locate.ensures)

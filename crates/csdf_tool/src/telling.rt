@@ -1,0 +1,116 @@
+//! What is told of a run on the way.
+
+ghost use Rattle.std.specs.Prelude.{◌≡◌, ◌⊎◌, ◌+◌, ℕ, List, Option, true, false, min, OnOk};
+ghost use Rattle.std.specs.Io.KnownBytes.{Appends};
+ghost use Rattle.csdf_tool.specs.Telling.{is_due, line, line_text, made_after};
+
+use csdf_bytes::DeviceFailed;
+use std::fmt;
+
+/// After how many firings the line is told again: what half a second makes where they are made one by one.
+const STEP: u64 = 2_000_000;
+
+/// A line that tells how many firings were made, of how many at most. Each is written over the one before,
+/// and the last one ends with a newline.
+#[derive(Clone, Copy)]
+pub(crate) struct Line {
+    made: u64,
+    most: u64,
+    is_last: bool,
+}
+
+impl fmt::Display for Line {
+    ghost use Rattle.std.specs.Prelude.{Some};
+    ghost use Rattle.csdf_tool.specs.Telling.{line_text};
+
+    ghost output = { λ line. Some (line_text line) };
+
+    fn fmt<W: fmt::Write>(&self, f: &mut fmt::Formatter<W>) -> fmt::Result {
+        let made = self.made;
+        let most = self.most;
+        if self.is_last {
+            write!(f, "\rcsdf: {made} of at most {most} firings\n")
+        } else {
+            write!(f, "\rcsdf: {made} of at most {most} firings")
+        }
+    }
+}
+
+/// Where lines are told.
+pub(crate) trait Telling {
+    /// What was told so far, where that is known.
+    ghost told: { Self → Option (List ℕ) };
+
+    /// Tells a line.
+    fn tell(&mut self, line: Line) -> Result<(), DeviceFailed>
+        ensures { OnOk result (Appends (told self.old) (told self.new) (line_text line)) };
+}
+
+/// Tells that a run of at most so many firings begins, where that is asked for.
+pub(crate) fn tell_begin<T: Telling>(
+    place: &mut T,
+    is_asked: bool,
+    most: u64,
+) -> Result<(), DeviceFailed>
+    ensures told { is_asked ≡ true → OnOk result (Appends (T.told place.old) (T.told place.new) (line_text (line 0 most false))) }
+    ensures silent { is_asked ≡ false → place.new ≡ place.old }
+{
+    if !is_asked {
+        return Ok(());
+    }
+    place.tell(Line {
+        made: 0,
+        most,
+        is_last: false,
+    })
+}
+
+/// Whether the line is due again: more than so many firings were made now than before.
+fn is_due(before: u64, made: u64) -> bool
+    ensures { result ≡ is_due before made }
+{
+    before / STEP != made / STEP
+}
+
+/// Tells that so many firings more were made than before, where that is asked for and the line is due.
+pub(crate) fn tell_made<T: Telling>(
+    place: &mut T,
+    is_asked: bool,
+    before: u64,
+    firings: u32,
+    most: u64,
+) -> Result<(), DeviceFailed>
+    ensures told { is_asked ≡ true → is_due before (made_after before firings) ≡ true
+        → OnOk result (Appends (T.told place.old) (T.told place.new) (line_text (line (made_after before firings) most false))) }
+    ensures silent { (is_asked ≡ false) ⊎ (is_due before (made_after before firings) ≡ false) → place.new ≡ place.old }
+{
+    let made = before.saturating_add(u64::from(firings));
+    if !is_asked || !is_due(before, made) {
+        return Ok(());
+    }
+    place.tell(Line {
+        made,
+        most,
+        is_last: false,
+    })
+}
+
+/// Tells how many firings a run has made that has ended, where that is asked for.
+pub(crate) fn tell_end<T: Telling>(
+    place: &mut T,
+    is_asked: bool,
+    made: u64,
+    most: u64,
+) -> Result<(), DeviceFailed>
+    ensures told { is_asked ≡ true → OnOk result (Appends (T.told place.old) (T.told place.new) (line_text (line made most true))) }
+    ensures silent { is_asked ≡ false → place.new ≡ place.old }
+{
+    if !is_asked {
+        return Ok(());
+    }
+    place.tell(Line {
+        made,
+        most,
+        is_last: true,
+    })
+}
