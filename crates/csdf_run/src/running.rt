@@ -1,6 +1,6 @@
 //! A run by worker threads.
 
-ghost use Rattle.std.specs.Prelude.{◌≡◌, ◌≢◌, ◌≤◌, ◌<◌, ◌-◌, ◌++◌, All, Err, IfErr, IfOk, IfSome, IsSome, Ok, if◌then◌else◌, length, nat_lt, option_to_list, true, vec_capacity, vec_len};
+ghost use Rattle.std.specs.Prelude.{◌≡◌, ◌≢◌, ◌≤◌, ◌<◌, ◌-◌, ◌++◌, All, Err, IfErr, IfOk, IfSome, Ok, if◌then◌else◌, length, nat_lt, option_to_list, true, vec_capacity, vec_len};
 ghost use Rattle.csdf_floor.specs.declared.fault.RunFault.TheVariants.{Worker};
 ghost use Rattle.csdf_journal.specs.View.{is_kept};
 ghost use Rattle.csdf_floor.specs.Journal.{program_for};
