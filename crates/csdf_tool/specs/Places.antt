@@ -1,5 +1,5 @@
 -- Which files are one, and which of them a run has in use.
-use Rattle.std.specs.Prelude.{◌≡◌, ◌⊎◌, ℕ, Bool, true, false, ◌&&◌, ◌||◌, ◌==◌, List, [], ◌∷◌, ◌++◌, Option, Some, None, codes, if◌then◌else◌, option_to_list}
+use Rattle.std.specs.Prelude.{◌≡◌, ℕ, Bool, true, false, ◌&&◌, ◌||◌, ◌==◌, List, [], ◌∷◌, ◌++◌, Option, Some, None, codes, if◌then◌else◌, option_to_list}
 use Rattle.std.specs.Path.{path_join}
 use Rattle.std.specs.Str.{bytes_eq}
 use Rattle.csdf_model.specs.Graph.{Actor}

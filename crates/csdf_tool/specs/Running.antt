@@ -1,5 +1,5 @@
 -- A run of a graph file over the token files of a folder.
-use Rattle.std.specs.Prelude.{◌≡◌, ◌≢◌, ◌⊎◌, ℕ, Bool, true, List, [], ◌∷◌, ◌++◌, ◌<◌, false, Option, Some, None, Result, Ok, Err, codes, drop, filter, is_some, length, option_map, take, map, if◌then◌else◌, slice_index_or}
+use Rattle.std.specs.Prelude.{◌≡◌, ◌≢◌, ◌⊎◌, ℕ, Bool, true, List, [], ◌∷◌, ◌++◌, ◌<◌, false, Option, Some, None, Result, Ok, Err, drop, filter, is_some, length, option_map, take, map, if◌then◌else◌, slice_index_or}
 use Rattle.std.specs.Io.KnownBytes.{Appends}
 use Rattle.std.specs.Global.{Vec}
 use Rattle.std.specs.Path.{path_join}
