@@ -1,11 +1,10 @@
 -- What several calls of a device make together.
-use Rattle.std.proofs.Common.{◌≡◌, ℕ, suc, ◌+◌, ◌<◌, ◌≤◌, Bool, true, false, List, ◌++◌, length, take, drop, get_or, refl, sym, ◌∙◌, ap, subst, arith, length-append, length-take}
+use Rattle.std.proofs.Common.{◌≡◌, ℕ, ◌+◌, ◌≤◌, Bool, true, false, List, ◌++◌, length, take, drop, refl, sym, ◌∙◌, ap, subst, arith, length-append, length-take}
 use Rattle.std.specs.Prelude.{Option, None, Some, Result, Ok, Err, OnErr}
 use Rattle.std.specs.Io.KnownBytes.{Appends, Consumes, Keeps}
-use Rattle.std.proofs.Math.Seq.{drop-cons, take-add, take-append-add}
+use Rattle.std.proofs.Math.Seq.{take-add, take-append-add}
 use Rattle.std.proofs.lemmas.Grind.{flat_map-append}
 use Rattle.std.proofs.lemmas.List.{take-append-drop, take-append-le}
-use Rattle.std.proofs.lemmas.List.Concat.{flat_map-cons}
 use Rattle.std.specs.List.{flat_map}
 use Rattle.std.proofs.KnownBytes.{Appends-trans, Consumes-kept, Consumes-trans}
 use Rattle.csdf_bytes.specs.Device.{Emits, EmitsSome, Fetches, TakesAtMost}
@@ -47,19 +46,25 @@ EmitsSome-after a b c front line rest first next = record {
       subst (Appends a c) (sym same) (Appends-trans a b c front (take next.count line) first next.put);
 }
 
--- the lines of a list, about the line at a place
-flat_map-at : {X : Type 0} (f : X → List ℕ) (xs : List X) (i : ℕ) (d : X) → i < length xs
-    → flat_map f xs ≡ flat_map f (take i xs) ++ (f (get_or xs i d) ++ flat_map f (drop (suc i) xs))
-flat_map-at f xs i d inside =
+-- a list about a part of it
+flat_map-part : {X : Type 0} (f : X → List ℕ) (xs : List X) (i n : ℕ)
+    → flat_map f xs ≡ flat_map f (take i xs) ++ (flat_map f (take n (drop i xs)) ++ flat_map f (drop n (drop i xs)))
+flat_map-part f xs i n =
     ap (flat_map f) (sym (take-append-drop i xs)) ∙ flat_map-append f (take i xs) (drop i xs)
-    ∙ ap (λ l. flat_map f (take i xs) ++ flat_map f l) (drop-cons xs i d inside)
-    ∙ ap (λ l. flat_map f (take i xs) ++ l) (flat_map-cons f (get_or xs i d) (drop (suc i) xs))
+    ∙ ap (λ rest. flat_map f (take i xs) ++ flat_map f rest) (sym (take-append-drop n (drop i xs)))
+    ∙ ap (λ rest. flat_map f (take i xs) ++ rest) (flat_map-append f (take n (drop i xs)) (drop n (drop i xs)))
 
--- the lines before a place went out, and a beginning of the line there
-pub EmitsSome-lines : {X : Type 0} (f : X → List ℕ) (xs : List X) (i : ℕ) (d : X) (a b c : Option (List ℕ)) → i < length xs
-    → Appends a b (flat_map f (take i xs)) → EmitsSome b c (f (get_or xs i d)) → EmitsSome a c (flat_map f xs)
-EmitsSome-lines f xs i d a b c inside first next =
-    subst (EmitsSome a c) (sym (flat_map-at f xs i d inside)) (EmitsSome-after a b c _ _ (flat_map f (drop (suc i) xs)) first next)
+-- the lines before a place went out, and a beginning of those of the next items
+pub EmitsSome-part : {X : Type 0} (f : X → List ℕ) (xs : List X) (i n : ℕ) (a b c : Option (List ℕ)) → Appends a b (flat_map f (take i xs))
+    → EmitsSome b c (flat_map f (take n (drop i xs))) → EmitsSome a c (flat_map f xs)
+EmitsSome-part f xs i n a b c first next =
+    subst (EmitsSome a c) (sym (flat_map-part f xs i n)) (EmitsSome-after a b c _ _ (flat_map f (drop n (drop i xs))) first next)
+
+-- and where all of those went out
+pub Appends-part : {X : Type 0} (f : X → List ℕ) (xs : List X) (i n : ℕ) (a b c : Option (List ℕ)) → Appends a b (flat_map f (take i xs))
+    → Appends b c (flat_map f (take n (drop i xs))) → Appends a c (flat_map f (take (i + n) xs))
+Appends-part f xs i n a b c first next =
+    subst (Appends a c) (sym (ap (flat_map f) (take-add i n xs) ∙ flat_map-append f (take i xs) (take n (drop i xs)))) (Appends-trans a b c _ _ first next)
 
 -- what holds in any case
 pub on_err : {T E : Type 0} (r : Result T E) (P : Type 0) → P → OnErr r P

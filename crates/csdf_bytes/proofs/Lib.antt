@@ -1,5 +1,10 @@
+pub mod BufferLemmas
 pub mod DeviceLemmas
+pub mod FileTokensLemmas
+pub mod PairLemmas
+pub mod QuickLemmas
 pub mod TokenLineLemmas
 pub mod TokenWordLemmas
+pub mod TokenStreamLemmas
 pub mod TokenTextLemmas
 pub mod WrittenLemmas

@@ -58,7 +58,7 @@ signed_decimal-marks (negsuc n) h = All-cons IsMark 45 (decimal (suc n)) (omega 
 
 -- ---- a line of marks is its own word
 
-mark-not : (b c : ℕ) → IsMark b → c < 45 → nat_eq b c ≡ false
+pub mark-not : (b c : ℕ) → IsMark b → c < 45 → nat_eq b c ≡ false
 mark-not b c high low = grind (arith, nat_tests)
 
 strip-marks : (line : List ℕ) → All IsMark line → strip_carriage_return line ≡ line
@@ -95,7 +95,7 @@ digits-test (c ∷ cs) h =
     let first : is_ascii_digit c ≡ true = grind (arith, nat_tests) in
     ap (λ test. test && list_all is_ascii_digit cs) first ∙ digits-test cs h.1
 
-below-test : (n limit : ℕ) → n < limit → nat_lt n limit ≡ true
+pub below-test : (n limit : ℕ) → n < limit → nat_lt n limit ≡ true
 below-test n limit h = grind (arith, nat_tests)
 
 decimal-numeral : (n : ℕ) → n < 2 ^ 64 → is_numeral (decimal n) ≡ true
@@ -107,7 +107,7 @@ decimal-numeral n h =
 digit-sign : (c : ℕ) → IsInRange 48 57 c → (nat_eq c 45 ≡ false) × (nat_eq c 43 ≡ false)
 digit-sign c h = (grind (arith, nat_tests), grind (arith, nat_tests))
 
-no-sign : (ds : List ℕ) → AllDigits 10 ds → 0 < length ds → (without_leading_sign ds ≡ ds) × (signed_digits_value 10 ds ≡ pos (digits_value 10 ds))
+pub no-sign : (ds : List ℕ) → AllDigits 10 ds → 0 < length ds → (without_leading_sign ds ≡ ds) × (signed_digits_value 10 ds ≡ pos (digits_value 10 ds))
 no-sign [] h some = absurd (omega arith)
 no-sign (c ∷ cs) h some =
     let sign = digit-sign c (digit_from_value c h.0) in
@@ -119,7 +119,7 @@ no-sign (c ∷ cs) h some =
     )
 
 -- a word by its parts
-token_in-parts : (word : List ℕ) (z : ℤ) → is_numeral (without_leading_sign word) ≡ true → signed_digits_value 10 word ≡ z → is_token z ≡ true
+pub token_in-parts : (word : List ℕ) (z : ℤ) → is_numeral (without_leading_sign word) ≡ true → signed_digits_value 10 word ≡ z → is_token z ≡ true
     → token_in word ≡ Ok z
 unfolding token_in
 token_in-parts word z numeral is in_range =

@@ -15,6 +15,12 @@ pub record TakesAtMost (n : ℕ) (left rest : Option (List ℕ)) : Type 0 where
   pub taken : Consumes left rest bytes
   pub few : length bytes ≤ n
 
+-- known bytes lose some from their front, one at least
+pub record TakesSome (left rest : Option (List ℕ)) : Type 0 where
+  pub bytes : List ℕ
+  pub taken : Consumes left rest bytes
+  pub some : 0 < length bytes
+
 -- a call took the first n of the bytes, after those that were taken before: one at least, where
 -- there is one
 pub record Emits (before after : Option (List ℕ)) (bytes : List ℕ) (n : ℕ) : Type 0 where

@@ -162,19 +162,23 @@ fn tokens_are_written(rt: HostRuntime) -> Result<(), Fail> {
     Ok(())
 }
 
+/// Tokens that go out in three pieces, since 512 lines are written at a time.
+const THREE_PIECES: [i32; 1_025] = [7; 1_025];
+
 #[test]
 fn a_failing_writer_is_told(rt: HostRuntime) {
-    for calls in 0..3 {
+    for (calls, bytes) in [(0, 0), (1, 1_024), (2, 2_048)] {
         let mut text = Vec::new(rt.alloc());
         let mut writer = Fused::new(ToWriter::new(&mut text), calls);
         expect_eq(
             &rt,
-            write_tokens(&mut writer, &[-2147483648, 0, 7]),
+            write_tokens(&mut writer, &THREE_PIECES),
             Err(WriteFault),
         );
         expect_eq(&rt, write_tokens(&mut writer, &[1]), Err(WriteFault));
         expect_eq(&rt, write_bytes(&mut writer, b"1"), Err(WriteFault));
         expect_eq(&rt, write_tokens(&mut writer, &[]), Ok(()));
+        expect_eq(&rt, text.len(), bytes);
     }
 }
 

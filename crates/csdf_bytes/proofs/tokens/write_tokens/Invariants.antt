@@ -1,10 +1,14 @@
-use Rattle.std.proofs.Common.{◌≡◌, take}
+use Rattle.std.proofs.Common.{◌≡◌, ◌-◌, ◌≤◌, length, take}
 use Rattle.std.specs.Io.KnownBytes.{Appends}
 use Rattle.csdf_bytes.specs.TokenText.{token_text}
 use Rattle.csdf_bytes.proofs.tokens.write_tokens.Given as goal
 
-abbrev pub invariant-loop-token : goal.invariant-loop-token
-invariant-loop-token g l = record {
-  so_far : Appends (g.O.Outlet.written l.fn.writer) (g.O.Outlet.written l.writer) (token_text (take l.token-index l.tokens));
+abbrev pub invariant-loop-done : goal.invariant-loop-done
+invariant-loop-done g l = record {
+  within : l.done ≤ length l.tokens;
+  so_far : Appends (g.O.Outlet.written l.fn.writer) (g.O.Outlet.written l.writer) (token_text (take l.done l.tokens));
   unmarked : g.O.Outlet.failed l.writer ≡ g.O.Outlet.failed l.fn.writer;
 }
+
+abbrev pub decreases-loop-done : goal.decreases-loop-done
+decreases-loop-done g l = length l.tokens - l.done
