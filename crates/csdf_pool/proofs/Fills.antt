@@ -1,5 +1,5 @@
 -- Going along linked cells, one at a time, and reading or writing their tokens.
-use Rattle.std.proofs.Common.{◌≡◌, ℕ, suc, ◌+◌, ◌-◌, ◌<◌, ℤ, pos, List, [], ◌∷◌, ◌++◌, length, get_or, take, drop, map, set, ap, ap₂, refl, arith, ◌∙◌, sym}
+use Rattle.std.proofs.Common.{◌≡◌, ℕ, zero, suc, ◌+◌, ◌-◌, ◌<◌, ℤ, pos, List, [], ◌∷◌, ◌++◌, length, get_or, take, drop, map, set, ap, ap₂, refl, arith, ◌∙◌, sym}
 use Rattle.std.proofs.Common.{subst, get_or-drop, get_or-set_other, get_or-set_same, drop-drop, take-append-drop, All}
 use Rattle.std.proofs.lemmas.List.{take_more, map-append}
 use Rattle.csdf_pool.specs.Cells.{times, EachOnce}
@@ -15,6 +15,11 @@ map-same f g [] same = refl
 map-same f g (cell ∷ cells) same =
     ap₂ ◌∷◌ (same cell (omega (arith, times-cons_same cell cells)))
     (map-same f g cells (λ c stands. same c (omega (arith, stands, times-cons-le c cell cells))))
+
+-- the first of some cells lies where all do
+pub first_in : (links : List ℕ) (first n : ℕ) → 0 < n → (size : ℕ) → All (λ cell. cell < size) (linked_from links first n) → first < size
+first_in links first zero some size all = absurd (omega arith)
+first_in links first (suc n) some size all = all 0 0 (omega arith)
 
 module _ (links : List ℕ) (first n i next : ℕ) (below : i < n) (rest : linked_from links next (n - i) ≡ drop i (linked_from links first n)) where
   cells : List ℕ

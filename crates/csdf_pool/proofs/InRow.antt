@@ -13,30 +13,38 @@ use Rattle.csdf_pool.specs.Rows.{IsRow}
 use Rattle.csdf_pool.proofs.Opening.{times-range_in}
 use Rattle.csdf_pool.proofs.Walks.{length-linked_from}
 
--- where each of n cells has a link to the one behind it in the table, a walk goes along the table
-along : (links : List ℕ) (at n : ℕ) → ((i : ℕ) → i < n → get_or links (at + i) 0 ≡ at + i + 1) → linked_from links at n ≡ range_with_len at n
-along links at zero linked = refl
-along links at (suc n) linked =
-    let next : get_or links at 0 ≡ at + 1 = ap (λ k. get_or links k 0) (omega arith) ∙ linked 0 (omega arith) ∙ omega arith in
-    let behind : (i : ℕ) → i < n → get_or links (at + 1 + i) 0 ≡ at + 1 + i + 1 = λ i below.
-    ap (λ k. get_or links k 0) (omega arith) ∙ linked (suc i) (omega (arith, below)) ∙ omega arith in
+-- a row of as many cells
+pub row_as : (links : List ℕ) (at n m : ℕ) → n ≡ m → IsRow links at m → IsRow links at n
+row_as links at n m same row i below = row i (omega (arith, same, below))
+
+-- two rows, the second one behind the first
+pub row_more : (links : List ℕ) (at n k : ℕ) → IsRow links at n → IsRow links (at + n) k → IsRow links at (n + k)
+row_more links at n k front back i below =
+    elim (cases_lt i n) [
+      | inl before ↦ front i before
+      | inr behind ↦
+          ap (λ j. get_or links j 0) (omega (arith, behind)) ∙ back (i - n) (omega (arith, below, behind)) ∙ omega (arith, behind)
+    ]
+
+-- a walk along the cells of a row goes along the table
+along : (links : List ℕ) (at n : ℕ) → IsRow links at n → linked_from links at n ≡ range_with_len at n
+along links at zero leads = refl
+along links at (suc n) leads =
+    let next : get_or links at 0 ≡ at + 1 = ap (λ k. get_or links k 0) (omega arith) ∙ leads 0 (omega arith) ∙ omega arith in
+    let behind : IsRow links (at + 1) n = λ i below.
+    ap (λ k. get_or links k 0) (omega arith) ∙ leads (suc i) (omega (arith, below)) ∙ omega arith in
     ap (λ cells. at ∷ cells) (ap (λ c. linked_from links c n) next ∙ along links (at + 1) n behind)
 
-row_cells : (links : List ℕ) (at n : ℕ) → n ≡ 16 → IsRow links at → linked_from links at n ≡ range_with_len at 16
-row_cells links at n sixteen row = ap (linked_from links at) sixteen ∙ along links at 16 row
-
 -- the last of a row
-pub row_last : (links : List ℕ) (at n : ℕ) → n ≡ 16 → IsRow links at → at + 15 ≡ get_or (linked_from links at n) (n - 1) 0
-row_last links at n sixteen row =
-    sym (ap (λ k. get_or (linked_from links at n) (k - 1) 0) sixteen
-    ∙ ap (λ cells. get_or cells 15 0) (row_cells links at n sixteen row)
-    ∙ get_or-range_with_len at 16 15 0 (omega arith))
+pub row_last : (links : List ℕ) (at n : ℕ) → 0 < n → IsRow links at n → at + (n - 1) ≡ get_or (linked_from links at n) (n - 1) 0
+row_last links at n some row =
+    sym (ap (λ cells. get_or cells (n - 1) 0) (along links at n row) ∙ get_or-range_with_len at n (n - 1) 0 (omega arith))
 
 -- a row of cells below a size ends below it
-pub row_within : (links : List ℕ) (at n size : ℕ) → n ≡ 16 → IsRow links at → All (λ cell. cell < size) (linked_from links at n) → at + 16 ≤ size
-row_within links at n size sixteen row all =
-    let last : at + 15 < size = subst (λ cell. cell < size) (sym (row_last links at n sixteen row))
-    (all (n - 1) 0 (omega (arith, sixteen, length-linked_from links at n))) in
+pub row_within : (links : List ℕ) (at n size : ℕ) → 0 < n → IsRow links at n → All (λ cell. cell < size) (linked_from links at n) → at + n ≤ size
+row_within links at n size some row all =
+    let last : at + (n - 1) < size = subst (λ cell. cell < size) (sym (row_last links at n some row))
+    (all (n - 1) 0 (omega (arith, length-linked_from links at n))) in
     omega arith
 
 -- the tokens of cells that lie one behind the other
@@ -47,42 +55,48 @@ tokens_along table at (suc n) h =
     (tokens_along table (at + 1) n (omega (arith, h)) ∙ ap (λ k. take n (drop k table)) (add-one at))
     ∙ sym (ap (take (suc n)) (drop-cons table at (pos 0) (omega (arith, h))))
 
-pub row_tokens : (links : List ℕ) (table : List ℤ) (at n : ℕ) → n ≡ 16 → IsRow links at → at + 16 ≤ length table →
-    map (token_at table) (linked_from links at n) ≡ take 16 (drop at table)
-row_tokens links table at n sixteen row within = ap (map (token_at table)) (row_cells links at n sixteen row) ∙ tokens_along table at 16 within
+pub row_tokens : (links : List ℕ) (table : List ℤ) (at n : ℕ) → IsRow links at n → at + n ≤ length table →
+    map (token_at table) (linked_from links at n) ≡ take n (drop at table)
+row_tokens links table at n row within = ap (map (token_at table)) (along links at n row) ∙ tokens_along table at n within
 
-module _ (links : List ℕ) (old : List ℤ) (at : ℕ) (tokens : List ℤ) (row : IsRow links at) (within : at + 16 ≤ length old) (sixteen : length tokens ≡ 16) where
+module _ (links : List ℕ) (old : List ℤ) (at : ℕ) (tokens : List ℤ) (row : IsRow links at (length tokens)) (within : at + length tokens ≤ length old) where
   front : length (take at old) ≡ at
   front = length-take-le at old (omega arith)
 
-  size : at + 16 ≤ length (take at old ++ (tokens ++ drop (at + 16) old))
-  size = omega (arith, front, length-append (take at old) (tokens ++ drop (at + 16) old), length-append tokens (drop (at + 16) old))
+  size : at + length tokens ≤ length (take at old ++ (tokens ++ drop (at + length tokens) old))
+  size =
+      omega (
+        arith,
+        front,
+        length-append (take at old) (tokens ++ drop (at + length tokens) old),
+        length-append tokens (drop (at + length tokens) old),
+      )
 
   -- the tokens put into a row's piece of the table are those of its cells
-  pub row_filled : map (token_at (take at old ++ (tokens ++ drop (at + 16) old))) (linked_from links at (length tokens)) ≡ tokens
+  pub row_filled : map (token_at (take at old ++ (tokens ++ drop (at + length tokens) old))) (linked_from links at (length tokens)) ≡ tokens
   row_filled =
-      row_tokens links (take at old ++ (tokens ++ drop (at + 16) old)) at (length tokens) sixteen row size
-      ∙ ap (take 16) (drop_at (take at old) (tokens ++ drop (at + 16) old) at front)
-      ∙ take_at tokens (drop (at + 16) old) 16 sixteen
+      row_tokens links (take at old ++ (tokens ++ drop (at + length tokens) old)) at (length tokens) row size
+      ∙ ap (take (length tokens)) (drop_at (take at old) (tokens ++ drop (at + length tokens) old) at front)
+      ∙ take_at tokens (drop (at + length tokens) old) (length tokens) refl
 
   -- a cell that stands neither in the row nor before it stands behind it
-  after_row : (cell : ℕ) → times cell (linked_from links at (length tokens)) ≡ 0 → at ≤ cell → at + 16 ≤ cell
-  after_row cell none h = elim (cases_lt cell (at + 16)) [
-    | inl before ↦ absurd (omega (arith, none, ap (times cell) (row_cells links at (length tokens) sixteen row), times-range_in cell at 16 h before))
+  after_row : (cell : ℕ) → times cell (linked_from links at (length tokens)) ≡ 0 → at ≤ cell → at + length tokens ≤ cell
+  after_row cell none h = elim (cases_lt cell (at + length tokens)) [
+    | inl before ↦ absurd (omega (arith, none, ap (times cell) (along links at (length tokens) row), times-range_in cell at (length tokens) h before))
     | inr not_before ↦ omega (arith, not_before)
   ]
 
   -- and no other cell has another token
   pub row_others : (cell : ℕ) → times cell (linked_from links at (length tokens)) ≡ 0 →
-      token_at (take at old ++ (tokens ++ drop (at + 16) old)) cell ≡ token_at old cell
+      token_at (take at old ++ (tokens ++ drop (at + length tokens) old)) cell ≡ token_at old cell
   row_others cell none = elim (cases_lt cell at) [
     | inl before ↦
-        get_or_append_left (take at old) (tokens ++ drop (at + 16) old) (pos 0) cell (omega (arith, before, front))
+        get_or_append_left (take at old) (tokens ++ drop (at + length tokens) old) (pos 0) cell (omega (arith, before, front))
         ∙ get_or-take at old cell (pos 0) before
     | inr not_before ↦
-        let behind : at + 16 ≤ cell = after_row cell none (omega (arith, not_before)) in
-        get_or-append_right (take at old) (tokens ++ drop (at + 16) old) at cell (pos 0) front (omega (arith, not_before))
-        ∙ get_or-append_right tokens (drop (at + 16) old) 16 (cell - at) (pos 0) sixteen (omega (arith, behind))
-        ∙ get_or-drop (at + 16) old (cell - at - 16) (pos 0)
+        let behind : at + length tokens ≤ cell = after_row cell none (omega (arith, not_before)) in
+        get_or-append_right (take at old) (tokens ++ drop (at + length tokens) old) at cell (pos 0) front (omega (arith, not_before))
+        ∙ get_or-append_right tokens (drop (at + length tokens) old) (length tokens) (cell - at) (pos 0) refl (omega (arith, behind))
+        ∙ get_or-drop (at + length tokens) old (cell - at - length tokens) (pos 0)
         ∙ ap (λ k. get_or old k (pos 0)) (omega (arith, behind))
   ]

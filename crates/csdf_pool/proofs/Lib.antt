@@ -13,5 +13,6 @@ pub mod Tables
 pub mod Views
 pub mod Segments
 pub mod Opening
+pub mod Bits
 pub mod InRow
 pub mod OneByOne

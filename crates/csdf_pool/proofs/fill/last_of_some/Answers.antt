@@ -1,6 +1,17 @@
-use Rattle.std.proofs.Common.{refl}
-use Rattle.csdf_pool.proofs.InRow.{row_last}
+use Rattle.std.proofs.Common.{◌+◌, ◌-◌, refl, arith}
+use Rattle.csdf_pool.specs.Rows.{IsRow}
+use Rattle.csdf_pool.proofs.InRow.{row_as, row_last}
 use Rattle.csdf_pool.proofs.fill.last_of_some.Goals as goal
 
-pub returns-then-is_row : goal.returns-then-is_row
-returns-then-is_row c = row_last c.args.links.now c.args.first c.args.n c.if-n-eq16.true (c.if-is_row.ensures.0 refl)
+pub overflow_add-result : goal.overflow_add-result
+overflow_add-result c =
+    let row : IsRow c.args.links.now c.args.first c.args.n =
+    row_as c.args.links.now c.args.first c.args.n 16 c.if-n.true (c.if-starts_row.ensures refl) in
+    let before = c.args.n - 1 in
+    omega (arith, row before (omega arith), c.type_inv.links (c.args.first + before))
+
+pub returns-then-starts_row : goal.returns-then-starts_row
+returns-then-starts_row c =
+    let row : IsRow c.args.links.now c.args.first c.args.n =
+    row_as c.args.links.now c.args.first c.args.n 16 c.if-n.true (c.if-starts_row.ensures refl) in
+    row_last c.args.links.now c.args.first c.args.n c.requires.some row
