@@ -17,4 +17,6 @@ pub mod WakeLemmas
 pub mod GrantLemmas
 pub mod RoomyLemmas
 pub mod AutoLemmas
+pub mod AloneLemmas
+pub mod TightLemmas
 mod RoomExamples

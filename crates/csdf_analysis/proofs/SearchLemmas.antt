@@ -220,22 +220,29 @@ initial_set channels bounds c b channel lt is fits initial i d at = elim (same_o
 most : (a b w m : ℕ) → m ≡ max a b → a ≤ w → b ≤ w → m ≤ w
 most a b w m is one two = omega arith
 
-pub search_first : (channels : List Channel) (q bounds own : List ℕ) (c b : ℕ) (channel : Channel) → IsFit channels q → CompletesPeriod channels q bounds
-    → slice_get channels c ≡ Some channel → b ≡ max (length channel.initial) 1 → own ≡ set bounds c b → IsSearch channels q bounds own c
-search_first channels q bounds own c b channel fit completes is first same =
+-- no capacity of fewer tokens than the channel begins with, and none of 0, completes a period
+pub first_low : (channels : List Channel) (q bounds : List ℕ) (c b : ℕ) (channel : Channel) → IsFit channels q → c < length bounds
+    → slice_get channels c ≡ Some channel → b ≡ max (length channel.initial) 1 → (w : ℕ) → CompletesPeriod channels q (set bounds c w) → b ≤ w
+first_low channels q bounds c b channel fit lt is first w done =
+    let fits : length channel.initial ≤ get_or (set bounds c w) c 0 = done.initial c channel is in
+    let bound = get_or-set_same bounds c w 0 lt in
+    let some : 1 ≤ get_or (set bounds c w) c 0 =
+    some_room channels q (set bounds c w) c channel is (at_channel (λ d. 1 ≤ produced d (get_or q d.from 0)) channels c channel fit.some_put is) done in
+    most (length channel.initial) 1 w b first (omega (arith, bound, fits)) (omega (arith, bound, some))
+
+pub search_first : (channels : List Channel) (q bounds own : List ℕ) (c b : ℕ) (channel : Channel) → CompletesPeriod channels q bounds
+    → slice_get channels c ≡ Some channel → length channel.initial ≤ b → ((w : ℕ) → CompletesPeriod channels q (set bounds c w) → b ≤ w)
+    → own ≡ set bounds c b → IsSearch channels q bounds own c
+search_first channels q bounds own c b channel completes is fits low same =
     let lt : c < length bounds = (let e = completes.each_channel in let h = slice_get_within channels c channel is in omega arith) in
     let here : get_or own c 0 ≡ b = ap (λ ks. get_or ks c 0) same ∙ get_or-set_same bounds c b 0 lt in
     record {
       apart = same ∙ ap (set bounds c) (sym here);
-      initial = subst (HoldInitial channels) (sym same) (initial_set channels bounds c b channel lt is (let e = first in omega arith) completes.initial);
+      initial = subst (HoldInitial channels) (sym same) (initial_set channels bounds c b channel lt is fits completes.initial);
       low = λ w done.
           (let whole : set own c w ≡ set bounds c w = ap (λ ks. set ks c w) same ∙ set-set bounds c b w in
-          let fits : length channel.initial ≤ get_or (set bounds c w) c 0 = (subst (CompletesPeriod channels q) whole done).initial c channel is in
-          let bound = get_or-set_same bounds c w 0 lt in
-          let some : 1 ≤ get_or (set bounds c w) c 0 =
-          some_room channels q (set bounds c w) c channel is (at_channel (λ d. 1 ≤ produced d (get_or q d.from 0)) channels c channel fit.some_put is)
-          (subst (CompletesPeriod channels q) whole done) in
-          most (length channel.initial) 1 w (get_or own c 0) (here ∙ first) (omega (arith, bound, fits)) (omega (arith, bound, some)));
+          let least = low w (subst (CompletesPeriod channels q) whole done) in
+          omega (arith, here, least));
     }
 
 pub search_can : (channels : List Channel) (q bounds own : List ℕ) (c : ℕ) → CompletesPeriod channels q bounds → IsSearch channels q bounds own c

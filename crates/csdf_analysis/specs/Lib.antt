@@ -1,3 +1,4 @@
+pub mod Alone
 pub mod Acceptance
 pub mod Capacities
 pub mod Demands

@@ -1,6 +1,7 @@
 //! Laws of periods: what holds of every graph's schedules and capacities. The calls do nothing.
 
 ghost use Rattle.csdf_analysis.specs.Laws.{GreaterCapacitiesComplete, FullCapacitySuffices, EveryScheduleGoesOn};
+ghost use Rattle.csdf_analysis.specs.Alone.{OwnCapacitiesAreNeeded};
 ghost use Rattle.csdf_analysis.specs.Room.{RoomHoldsPeriods, RoomIsAccepted, RoomIsRefused};
 
 /// A law: greater capacities complete a period where smaller ones do.
@@ -36,4 +37,10 @@ pub fn room_is_refused()
 /// of these periods leaves no more in the channel than it.
 pub fn room_holds_periods()
     ensures { RoomHoldsPeriods }
+{}
+
+/// A law: capacities that complete a period are nowhere below the channels' own least ones, which
+/// are those of graphs where a channel is the only one.
+pub fn own_capacities_are_needed()
+    ensures { OwnCapacitiesAreNeeded }
 {}

@@ -21,6 +21,7 @@ mod vector;
 mod waits;
 
 pub use accepted::{Accepted, accept};
+pub use calls::alone::{Tight, tight_channel};
 pub use calls::capacities::capacities;
 pub use calls::demand::demand_of;
 pub use calls::raise::raise;
@@ -31,7 +32,7 @@ pub use demand::{Demand, Ratio};
 pub use fault::AcceptFault;
 pub use laws::{
     every_schedule_goes_on, full_capacity_suffices, greater_capacities_complete,
-    room_holds_periods, room_is_accepted, room_is_refused,
+    own_capacities_are_needed, room_holds_periods, room_is_accepted, room_is_refused,
 };
 pub use length::Length;
 pub use neighbours::{consumers_of, producers_of};

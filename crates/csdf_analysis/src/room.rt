@@ -8,7 +8,7 @@ ghost use Rattle.csdf_analysis.specs.Room.{HasSomePeriod, IsAutoRoom, IsWithRoom
 
 use crate::accepted::{Accepted, accept};
 use crate::calls::capacities::full_capacities;
-use crate::calls::raise::completes;
+use crate::calls::raise::{makes_all, net_of};
 use crate::calls::repetition::repetition;
 use crate::fault::AcceptFault;
 use crate::vector::Vector;
@@ -118,15 +118,17 @@ fn capacities_in_room(
     })) }
     ensures refusal { IfErr result (IsNotAccepted graph.now) }
 {
-    let full = full_capacities(alloc, graph.channels(), &vector.q)?;
-    if !completes(alloc, graph, vector, &full)? {
-        return Err(AcceptFault::Deadlock);
-    }
+    let net = net_of(alloc, graph, vector)?;
     let capacities = capacities_with_room(alloc, graph.channels(), &vector.q, periods)?;
-    if !completes(alloc, graph, vector, &capacities)? {
-        return Err(AcceptFault::TooTight);
+    if makes_all(alloc, &net, &capacities)? {
+        return Ok(capacities);
     }
-    Ok(capacities)
+    let full = full_capacities(alloc, graph.channels(), &vector.q)?;
+    if makes_all(alloc, &net, &full)? {
+        Err(AcceptFault::TooTight)
+    } else {
+        Err(AcceptFault::Deadlock)
+    }
 }
 
 /// Accepts the graph, whose vector this is, with room for so many periods.

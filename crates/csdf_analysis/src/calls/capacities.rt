@@ -6,9 +6,12 @@ ghost use Rattle.csdf_analysis.specs.Repetition.{HaveRoom, IsRepetition, IsWithi
 ghost use Rattle.csdf_analysis.specs.Capacities.{AreLeastCapacities, HasNoCapacities, full_capacities};
 ghost use Rattle.csdf_analysis.specs.Lowering.{IsLowered, first_bound, first_bounds};
 
-use crate::calls::raise::{completes, raise};
+use crate::calls::alone::{own_bounds, tight_channel};
+use crate::calls::lowering::lowered;
+use crate::calls::raise::{makes_all, net_of};
 use crate::calls::repetition::full_capacity;
 use crate::fault::AcceptFault;
+use crate::net::Net;
 use crate::vector::Vector;
 use csdf_model::{Channel, Graph, MAX_CAPACITY};
 use std::alloc::{AllocError, Global};
@@ -59,30 +62,40 @@ fn first_bound(channel: &Channel, q: &[u32]) -> u32
     }
 }
 
-/// These bounds, once each capacity that is not given is the least that completes a period with
-/// the others.
-fn lowered(
+/// The given capacity of each channel, or else its full one, where these complete a period, or why
+/// none do that agree with the given ones.
+fn first_that_complete(
     alloc: Global,
     graph: &Graph,
     vector: &Vector,
-    bounds: Vec<u32>,
-) -> Result<Vec<u32>, AllocError>
+    net: &Net,
+) -> Result<Vec<u32>, AcceptFault>
     requires vector { IsRepetition graph.now.actors graph.now.channels vector.now.r.items vector.now.q.items }
-    requires first { IsLowered graph.now.channels vector.now.q.items 0 bounds.items }
-    ensures { IfOk result (λ v. IsLowered graph.now.channels vector.now.q.items (length graph.now.channels) v.items) }
+    requires channels { net.now.channels ≡ graph.now.channels }
+    requires firings { net.now.firings ≡ vector.now.q.items }
+    ensures first { IfOk result (λ v. IsLowered graph.now.channels vector.now.q.items 0 v.items) }
+    ensures refusal { IfErr result (HasNoCapacities graph.now.channels vector.now.q.items) }
 {
-    let mut bounds = bounds;
-    for (place, channel) in graph.channels().iter().enumerate() {
-        if channel.capacity.is_none() {
-            let (least, _) = raise(alloc, graph, vector, &bounds, place as u32)?;
-            bounds[place] = least;
-        }
+    let full = full_capacities(alloc, graph.channels(), &vector.q)?;
+    if !makes_all(alloc, net, &full)? {
+        return Err(AcceptFault::Deadlock);
+    }
+    if tight_channel(graph, vector).is_some() {
+        return Err(AcceptFault::TooTight);
+    }
+    let bounds = first_bounds(alloc, graph.channels(), &vector.q)?;
+    if !makes_all(alloc, net, &bounds)? {
+        return Err(AcceptFault::TooTight);
     }
     Ok(bounds)
 }
 
 /// The capacities, one for each channel, that complete a period and agree with every given one,
 /// and of these the lexicographically least in file order; each is at most 65,535.
+///
+/// No capacity below a channel's own least one, with which its two ends make their firings where no
+/// other channel is in the way, is in such a list. So where these own ones together complete a
+/// period, they are the least.
 ///
 /// [`AcceptFault::Deadlock`] says that even the full capacities complete no period,
 /// [`AcceptFault::TooTight`] that they do and none that agree with the given ones do, and
@@ -93,14 +106,12 @@ pub fn capacities(alloc: Global, graph: &Graph, vector: &Vector) -> Result<Vec<u
     ensures small { IfOk result (λ v. All (λ b. b ≤ MAX_CAPACITY) v.items) }
     ensures refusal { IfErr result (HasNoCapacities graph.now.channels vector.now.q.items) }
 {
-    let full = full_capacities(alloc, graph.channels(), &vector.q)?;
-    if !completes(alloc, graph, vector, &full)? {
-        return Err(AcceptFault::Deadlock);
+    let net = net_of(alloc, graph, vector)?;
+    let own = own_bounds(alloc, graph.channels(), &vector.q)?;
+    if makes_all(alloc, &net, &own)? {
+        return Ok(own);
     }
-    let bounds = first_bounds(alloc, graph.channels(), &vector.q)?;
-    if !completes(alloc, graph, vector, &bounds)? {
-        return Err(AcceptFault::TooTight);
-    }
-    let least = lowered(alloc, graph, vector, bounds)?;
+    let bounds = first_that_complete(alloc, graph, vector, &net)?;
+    let least = lowered(alloc, &net, &own, bounds)?;
     Ok(least)
 }

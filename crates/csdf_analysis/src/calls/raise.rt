@@ -1,6 +1,7 @@
 //! The least capacity of one channel, by one run that raises it at stalls.
 
-ghost use Rattle.std.specs.Prelude.{◌≡◌, ◌<◌, ◌≤◌, ◌↔◌, All, IfOk, IsTrue, length, sum};
+ghost use Rattle.std.specs.Prelude.{◌≡◌, ℕ, ◌<◌, ◌≤◌, ◌↔◌, All, IfOk, IsTrue, Some, length, slice_get, slice_set, sum};
+ghost use Rattle.csdf_model.specs.Graph.{Channel};
 ghost use Rattle.csdf_analysis.specs.Repetition.{IsRepetition};
 ghost use Rattle.csdf_analysis.specs.Period.{CompletesPeriod, HoldInitial};
 ghost use Rattle.csdf_analysis.specs.Capacities.{IsLeastCapacity};
@@ -20,7 +21,7 @@ pub(crate) fn copy_of(alloc: Global, numbers: &[u32]) -> Result<Vec<u32>, AllocE
 }
 
 /// Whether a run under these bounds makes all firings of a period.
-fn makes_all(alloc: Global, net: &Net, bounds: &[u32]) -> Result<bool, AllocError>
+pub(crate) fn makes_all(alloc: Global, net: &Net, bounds: &[u32]) -> Result<bool, AllocError>
     requires each_channel { length bounds.now ≡ length net.now.channels }
     requires initial { HoldInitial net.now.channels bounds.now }
     ensures { IfOk result (λ done. IsTrue done ↔ CompletesPeriod net.now.channels net.now.firings bounds.now) }
@@ -32,36 +33,24 @@ fn makes_all(alloc: Global, net: &Net, bounds: &[u32]) -> Result<bool, AllocErro
     Ok(run.firings == net.total())
 }
 
-/// Whether a period completes under these capacities, by one run.
-pub(crate) fn completes(
-    alloc: Global,
-    graph: &Graph,
-    vector: &Vector,
-    bounds: &[u32],
-) -> Result<bool, AllocError>
-    requires vector { IsRepetition graph.now.actors graph.now.channels vector.now.r.items vector.now.q.items }
-    requires each_channel { length bounds.now ≡ length graph.now.channels }
-    requires initial { HoldInitial graph.now.channels bounds.now }
-    ensures { IfOk result (λ done. IsTrue done ↔ CompletesPeriod graph.now.channels vector.now.q.items bounds.now) }
-{
-    let net = net_of(alloc, graph, vector)?;
-    makes_all(alloc, &net, bounds)
-}
-
-/// The channel's least capacity with these bounds of the others, and the number of firings.
-fn least_bound(
+/// The channel's least capacity with these bounds of the others, and the number of firings, where
+/// it is known that none below `from` completes a period.
+pub(crate) fn least_bound(
     alloc: Global,
     net: &Net,
     bounds: &[u32],
     number: u32,
+    from: u32,
 ) -> Result<(u32, u32), AllocError>
     requires exists { number < length net.now.channels }
+    requires fits { (c : Channel) → slice_get net.now.channels number ≡ Some c → length c.initial ≤ from }
+    requires low { (w : ℕ) → CompletesPeriod net.now.channels net.now.firings (slice_set bounds.now number w) → from ≤ w }
     requires completes { CompletesPeriod net.now.channels net.now.firings bounds.now }
     ensures least { IfOk result (λ found. IsLeastCapacity net.now.channels net.now.firings bounds.now number found.0) }
     ensures firings { IfOk result (λ found. found.1 ≡ sum net.now.firings) }
 {
     let mut start = copy_of(alloc, bounds)?;
-    start[number as usize] = (net.channel(number).initial.len() as u32).max(1);
+    start[number as usize] = from;
     let mut run = Run::new(alloc, net, start)?;
     let mut waiting = all(net.actors());
     run.go_on(net, &mut waiting);
@@ -94,7 +83,8 @@ pub fn raise(
     ensures firings { IfOk result (λ found. found.1 ≡ sum vector.now.q.items) }
 {
     let net = net_of(alloc, graph, vector)?;
-    least_bound(alloc, &net, bounds, c)
+    let first = (net.channel(c).initial.len() as u32).max(1);
+    least_bound(alloc, &net, bounds, c, first)
 }
 
 /// The graph with the firings of a period.

@@ -1,30 +1,33 @@
-use Rattle.std.proofs.Common.{◌<◌, length, max, set, ap, ◌∙◌, arith}
+use Rattle.std.proofs.Common.{◌<◌, length, set, ap, ◌∙◌, arith}
 use Rattle.std.proofs.lemmas.Grind.{common_steps}
 use Rattle.std.proofs.lemmas.List.{get_or_default}
+use Rattle.csdf_analysis.proofs.AloneLemmas.{some_at}
 use Rattle.csdf_analysis.proofs.RunLemmas.{firings_within}
 use Rattle.csdf_analysis.proofs.SearchLemmas.{search_first, search_can, search_next, search_least}
 use Rattle.csdf_analysis.proofs.calls.raise.least_bound.Goals as goal
 
 pub loop-run-init : goal.loop-run-init
-loop-run-init c = record {
-  run = c.go_on.ensures.run;
-  stalled = c.go_on.ensures.stalled;
-  search = search_first _ _ c.args.bounds.now _ c.args.number c.max.result _ c.channel.ensures.fit c.requires.completes c.channel.ensures.value (c.max.ensures
-      ∙ ap (λ n. max n 1) (omega (arith, c.len.ensures, c.channel.result.now.initial.ok.0))) (c.go_on.ensures.bounds ∙ c.in_ok-run.ensures.bounds
-      ∙ ap (λ ks. set ks c.args.number c.max.result) c.in_ok-start.ensures);
-  waiting = c.go_on.ensures.waiting;
-}
+loop-run-init c =
+    let some = some_at c.args.net.now.channels c.args.number c.requires.exists in
+    record {
+      run = c.go_on.ensures.run;
+      stalled = c.go_on.ensures.stalled;
+      search = search_first _ _ c.args.bounds.now _ c.args.number c.args.from some.0 c.requires.completes some.1 (c.requires.fits some.0 some.1) c.requires.low
+          (c.go_on.ensures.bounds ∙ c.in_ok-run.ensures.bounds ∙ ap (λ ks. set ks c.args.number c.args.from) c.in_ok-start.ensures);
+      waiting = c.go_on.ensures.waiting;
+    }
 
 pub raise-requires-clause-can : goal.raise-requires-clause-can
 raise-requires-clause-can c = search_can _ _ c.args.bounds.now _ _ c.requires.completes c.loop-run.invariant.search
 
 pub loop-run-preserved : goal.loop-run-preserved
 loop-run-preserved c =
+    let some = some_at c.args.net.now.channels c.args.number c.requires.exists in
     let lt : c.args.number < length c.loop-run.run.bounds.items = omega (arith, c.requires.exists, c.loop-run.invariant.run.at.each_bound) in
     record {
       run = c.go_on-in-loop-run.ensures.run;
       stalled = c.go_on-in-loop-run.ensures.stalled;
-      search = search_next _ _ c.args.bounds.now _ _ _ c.args.number _ lt c.channel.ensures.value c.loop-run.invariant.search c.raise.ensures.bounds
+      search = search_next _ _ c.args.bounds.now _ _ _ c.args.number some.0 lt some.1 c.loop-run.invariant.search c.raise.ensures.bounds
           c.raise.ensures.raised c.raise.ensures.low c.go_on-in-loop-run.ensures.bounds;
       waiting = c.go_on-in-loop-run.ensures.waiting;
     }
