@@ -1,6 +1,6 @@
 -- The text of a stall and of a channel that is not balanced, by what the code has seen of a graph.
-use Rattle.std.proofs.Common.{◌≡◌, ℕ, ◌<◌, ◌++◌, List, length, get_or, map, refl, ap, sym, ◌∙◌, arith}
-use Rattle.std.proofs.lemmas.List.{get_or-map, length-map}
+use Rattle.std.proofs.Common.{◌≡◌, ℕ, ◌<◌, ◌++◌, List, [], length, get_or, map, Option, refl, ap, sym, ◌∙◌, arith}
+use Rattle.std.proofs.lemmas.List.{append_assoc, get_or-map, length-map}
 use Rattle.std.proofs.lemmas.Option.{slice_get_read}
 use Rattle.csdf_model.specs.declared.parts.Actor.{Actor as ActorCode}
 use Rattle.csdf_model.specs.declared.parts.Channel.{Channel as ChannelCode}
@@ -8,10 +8,11 @@ use Rattle.csdf_model.specs.Graph.{Actor, Channel, Graph, actor_view, channel_vi
 use Rattle.csdf_analysis.specs.declared.demand.Demand.{Demand}
 use Rattle.csdf_analysis.specs.declared.stall.Bounds.{Bounds}
 use Rattle.csdf_analysis.specs.declared.stall.Stall.{Stall}
+use Rattle.csdf_analysis.specs.declared.calls.alone.Tight.{Tight}
 use Rattle.csdf_analysis.specs.Demands.{IsDemand}
 use Rattle.csdf_answers.specs.Circle.{circle, waiting_but}
 use Rattle.csdf_answers.specs.Described.{actor_names}
-use Rattle.csdf_answers.specs.Explained.{TellsUnbalanced, circle_text, heading, others_text, stall_text, unbalanced_text, waits_text}
+use Rattle.csdf_answers.specs.Explained.{TellsUnbalanced, circle_text, heading, others_text, stall_text, tight_text, unbalanced_text, waits_text}
 use Rattle.csdf_answers.specs.Printed.{names_of, name_at}
 
 pub waits_told : (actors : List Actor) (channels : List Channel) (s : Stall) (these others : List ℕ)
@@ -28,6 +29,23 @@ stall_told g actors channels bounds s text head told head_is seen_actors seen_ch
     told ∙ ap (λ h. h ++ waits_text (map actor_view actors) (map channel_view channels) s) head_is
     ∙ ap (λ (cs : List Channel). heading bounds ++ waits_text (map actor_view actors) cs s) seen_channels
     ∙ ap (λ (them : List Actor). heading bounds ++ waits_text them g.channels s) seen_actors
+
+-- the same behind a text
+pub stall_appended : (g : Graph) (actors : List ActorCode) (channels : List ChannelCode) (bounds : Bounds) (s : Stall) (before mid text head : List ℕ)
+    → mid ≡ before ++ head → text ≡ mid ++ waits_text (map actor_view actors) (map channel_view channels) s → head ≡ heading bounds
+    → map actor_view actors ≡ g.actors → map channel_view channels ≡ g.channels → text ≡ before ++ stall_text g bounds s
+stall_appended g actors channels bounds s before mid text head mid_is told head_is seen_actors seen_channels =
+    let waits = waits_text (map actor_view actors) (map channel_view channels) s in
+    told ∙ ap (λ t. t ++ waits) mid_is ∙ append_assoc before head waits
+    ∙ ap (λ t. before ++ t) (stall_told g actors channels bounds s (head ++ waits) head refl head_is seen_actors seen_channels)
+
+-- the line of a channel that is too tight comes first
+pub tight_told : (g : Graph) (channels : List ChannelCode) (bounds : Bounds) (s : Stall) (tight : Option Tight) (empty mid text : List ℕ) → empty ≡ []
+    → mid ≡ empty ++ tight_text (names_of (map channel_view channels)) tight → text ≡ mid ++ stall_text g bounds s → map channel_view channels ≡ g.channels
+    → text ≡ tight_text (names_of g.channels) tight ++ stall_text g bounds s
+tight_told g channels bounds s tight empty mid text empty_is mid_is told seen =
+    told ∙ ap (λ t. t ++ stall_text g bounds s) (mid_is ∙ ap (λ e. e ++ tight_text (names_of (map channel_view channels)) tight) empty_is
+    ∙ ap (λ (cs : List Channel). tight_text (names_of cs) tight) seen)
 
 pub unbalanced_told : (g : Graph) (actors : List ActorCode) (channels : List ChannelCode) (c : ℕ) (channel : ChannelCode) (d : Demand)
     (text name from to : List ℕ)

@@ -1,5 +1,5 @@
 -- What the program tells of a graph file in answer to `csdf explain`: why it is refused, or that it is accepted.
-use Rattle.std.specs.Prelude.{◌≡◌, ◌⊎◌, ℕ, List, [], ◌++◌, Option, Some, None, Result, Ok, Err, MatchResult, codes, if◌then◌else◌, nat_lt, ◌==◌, ◌-◌, length, take, slice_get, slice_index, slice_index_or, sum}
+use Rattle.std.specs.Prelude.{◌≡◌, ◌⊎◌, ℕ, List, [], ◌++◌, Option, Some, None, Result, Ok, Err, MatchOption, MatchResult, codes, if◌then◌else◌, nat_lt, ◌==◌, ◌-◌, length, take, slice_get, slice_index, slice_index_or, sum}
 use Rattle.std.specs.List.{flat_map}
 use Rattle.std.specs.Fmt.{decimal}
 use Rattle.csdf_graph.specs.declared.fault.GraphFault.{GraphFault}
@@ -15,6 +15,8 @@ use Rattle.csdf_analysis.specs.declared.stall.Stall.{Stall}
 use Rattle.csdf_analysis.specs.declared.stall.Wait.{Wait}
 use Rattle.csdf_analysis.specs.declared.stall.Wait.TheVariants as wait
 use Rattle.csdf_analysis.specs.Acceptance.{Accepted, IsAccepted, IsNotAccepted}
+use Rattle.csdf_analysis.specs.Alone.{EachHasEnough, IsFirstTight}
+use Rattle.csdf_analysis.specs.declared.calls.alone.Tight.{Tight}
 use Rattle.csdf_analysis.specs.Demands.{IsDemand}
 use Rattle.csdf_analysis.specs.Repetition.{IsRepetition}
 use Rattle.csdf_analysis.specs.Stalling.{IsStall, bounds_for}
@@ -58,6 +60,16 @@ unbalanced_text name from to d = codes "unbalanced: " ++ name ++ asked_text from
 
 abbrev pub too_large_text : List ℕ → List ℕ
 too_large_text name = codes "too large: " ++ name ++ codes " is given more than 65535 tokens in a period, its first ones counted\n"
+
+-- the line of a channel whose given capacity is too small even where no other channel is in the way
+abbrev pub tight_line : List ℕ → ℕ → ℕ → List ℕ
+tight_line name given needs =
+    codes "too tight: " ++ (name ++ (codes " is given " ++ (decimal given ++ (codes ", and needs " ++ (decimal needs ++ codes " even alone\n")))))
+
+-- and none where there is no such channel
+abbrev pub tight_text : List (List ℕ) → Option Tight → List ℕ
+tight_text names None = []
+tight_text names (Some t) = tight_line (name_at names t.channel) t.given t.needs
 
 -- what the matter is with a run that stands still under these capacities
 abbrev pub heading : Bounds → List ℕ
@@ -131,12 +143,23 @@ TellsStall g bounds text =
     (r : List ℕ) × (q : List ℕ) × (s : Stall) × IsRepetition g.actors g.channels r q × IsStall g.channels q (bounds_for bounds q g.channels) s
     × (text ≡ stall_text g bounds s)
 
+-- the first channel whose given capacity is too small even alone is told, and then the actors that wait under the given capacities
+abbrev pub TellsTight : Graph → List ℕ → Type 0
+TellsTight g text =
+    (r : List ℕ) × (q : List ℕ) × (s : Stall) × (tight : Option Tight) × IsRepetition g.actors g.channels r q
+    × IsStall g.channels q (bounds_for by.Given q g.channels) s × MatchOption tight (EachHasEnough g.channels q) (IsFirstTight g.channels q)
+    × (text ≡ tight_text (names_of g.channels) tight ++ stall_text g by.Given s)
+
+-- the text of a run that stands still under these capacities was put behind another
+abbrev pub AppendsStall : Graph → List ℕ → Bounds → List ℕ → List ℕ → Type 0
+AppendsStall g q bounds before after = (s : Stall) × IsStall g.channels q (bounds_for bounds q g.channels) s × (after ≡ before ++ stall_text g bounds s)
+
 -- what is told of a graph for each reason to refuse it
 abbrev pub TellsRefusal : Graph → AcceptFault → List ℕ → Type 0
 TellsRefusal g (accept.Unbalanced c) text = TellsUnbalanced g c text
 TellsRefusal g (accept.TooLarge c) text = text ≡ too_large_text (name_at (names_of g.channels) c)
 TellsRefusal g accept.Deadlock text = TellsStall g by.Full text
-TellsRefusal g accept.TooTight text = TellsStall g by.Given text
+TellsRefusal g accept.TooTight text = TellsTight g text
 TellsRefusal g accept.Memory text = ⊥
 
 -- what is told of a graph: that it is accepted, or why it is not

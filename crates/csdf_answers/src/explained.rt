@@ -4,18 +4,22 @@ ghost use Rattle.std.specs.Prelude.{◌≡◌, ◌≢◌, ◌⊎◌, ◌<◌, �
 ghost use Rattle.std.specs.Io.KnownBytes.{Appends};
 ghost use Rattle.csdf_analysis.specs.Acceptance.{IsNotAccepted};
 ghost use Rattle.csdf_analysis.specs.Demands.{IsDemand};
-ghost use Rattle.csdf_answers.specs.Explained.{ExplainsFault, ExplainsGraph, IsExplained, TellsRefusal, TellsStall, TellsUnbalanced, accepted_text};
+ghost use Rattle.csdf_analysis.specs.Repetition.{IsRepetition};
+ghost use Rattle.csdf_answers.specs.Explained.{AppendsStall, ExplainsFault, ExplainsGraph, IsExplained, TellsRefusal, TellsStall, TellsTight, TellsUnbalanced, accepted_text};
 ghost use Rattle.csdf_answers.specs.Faults.{fault_of, fault_text};
 ghost use Rattle.csdf_answers.specs.Printed.{newline};
 ghost use Rattle.csdf_answers.specs.declared.fault.Stream.{Stream};
 
-use crate::explanation::{accepted_text, heading, push_stall, too_large_text, unbalanced_text};
+use crate::explanation::{
+    accepted_text, heading, push_stall, push_tight, too_large_text, unbalanced_text,
+};
 use crate::fault::ToolFault;
 use crate::printed::name_at;
 use crate::question::actor_name;
 use crate::sending::send;
 use csdf_analysis::{
-    AcceptFault, Accepted, Bounds, Demand, accept, demand_of, repetition, stall_of,
+    AcceptFault, Accepted, Bounds, Demand, Vector, accept, demand_of, repetition, stall_of,
+    tight_channel,
 };
 use csdf_bytes::Outlet;
 use csdf_graph::{GraphFault, read_graph};
@@ -55,17 +59,49 @@ fn tell_unbalanced(alloc: Global, graph: &Graph, number: u32) -> Result<String, 
     Ok(text)
 }
 
-/// The actors that wait where a run stands still under these capacities.
-fn tell_stall(alloc: Global, graph: &Graph, bounds: Bounds) -> Result<String, ToolFault>
-    ensures told { IfOk result (λ text. TellsStall graph.now bounds (string_bytes text)) }
+/// Appends what a run that stands still under these capacities says of the graph: that it does, and
+/// what its actors wait for there.
+fn push_stalled(
+    alloc: Global,
+    text: &mut String,
+    graph: &Graph,
+    vector: &Vector,
+    bounds: Bounds,
+) -> Result<(), AllocError>
+    requires { IsRepetition graph.now.actors graph.now.channels vector.now.r.items vector.now.q.items }
+    ensures { OnOk result (AppendsStall graph.now vector.now.q.items bounds (string_bytes text.old) (string_bytes text.new)) }
+{
+    let stall = stall_of(alloc, graph, vector, bounds)?;
+    text.push_str(heading(bounds))?;
+    push_stall(alloc, text, graph.actors(), graph.channels(), &stall)?;
+    Ok(())
+}
+
+/// The actors that wait where a run stands still under the full capacities.
+fn tell_deadlock(alloc: Global, graph: &Graph) -> Result<String, ToolFault>
+    ensures told { IfOk result (λ text. TellsStall graph.now Bounds.Full (string_bytes text)) }
     ensures memory { IfErr result (λ fault. fault ≡ ToolFault.Memory) }
 {
     let Ok(vector) = repetition(alloc, graph) else {
         return Err(ToolFault::Memory);
     };
-    let stall = stall_of(alloc, graph, &vector, bounds)?;
-    let mut text = String::from_str(alloc, heading(bounds))?;
-    push_stall(alloc, &mut text, graph.actors(), graph.channels(), &stall)?;
+    let mut text = String::new(alloc);
+    push_stalled(alloc, &mut text, graph, &vector, Bounds::Full)?;
+    Ok(text)
+}
+
+/// The first channel whose given capacity is too small even alone, and the actors that wait where a
+/// run stands still under the given capacities.
+fn tell_tight(alloc: Global, graph: &Graph) -> Result<String, ToolFault>
+    ensures told { IfOk result (λ text. TellsTight graph.now (string_bytes text)) }
+    ensures memory { IfErr result (λ fault. fault ≡ ToolFault.Memory) }
+{
+    let Ok(vector) = repetition(alloc, graph) else {
+        return Err(ToolFault::Memory);
+    };
+    let mut text = String::new(alloc);
+    push_tight(&mut text, graph.channels(), tight_channel(graph, &vector))?;
+    push_stalled(alloc, &mut text, graph, &vector, Bounds::Given)?;
     Ok(text)
 }
 
@@ -81,8 +117,8 @@ fn tell_refusal(alloc: Global, graph: &Graph, fault: AcceptFault) -> Result<Stri
             let text = too_large_text(alloc, name_at(graph.channels(), number))?;
             Ok(text)
         }
-        AcceptFault::Deadlock => tell_stall(alloc, graph, Bounds::Full),
-        AcceptFault::TooTight => tell_stall(alloc, graph, Bounds::Given),
+        AcceptFault::Deadlock => tell_deadlock(alloc, graph),
+        AcceptFault::TooTight => tell_tight(alloc, graph),
         AcceptFault::Memory => Err(ToolFault::Memory),
     }
 }

@@ -4,12 +4,12 @@ ghost use Rattle.std.specs.Prelude.{◌≡◌, ◌++◌, Some, length, map, slic
 ghost use Rattle.csdf_model.specs.Graph.{actor_view, channel_view};
 ghost use Rattle.csdf_answers.specs.Described.{actor_names};
 ghost use Rattle.csdf_answers.specs.Explained.{accepted_line, accepted_text, asked_text, before_text, few_cells_text, heading, ratio_text, room_line, tokens_line, too_large_text, unbalanced_text};
-ghost use Rattle.csdf_answers.specs.Explained.{beside_text, circle_text, more_line, others_text, some_lines, wait_line, wait_lines, wait_text, waits_text};
+ghost use Rattle.csdf_answers.specs.Explained.{beside_text, circle_text, more_line, others_text, some_lines, tight_line, tight_text, wait_line, wait_lines, wait_text, waits_text};
 ghost use Rattle.csdf_answers.specs.Printed.{name_at, names_of};
 
 use crate::circle::{circle_of, wait_at, waiting_but};
 use crate::printed::name_at;
-use csdf_analysis::{Bounds, Demand, Ratio, Stall, Wait};
+use csdf_analysis::{Bounds, Demand, Ratio, Stall, Tight, Wait};
 use csdf_model::{Actor, Channel};
 use std::alloc::{AllocError, Global};
 
@@ -114,6 +114,36 @@ pub(crate) fn too_large_text(alloc: Global, name: &str) -> Result<String, AllocE
         "too large: {name} is given more than 65535 tokens in a period, its first ones counted\n"
     )?;
     Ok(text)
+}
+
+/// Appends the line of a channel whose given capacity is too small.
+fn push_tight_line(text: &mut String, name: &str, given: u32, needs: u32) -> Result<(), AllocError>
+    ensures { OnOk result (string_bytes text.new ≡ string_bytes text.old ++ tight_line name.now given needs) }
+{
+    write!(
+        text,
+        "too tight: {name} is given {given}, and needs {needs} even alone\n"
+    )
+}
+
+/// Appends the line of the channel whose given capacity is too small even where no other channel is
+/// in the way, where there is one.
+pub(crate) fn push_tight(
+    text: &mut String,
+    channels: &[Channel],
+    tight: Option<Tight>,
+) -> Result<(), AllocError>
+    ensures { OnOk result (string_bytes text.new ≡ string_bytes text.old ++ tight_text (names_of (map channel_view channels.now)) tight) }
+{
+    match tight {
+        Some(tight) => push_tight_line(
+            text,
+            name_at(channels, tight.channel),
+            tight.given,
+            tight.needs,
+        ),
+        None => Ok(()),
+    }
 }
 
 /// What the matter is with a run that stands still under these capacities.

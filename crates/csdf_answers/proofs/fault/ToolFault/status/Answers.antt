@@ -6,3 +6,6 @@ returns-in-Graph-9 c = search rules
 
 pub returns-in-Mixed-2 : goal.returns-in-Mixed-2
 returns-in-Mixed-2 c = search rules
+
+pub returns-in-InUse : goal.returns-in-InUse
+returns-in-InUse c = search rules
