@@ -1,5 +1,5 @@
 use Rattle.std.proofs.lemmas.Grind.{common_steps}
-use Rattle.std.proofs.Common.{◌≡◌, Result, Ok, subst, refl, arith}
+use Rattle.std.proofs.Common.{◌≡◌, Result, Ok, subst, refl, arith, rules}
 use Rattle.std.specs.Prelude.{IfOk}
 use Rattle.csdf_floor.specs.declared.fault.RunFault.{RunFault}
 use Rattle.csdf_floor.specs.declared.outcome.Outcome.{Outcome}
@@ -65,3 +65,9 @@ returns-clause-totals c =
 
 pub returns-clause-honest : goal.returns-clause-honest
 returns-clause-honest c = (outcome (goal.at.returns-clause-honest c).In_ok-outcome).honest
+
+pub returns-in_err-outcome-clause-answer : goal.returns-in_err-outcome-clause-answer
+returns-in_err-outcome-clause-answer c = search rules
+
+pub returns-clause-answer : goal.returns-clause-answer
+returns-clause-answer c = search rules

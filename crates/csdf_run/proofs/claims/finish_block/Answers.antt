@@ -1,3 +1,4 @@
+use Rattle.std.proofs.Common.{rules}
 use Rattle.csdf_run.proofs.Held.{block_fits, block_held, block_just, block_made}
 use Rattle.csdf_run.proofs.claims.finish_block.Goals as goal
 
@@ -19,3 +20,6 @@ pub returns-clause-made : goal.returns-clause-made
 returns-clause-made g c =
     block_made c.args.place.now.view c.args.made.claim c.claim.result c.args.made.count c.count.result c.requires.holds c.claim.ensures c.count.ensures
     c.done_many.new.place.view c.done_many.ensures.each
+
+pub returns-clause-told : goal.returns-clause-told
+returns-clause-told g c = search rules

@@ -1,3 +1,4 @@
+use Rattle.std.proofs.lemmas.Grind.{common_steps}
 use Rattle.std.proofs.Common.{◌≡◌, ◌≤◌, ◌+◌, ◌*◌, ℕ, ap₂, arith, drop, get_or, length}
 use Rattle.std.specs.Prelude.{sum_by}
 use Rattle.std.proofs.lemmas.List.Sums.{sum_by-drop_more, sum_by-le}
@@ -14,3 +15,6 @@ overflow_add-all c =
     let so_far : c.loop-firings.all + sum_by f (drop i q) ≡ sum_by f q = c.loop-firings.invariant in
     let next : c.from.result * c.from-in-loop-firings.result ≡ f (get_or q i 0) =
     ap₂ (λ (a b : ℕ). a * b) c.from.ensures c.from-in-loop-firings.ensures in omega (arith, more, most, few, so_far, next)
+
+pub loop-firings-preserved : goal.loop-firings-preserved
+loop-firings-preserved c = grind (arith, common_steps)

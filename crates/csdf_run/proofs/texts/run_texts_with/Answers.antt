@@ -1,3 +1,4 @@
+use Rattle.std.proofs.Common.{rules}
 use Rattle.std.proofs.lemmas.Result.{IfOk-weaker}
 use Rattle.csdf_run.specs.Texts.{texts_in}
 use Rattle.csdf_run.proofs.Lengths.{may_graph}
@@ -21,3 +22,6 @@ returns-in-Ok-clause-rooms g c =
     IfOk-weaker c.run_graph_with.result _ _
     (λ t same. same_of_file c.args.graph.now c.in-Ok.graph (texts_in c.args.feeds.now) c.args.options.how_long t c.in-Ok.ensures same)
     c.run_graph_with.ensures.rooms
+
+pub returns-in-Err-clause-refused : goal.returns-in-Err-clause-refused
+returns-in-Err-clause-refused g c = search rules

@@ -34,3 +34,18 @@ turn-requires-clause-next g c = grind (arith, common_steps)
 
 pub returns-in_default-clause-rests : goal.returns-in_default-clause-rests
 returns-in_default-clause-rests g c = grind (arith, common_steps)
+
+pub make-requires-clause-holds : goal.make-requires-clause-holds
+make-requires-clause-holds g c = search rules
+
+pub returns-then-not-is_started-clause-holds : goal.returns-then-not-is_started-clause-holds
+returns-then-not-is_started-clause-holds g c = search rules
+
+pub returns-then-not-is_started-clause-made : goal.returns-then-not-is_started-clause-made
+returns-then-not-is_started-clause-made g c = search rules
+
+pub fire-requires-clause-holds : goal.fire-requires-clause-holds
+fire-requires-clause-holds g c = search rules
+
+pub returns-clause-made : goal.returns-clause-made
+returns-clause-made g c = search rules

@@ -1,4 +1,4 @@
-use Rattle.std.proofs.Common.{sym, subst}
+use Rattle.std.proofs.Common.{sym, subst, rules}
 use Rattle.csdf_kernel.specs.declared.Job.{Job}
 use Rattle.csdf_claims.specs.Board.{Holds}
 use Rattle.csdf_run.proofs.Held.{keeps_finished}
@@ -10,3 +10,6 @@ enter-requires-clause-holds g c =
 
 pub returns-clause-finished : goal.returns-clause-finished
 returns-clause-finished g c = keeps_finished c.args.place.now.view c.enter.new.place.view c.enter.ensures.keeps
+
+pub returns-clause-passed : goal.returns-clause-passed
+returns-clause-passed g c = search rules

@@ -16,3 +16,6 @@ returns-in-Err-clause-finished c = grind (arith, common_steps)
 
 pub returns-in-Ok-clause-finished : goal.returns-in-Ok-clause-finished
 returns-in-Ok-clause-finished c = grind (arith, common_steps)
+
+pub returns-in-Err-clause-holds : goal.returns-in-Err-clause-holds
+returns-in-Err-clause-holds c = search rules

@@ -1,4 +1,4 @@
-use Rattle.std.proofs.Common.{arith}
+use Rattle.std.proofs.Common.{arith, rules}
 use Rattle.std.proofs.lemmas.Grind.{common_steps}
 use Rattle.csdf_core.proofs.firing_core.Core.can_fire.Goals as goal
 
@@ -16,3 +16,6 @@ finds_all-requires-clause-steady c = grind (arith, common_steps)
 
 pub stage-requires : goal.stage-requires
 stage-requires c = grind (arith, common_steps)
+
+pub finds_all-requires-clause-idle : goal.finds_all-requires-clause-idle
+finds_all-requires-clause-idle c = search rules

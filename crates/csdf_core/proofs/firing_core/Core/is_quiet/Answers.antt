@@ -1,6 +1,6 @@
-use Rattle.std.proofs.Common.{ℕ, inl, inr, refl, subst, sym, arith}
+use Rattle.std.proofs.Common.{ℕ, inl, inr, refl, subst, sym, arith, rules}
 use Rattle.std.proofs.lemmas.Bool.Decides.{eqb_tells}
-use Rattle.csdf_core.specs.Step.{Rests}
+use Rattle.csdf_core.specs.Step.{Rests, IsQuiet}
 use Rattle.csdf_core.proofs.Beginnings.{shows_some}
 use Rattle.csdf_core.proofs.firing_core.Core.is_quiet.Goals as goal
 
@@ -15,3 +15,7 @@ loop-actor-preserved c = λ a lt. elim (eqb_tells a c.loop-actor.actor) [
 
 pub returns-clause-shown : goal.returns-clause-shown
 returns-clause-shown c = rw (← c.self.view_is) (shows_some _ _ _ _ refl c.self.invariant.sound.cells)
+
+pub returns-clause-quiet : goal.returns-clause-quiet
+unfolding IsQuiet
+returns-clause-quiet c = search rules

@@ -1,7 +1,7 @@
 use Rattle.std.proofs.lemmas.Grind.{common_steps}
 use Rattle.std.specs.Vec.{with_items}
 use Rattle.std.proofs.lemmas.List.{with_items_is}
-use Rattle.std.proofs.Common.{◌≡◌, ◌+◌, ◌-◌, length, set, None, sym, ◌∙◌, ap, subst, refl, arith, ℕ}
+use Rattle.std.proofs.Common.{◌≡◌, ◌+◌, ◌-◌, length, set, None, sym, ◌∙◌, ap, subst, refl, arith, ℕ, rules}
 use Rattle.csdf_core.specs.declared.stage.Stage.TheVariants.{Written}
 use Rattle.csdf_core.specs.Plan.{Plan}
 use Rattle.csdf_core.specs.State.{Present}
@@ -158,3 +158,6 @@ turn-turn-requires c = grind (arith, common_steps)
 
 pub returns-clause-cells : goal.returns-clause-cells
 returns-clause-cells c = grind (arith, common_steps)
+
+pub raise_peaks-requires-clause-peaked : goal.raise_peaks-requires-clause-peaked
+raise_peaks-requires-clause-peaked c = search rules

@@ -23,3 +23,6 @@ returns-else-is_open-clause-due c = search rules
 
 pub returns-then-is_over-clause-other : goal.returns-then-is_over-clause-other
 returns-then-is_over-clause-other c = grind (arith, common_steps)
+
+pub close-requires-clause-over : goal.close-requires-clause-over
+close-requires-clause-over c = search rules

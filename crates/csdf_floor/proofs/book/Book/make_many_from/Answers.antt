@@ -1,4 +1,4 @@
-use Rattle.std.proofs.Common.{◌≡◌, ◌≤◌, IfOk, OnOk, OnErr, option_map, length, ap, subst, ◌∙◌}
+use Rattle.std.proofs.Common.{◌≡◌, ◌≤◌, IfOk, OnOk, OnErr, option_map, length, ap, subst, ◌∙◌, rules}
 use Rattle.csdf_core.specs.Moves.{Begin}
 use Rattle.csdf_core.specs.Ports.{outputs_at}
 use Rattle.csdf_core.specs.Step.{refusal}
@@ -45,3 +45,6 @@ returns-clause-room c = subst (λ (f : FloorView). OnOk c.make_many.result (leng
 
 pub returns-clause-unchanged : goal.returns-clause-unchanged
 returns-clause-unchanged c = subst (λ (f : FloorView). OnErr c.make_many.result (c.make_many.new.self.shown ≡ f)) (same c) c.make_many.ensures.unchanged
+
+pub returns-then-branch-clause-some : goal.returns-then-branch-clause-some
+returns-then-branch-clause-some c = search rules

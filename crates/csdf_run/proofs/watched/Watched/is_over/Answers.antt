@@ -16,3 +16,6 @@ returns-then-is_quiet-clause-looked g c = grind (arith, common_steps)
 
 pub returns-then-self-ne0-clause-looked : goal.returns-then-self-ne0-clause-looked
 returns-then-self-ne0-clause-looked g c = grind (arith, common_steps)
+
+pub of-requires : goal.of-requires
+of-requires g c = search rules

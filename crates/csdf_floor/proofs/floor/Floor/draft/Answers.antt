@@ -1,0 +1,5 @@
+use Rattle.std.proofs.Common.{rules}
+use Rattle.csdf_floor.proofs.floor.Floor.draft.Goals as goal
+
+pub returns-clause-heavy : goal.returns-clause-heavy
+returns-clause-heavy c = search rules
