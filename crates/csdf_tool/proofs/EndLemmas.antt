@@ -46,6 +46,24 @@ not_zero n status is (inl one) zero = omega (arith, is, one, zero)
 not_zero n status is (inr (inl two)) zero = omega (arith, is, two, zero)
 not_zero n status is (inr (inr three)) zero = omega (arith, is, three, zero)
 
+-- status 2 is that of a file in use
+use_at : (f : ToolFault) → status_of f ≡ 2 → (name : List ℕ) × (f ≡ fault.InUse name)
+use_at (fault.InUse name) two = (name, refl)
+use_at (fault.Graph g) two = absurd (cc)
+use_at (fault.Line n) two = absurd (cc)
+use_at (fault.Unbalanced name) two = absurd (cc)
+use_at (fault.TooLarge name) two = absurd (cc)
+use_at fault.Deadlock two = absurd (cc)
+use_at fault.TooTight two = absurd (cc)
+use_at fault.TooLong two = absurd (cc)
+use_at (fault.TokenSyntax name line) two = absurd (cc)
+use_at (fault.TokenRange name line) two = absurd (cc)
+use_at (fault.TooManyTokens name) two = absurd (cc)
+use_at fault.Mixed two = absurd (cc)
+use_at fault.Worker two = absurd (cc)
+use_at (fault.Device d) two = absurd (cc)
+use_at fault.Memory two = absurd (cc)
+
 -- ---- the line beside a status
 
 -- a line that tells a fault, where it was put or the device failed
@@ -96,25 +114,23 @@ module _ {form : Form} {status : ℕ} {before after : Option (List ℕ)} {failed
 
   -- where it is 2, a file is in use
   of_two : (f : ToolFault) → EndsAs form f status before after failed → status ≡ 2 → EndsInUse form status before after failed
-  of_two (fault.InUse name) h two = (name, h)
-  of_two (fault.Graph g) h two = absurd (let no : 2 ≡ 1 = sym two ∙ h.ends in cc)
-  of_two (fault.Line n) h two = absurd (let no : 2 ≡ 1 = sym two ∙ h.ends in cc)
-  of_two (fault.Unbalanced name) h two = absurd (let no : 2 ≡ 1 = sym two ∙ h.ends in cc)
-  of_two (fault.TooLarge name) h two = absurd (let no : 2 ≡ 1 = sym two ∙ h.ends in cc)
-  of_two fault.Deadlock h two = absurd (let no : 2 ≡ 1 = sym two ∙ h.ends in cc)
-  of_two fault.TooTight h two = absurd (let no : 2 ≡ 1 = sym two ∙ h.ends in cc)
-  of_two fault.TooLong h two = absurd (let no : 2 ≡ 1 = sym two ∙ h.ends in cc)
-  of_two (fault.TokenSyntax name line) h two = absurd (let no : 2 ≡ 1 = sym two ∙ h.ends in cc)
-  of_two (fault.TokenRange name line) h two = absurd (let no : 2 ≡ 1 = sym two ∙ h.ends in cc)
-  of_two (fault.TooManyTokens name) h two = absurd (let no : 2 ≡ 1 = sym two ∙ h.ends in cc)
-  of_two fault.Mixed h two = absurd (let no : 2 ≡ 3 = sym two ∙ h.ends in cc)
-  of_two fault.Worker h two = absurd (let no : 2 ≡ 3 = sym two ∙ h.ends in cc)
-  of_two (fault.Device d) h two = absurd (let no : 2 ≡ 3 = sym two ∙ h.ends in cc)
-  of_two fault.Memory h two = absurd (let no : 2 ≡ 3 = sym two ∙ h.ends in cc)
+  of_two f h two =
+      let file = use_at f (sym h.ends ∙ two) in
+      (file.0, subst (λ (g : ToolFault). EndsAs form g status before after failed) file.1 h)
 
   pub in_use : (answer : Result (Unit {0}) ToolFault) → Ended form answer status before after failed → status ≡ 2 → EndsInUse form status before after failed
   in_use (Ok u) h two = absurd (let no : 2 ≡ 0 = sym two ∙ h.zero in cc)
   in_use (Err f) h two = let told = ends_as f h.by in of_two told.0 told.1 two
+
+  -- what holds of the answer's fault holds of a file in use
+  pub use_of : (answer : Result (Unit {0}) ToolFault) (P : ToolFault → Type 0) → Ended form answer status before after failed → status ≡ 2
+      → IfErr answer P → (name : List ℕ) × P (fault.InUse name)
+  use_of (Ok u) P h two p = absurd (let no : 2 ≡ 0 = sym two ∙ h.zero in cc)
+  use_of (Err f) P h two p = by h.by
+    where
+      by : EndsBy form f status before after failed → (name : List ℕ) × P (fault.InUse name)
+      by (inl ends) = let told = use_at f (sym ends.ends ∙ two) in (told.0, subst P told.1 p)
+      by (inr ends) = absurd (let no : 2 ≡ 3 = sym two ∙ ends.ends in cc)
 
   -- where it is 1 or 3, a fault is told
   pub lined : (answer : Result (Unit {0}) ToolFault) → Ended form answer status before after failed → (status ≡ 1) ⊎ (status ≡ 3)

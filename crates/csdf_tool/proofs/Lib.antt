@@ -9,3 +9,4 @@ pub mod InputExamples
 pub mod PutLemmas
 pub mod ReportLemmas
 pub mod RunLemmas
+pub mod UseLemmas

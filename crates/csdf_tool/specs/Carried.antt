@@ -1,5 +1,5 @@
 -- What comes of what is asked for.
-use Rattle.std.specs.Prelude.{◌≡◌, ◌⊎◌, ℕ, List, Option, Bool, true, Result, Ok, Err, codes, ◌++◌}
+use Rattle.std.specs.Prelude.{◌≡◌, ◌⊎◌, ℕ, List, Option, Bool, true, false, Result, Ok, Err, codes, ◌++◌}
 use Rattle.std.specs.Io.KnownBytes.{Appends}
 use Rattle.clap.specs.Words.{Text}
 use Rattle.csdf_answers.specs.Objects.{IsDescriptionAs}
@@ -68,3 +68,8 @@ reads_input (Moves path) = is_input path
 reads_input (Ask question form room path) = is_input path
 reads_input (Explain path folder) = is_input path
 reads_input (Run order) = is_input order.graph
+
+-- whether it is a run
+abbrev pub asks_run : Asked → Bool
+asks_run (Run order) = true
+asks_run _ = false

@@ -4,7 +4,7 @@ ghost use Rattle.std.specs.Prelude.{◌≡◌, ◌≢◌, ◌≤◌, ◌⊎◌, 
 ghost use Rattle.std.specs.Io.KnownBytes.{Appends};
 ghost use Rattle.clap.specs.Words.{fault_of, kind_of};
 ghost use Rattle.csdf_words.specs.CommandLine.{program, asked_view, form_asked, form_of, words_ask, Asked};
-ghost use Rattle.csdf_tool.specs.Carried.{IsCarriedOut, IsCauseOf, reads_input};
+ghost use Rattle.csdf_tool.specs.Carried.{IsCarriedOut, IsCauseOf, asks_run, reads_input};
 ghost use Rattle.csdf_tool.specs.Ends.{AreTaken, Ended, EndsAs, EndsBy, EndsFor, EndsForOneOf, EndsInForm, EndsInUse, EndsTelling, EndsTold, EndsUnasked, EndsUnread, ending, told_in};
 ghost use Rattle.csdf_tool.specs.Acts.{devices, marks};
 
@@ -191,6 +191,8 @@ pub fn run_words<
         (E.written err.old) (E.written err.new) (E.failed err.new) }
     ensures taken { AreTaken (map string_bytes words.now) → words_ask (map string_bytes words.now) ≢ None → result ≡ 2
         → EndsInUse (form_asked (words_ask (map string_bytes words.now))) result (E.written err.old) (E.written err.new) (E.failed err.new) }
+    ensures run { (asks : Asked) → AreTaken (map string_bytes words.now) → words_ask (map string_bytes words.now) ≡ Some asks → result ≡ 2
+        → asks_run asks ≡ true }
     ensures nothing { AreTaken (map string_bytes words.now) → words_ask (map string_bytes words.now) ≡ None
         → (result ≡ 2) ⊎ EndsTold (ending result (E.written err.old) (E.written err.new) (E.failed err.new) (O.failed out.new)) ToolFault.Memory }
     ensures reason { words_ask (map string_bytes words.now) ≡ None → EndsUnasked (map string_bytes words.now)

@@ -1,3 +1,4 @@
+use Rattle.std.proofs.Common.{rules}
 use Rattle.csdf_tool.proofs.DiskLemmas.{on_err}
 use Rattle.csdf_tool.proofs.ApartLemmas.{only_located}
 use Rattle.csdf_tool.proofs.apart.look_for.Goals as goal
@@ -10,3 +11,6 @@ returns-in_err-name-clause-only g c = on_err _ _ (only_located _ _ _ _ c.locate.
 
 pub returns-in_err-push-clause-only : goal.returns-in_err-push-clause-only
 returns-in_err-push-clause-only g c = on_err _ _ (only_located _ _ _ _ c.locate.ensures)
+
+pub returns-then-is_in_use-clause-in_use : goal.returns-then-is_in_use-clause-in_use
+returns-then-is_in_use-clause-in_use g c = search rules

@@ -4,10 +4,11 @@ use Rattle.std.proofs.Common.{◌≡◌, Some, None, ap, inr, map, string_bytes,
 use Rattle.std.specs.Prelude.{◌⊎◌}
 use Rattle.csdf_words.specs.CommandLine.{asked_view, form_asked, form_of}
 use Rattle.csdf_answers.specs.declared.fault.ToolFault.TheVariants.{Memory}
-use Rattle.csdf_tool.specs.Carried.{reads_input}
+use Rattle.csdf_tool.specs.Carried.{asks_run, reads_input}
 use Rattle.csdf_tool.proofs.CauseLemmas.{caused_as, memory_causes}
-use Rattle.csdf_tool.proofs.EndLemmas.{at_refusal, at_three, at_zero, carried_as, ended_in, in_use, lined, lined_unread, one_asked, some_asked, taken_words, told_as, told_of}
+use Rattle.csdf_tool.proofs.EndLemmas.{at_refusal, at_three, at_zero, carried_as, ended_in, in_use, lined, lined_unread, one_asked, some_asked, taken_words, told_as, told_of, use_of}
 use Rattle.csdf_tool.proofs.EndLemmas.{nothing_ends, taken_ends, unread_ends}
+use Rattle.csdf_tool.proofs.UseLemmas.{use_is_of_a_run}
 use Rattle.csdf_tool.proofs.program.run_words.Goals as goal
 
 pub returns-in-Ok-clause-lined : goal.returns-in-Ok-clause-lined
@@ -54,6 +55,17 @@ returns-in-Err-clause-input g c = λ asks taken is reads failed.
 pub returns-in-Err-clause-taken : goal.returns-in-Err-clause-taken
 returns-in-Err-clause-taken g c = λ taken some two.
     let told = taken_ends (map string_bytes c.args.words.now) _ c.in-Err.unread c.in-Err.ensures.unread c.status_of_words.ensures.ends taken some in
+    absurd (let no : 3 ≡ 2 = sym told.ends ∙ two in cc)
+
+pub returns-in-Ok-clause-run : goal.returns-in-Ok-clause-run
+returns-in-Ok-clause-run g c = λ asks taken is two.
+    let cause = use_of c.carry_out.result _ c.status_after.ensures.ends two
+    (caused_as _ c.carry_out.result asks (one_asked c.in-Ok.ensures.asked is) _ c.carry_out.ensures.caused) in
+    use_is_of_a_run asks _ _ cause.0 cause.1
+
+pub returns-in-Err-clause-run : goal.returns-in-Err-clause-run
+returns-in-Err-clause-run g c = λ asks taken is two.
+    let told = taken_ends (map string_bytes c.args.words.now) _ c.in-Err.unread c.in-Err.ensures.unread c.status_of_words.ensures.ends taken (some_asked is) in
     absurd (let no : 3 ≡ 2 = sym told.ends ∙ two in cc)
 
 pub returns-in-Err-clause-nothing : goal.returns-in-Err-clause-nothing

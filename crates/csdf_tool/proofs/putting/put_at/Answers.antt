@@ -1,4 +1,5 @@
-use Rattle.std.proofs.Common.{List, [], ◌∷◌, Ok, refl, subst}
+use Rattle.std.proofs.lemmas.Grind.{common_steps}
+use Rattle.std.proofs.Common.{List, [], ◌∷◌, Ok, refl, subst, arith}
 use Rattle.std.specs.Prelude.{is_ok}
 use Rattle.csdf_tool.specs.SystemCalls.{Call, Says, See, Write}
 use Rattle.csdf_tool.specs.declared.putting.There.{There}
@@ -19,3 +20,6 @@ returns-in-Ok-Other g c =
           called_more _ _ _ (See c.args.path.now c.symlink_metadata.result ∷ []) written c.symlink_metadata.ensures
           (one_call (Write c.args.path.now c.args.text.now) _ _ c.write.result c.write.ensures c.ended.result c.ended.ensures.well c.ended.ensures.failed);
     }
+
+pub returns-in-Ok-Plain : goal.returns-in-Ok-Plain
+returns-in-Ok-Plain g c = grind (arith, common_steps)

@@ -1,4 +1,4 @@
-use Rattle.std.proofs.Common.{◌∙◌}
+use Rattle.std.proofs.Common.{◌∙◌, rules}
 use Rattle.std.proofs.lemmas.Result.{IfErr-at_err}
 use Rattle.csdf_run.specs.Texts.{IsGraphRefusal, texts_in}
 use Rattle.csdf_tool.proofs.RunLemmas.{fault_alike, handed_back, may_go_on}
@@ -19,3 +19,9 @@ returns-clause-refused g c = λ other. (
       ∙ fault_alike c.args.graph c.run_and_hand_back-graph.result.graph c.in-Err.fault
       (handed_back c.args.order.room c.args.graph c.run_and_hand_back-graph.result.graph c.run_and_hand_back-graph.ensures.graph),
 )
+
+pub returns-in-Ok-clause-told : goal.returns-in-Ok-clause-told
+returns-in-Ok-clause-told g c = search rules
+
+pub returns-in-Ok-clause-sequential : goal.returns-in-Ok-clause-sequential
+returns-in-Ok-clause-sequential g c = search rules
