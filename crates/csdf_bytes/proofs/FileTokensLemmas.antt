@@ -19,7 +19,7 @@ use Rattle.csdf_bytes.specs.declared.tokens.TokenFault.{TokenFault}
 use Rattle.csdf_bytes.specs.declared.tokens.TokenFault.TheVariants.{Read, TooMany, Syntax, Range, Memory}
 use Rattle.csdf_bytes.specs.FileTokens.{HasRead, Tells, file_entry, file_fault, file_tokens}
 use Rattle.csdf_bytes.specs.TokenStream.{IsFaulty, IsOneLine, ReadsEntry, ReadsOn, entries_from, entry_at, line_fault, stream_entry_of}
-use Rattle.csdf_bytes.specs.TokenText.{at_line, collected, entry_of, is_newline, no_more_than, token_in, tokens_up_to, word_of, words_from}
+use Rattle.csdf_bytes.specs.TokenText.{at_line, collected, entry_of, is_newline, no_more_than, token_in, tokens_in, tokens_up_to, word_of, words_from}
 use Rattle.csdf_bytes.proofs.TokenStreamLemmas.{entries_from-one}
 use Rattle.csdf_bytes.proofs.TokenTextLemmas.{after, after-nil, within}
 
@@ -278,6 +278,27 @@ file-told (Ok (Err fault)) outcome items left rest text same told tells taken en
     let cause = subst (λ found. Tells text (result_map_both items (λ fault. fault) found)) (sym same) tells in
     Consumes-whole left rest text (λ bytes. tokens_up_to 1000000 (map entry_of (words_from 1 bytes)) ≡ Err fault) taken ended
     (sym (file_tokens-short text short) ∙ cause.1 told)
+
+not-longer : (limit n : ℕ) → n ≤ limit → nat_lt limit n ≡ false
+not-longer limit n short = grind (arith, nat_tests)
+
+-- a text that is not too long has the tokens of its lines
+tokens_in-short : (text : List ℕ) → length text ≤ 16777216 → tokens_in text ≡ file_tokens text
+tokens_in-short text short =
+    ap (λ test. cond test (Err TooMany) (tokens_up_to 1000000 (map entry_of (words_from 1 text)))) (not-longer 16777216 (length text) short)
+    ∙ sym (file_tokens-short text short)
+
+-- what is told of the bytes that came
+pub file-came : {V : Type 0} (result : Result (Result V TokenFault) InputFault) (outcome : Result V TokenFault) (items : V → List ℤ) (left rest : Option (List ℕ))
+    (text : List ℕ) → IfOk result (λ told. told ≡ outcome) → IfOk result (λ told. IfErr told (λ fault. fault ≢ Memory))
+    → Tells text (result_map_both items (λ fault. fault) outcome) → Consumes left rest text → length text ≤ 16777216
+    → IfOk result (λ told. (came : List ℕ) × Consumes left rest came × (tokens_in came ≡ result_map_both items (λ fault. fault) told))
+file-came (Err cause) outcome items left rest text same told tells taken short = tt
+file-came (Ok (Ok v)) outcome items left rest text same told tells taken short =
+    (text, taken, tokens_in-short text short ∙ subst (λ found. Tells text (result_map_both items (λ fault. fault) found)) (sym same) tells)
+file-came (Ok (Err fault)) outcome items left rest text same told tells taken short =
+    let cause = subst (λ found. Tells text (result_map_both items (λ fault. fault) found)) (sym same) tells in
+    (text, taken, tokens_in-short text short ∙ cause.1 told)
 
 pub file-cause : {V : Type 0} (result : Result (Result V TokenFault) InputFault) (outcome : Result V TokenFault) (items : V → List ℤ) (text : List ℕ)
     → IfOk result (λ told. told ≡ outcome) → IfOk result (λ told. IfErr told (λ fault. fault ≢ Memory))

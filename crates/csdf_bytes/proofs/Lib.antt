@@ -3,6 +3,10 @@ pub mod DeviceLemmas
 pub mod FileTokensLemmas
 pub mod PairLemmas
 pub mod QuickLemmas
+pub mod SampleBytesLemmas
+pub mod SampleLemmas
+pub mod SampleStreamLemmas
+pub mod SamplesBackLemmas
 pub mod TokenLineLemmas
 pub mod TokenWordLemmas
 pub mod TokenStreamLemmas

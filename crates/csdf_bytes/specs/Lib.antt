@@ -2,5 +2,9 @@ pub mod Buffered
 pub mod Device
 pub mod FileTokens
 pub mod QuickLine
+pub mod SampleLaws
+pub mod SampleState
+pub mod SampleStream
+pub mod Samples
 pub mod TokenStream
 pub mod TokenText

@@ -1,6 +1,6 @@
 //! The bytes that were fetched from a device and not yet read.
 
-ghost use Rattle.std.specs.Prelude.{◌≡◌, ◌↔◌, ◌<◌, ◌≤◌, ◌+◌, ◌-◌, true, [], length, take, drop, vec_len, IfOk, IsErr, OnErr, OnOk};
+ghost use Rattle.std.specs.Prelude.{◌≡◌, ◌↔◌, ◌<◌, ◌≤◌, ◌+◌, ◌-◌, true, [], length, take, drop, vec_len, IfOk, IsErr, IsOk, OnErr, OnOk};
 ghost use Rattle.std.specs.Io.KnownBytes.{Consumes, Keeps, IsAtEnd};
 ghost use Rattle.csdf_bytes.specs.Buffered.{FetchesTo};
 ghost use Rattle.csdf_bytes.specs.Device.{Fetches};
@@ -24,12 +24,13 @@ pub struct Buffer {
 impl Model for Buffer {
     ghost use Rattle.std.specs.Prelude.{◌≤◌, ◌-◌, take, drop, vec_len};
     ghost use Rattle.csdf_bytes.specs.Buffered.{Held};
+    ghost use Rattle.csdf_bytes.specs.declared.buffer.TheConstants.{PIECE};
 
     ghost Value = { Held };
 
     ghost view = { λ s. record { bytes = take (s.end - s.start) (drop s.start s.bytes.items); room = vec_len s.bytes - s.end } };
 
-    ghost invariant = { λ s. (s.start ≤ s.end) × (s.end ≤ vec_len s.bytes) };
+    ghost invariant = { λ s. (s.start ≤ s.end) × (s.end ≤ vec_len s.bytes) × (PIECE ≤ vec_len s.bytes) };
 }
 
 impl Buffer {
@@ -86,6 +87,7 @@ impl Buffer {
     pub fn make_room(&mut self) -> Result<(), AllocError>
         ensures bytes { self.new.bytes ≡ self.old.bytes }
         ensures room { OnOk result (0 < self.new.room) }
+        ensures short { length self.old.bytes < PIECE → IsOk result }
     {
         self.move_to_front();
         if self.end == self.bytes.len() {
@@ -97,7 +99,8 @@ impl Buffer {
 
     /// Moves the bytes to the front, so that all room is behind them.
     fn move_to_front(&mut self)
-        ensures { self.new.bytes ≡ self.old.bytes }
+        ensures bytes { self.new.bytes ≡ self.old.bytes }
+        ensures large { PIECE ≤ length self.new.bytes + self.new.room }
     {
         let (start, end) = (self.start, self.end);
         self.bytes.copy_within(start..end, 0);

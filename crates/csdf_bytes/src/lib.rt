@@ -1,4 +1,4 @@
-//! Devices that give and take bytes, and token files.
+//! Devices that give and take bytes, token files and raw samples.
 #![tactic(auto)]
 
 mod buffer;
@@ -8,6 +8,10 @@ mod fused;
 mod intake;
 mod outlet;
 mod quick_line;
+mod sample_format;
+mod sample_laws;
+mod sample_reader;
+mod sample_writer;
 mod slice;
 mod to_writer;
 mod token_file;
@@ -16,12 +20,17 @@ mod token_reader;
 mod token_word;
 mod tokens;
 mod whole_lines;
+mod whole_samples;
 
 pub use device::{DeviceFailed, Intake, Outlet};
 pub use from_reader::FromReader;
 pub use fused::Fused;
 pub use intake::{INPUT_LIMIT, InputFault, read_bytes};
 pub use outlet::{WriteFault, write_bytes};
+pub use sample_format::SampleFormat;
+pub use sample_laws::{sample_reads_add, written_samples_read_back};
+pub use sample_reader::{SampleFault, SampleReader};
+pub use sample_writer::write_samples;
 pub use slice::Slice;
 pub use to_writer::ToWriter;
 pub use token_file::read_token_file;

@@ -1,12 +1,12 @@
 //! Token files, which are read once.
 
 ghost use Rattle.std.specs.Prelude.{◌≡◌, ◌≢◌, ◌↔◌, ◌<◌, ◌≤◌, ℕ, List, true, Ok, Err, length, map, min, IfErr, IfOk, IfSome, OnOk, nat_lt, if◌then◌else◌, []};
-ghost use Rattle.std.specs.Io.KnownBytes.{IsAtEnd, Keeps};
+ghost use Rattle.std.specs.Io.KnownBytes.{Consumes, IsAtEnd, Keeps};
 ghost use Rattle.std.specs.Result.{result_map_both};
 ghost use Rattle.csdf_bytes.specs.Device.{TakesAtMost};
 ghost use Rattle.csdf_bytes.specs.FileTokens.{HasRead, Tells, file_fault};
 ghost use Rattle.csdf_bytes.specs.TokenStream.{IsOneLine};
-ghost use Rattle.csdf_bytes.specs.TokenText.{entry_of, tokens_up_to, words_from};
+ghost use Rattle.csdf_bytes.specs.TokenText.{entry_of, tokens_in, tokens_up_to, words_from};
 
 use crate::device::Intake;
 use crate::intake::{INPUT_LIMIT, InputFault};
@@ -26,6 +26,9 @@ pub fn read_token_file<I: Intake>(
     ensures told { IfOk result (λ told. IfSome (I.left reader.old) (λ bytes.
         tokens_up_to TOKEN_LIMIT (map entry_of (words_from 1 bytes))
         ≡ result_map_both (λ tokens. tokens.items) (λ fault. fault) told)) }
+    ensures came { IfOk result (λ told. (text : List ℕ)
+        × Consumes (I.left reader.old) (I.left reader.new) text
+        × (tokens_in text ≡ result_map_both (λ tokens. tokens.items) (λ fault. fault) told)) }
     ensures text { IfOk result (λ told. IfErr told (λ fault.
         (fault ≢ TokenFault.Read) × (fault ≢ TokenFault.Memory))) }
     ensures short { OnOk result (IfSome (I.left reader.old) (λ bytes. length bytes ≤ INPUT_LIMIT)) }
