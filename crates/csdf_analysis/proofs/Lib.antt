@@ -19,4 +19,5 @@ pub mod RoomyLemmas
 pub mod AutoLemmas
 pub mod AloneLemmas
 pub mod TightLemmas
+pub mod ContinuedLemmas
 mod RoomExamples

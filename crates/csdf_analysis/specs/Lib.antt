@@ -13,3 +13,4 @@ pub mod Running
 pub mod Stalling
 pub mod Waking
 pub mod Room
+pub mod Continued

@@ -1,8 +1,10 @@
 //! Graphs that can run for ever in bounded buffers.
 
-ghost use Rattle.std.specs.Prelude.{◌≡◌, ◌<◌, ◌≤◌, ◌^◌, All, IfErr, IfOk, sum};
+ghost use Rattle.std.specs.Prelude.{◌≡◌, ◌<◌, ◌≤◌, ◌^◌, All, IfErr, IfOk, IfSome, length, slice_get, sum};
+ghost use Rattle.csdf_model.specs.Holding.{HasAsMany, HaveAsMany};
 ghost use Rattle.csdf_analysis.specs.Acceptance.{IsAccepted, IsNotAccepted, cells_of};
 ghost use Rattle.csdf_analysis.specs.Capacities.{AreLeastCapacities};
+ghost use Rattle.csdf_analysis.specs.Continued.{accepted_beginning, continued, lists_in};
 ghost use Rattle.csdf_analysis.specs.Repetition.{IsRepetition};
 
 use crate::calls::capacities::capacities;
@@ -145,6 +147,13 @@ impl Accepted {
         &self.capacities
     }
 
+    /// The sum of the capacities: with so many cells all channels can be full at once.
+    pub fn total_capacity(&self) -> u32
+        ensures { result ≡ sum self.now.capacities }
+    {
+        sum_of(&self.capacities)
+    }
+
     /// The number of cells that all channels share: the number that the file gives, or else the
     /// sum of the capacities.
     pub fn cells(&self) -> u32
@@ -152,8 +161,35 @@ impl Accepted {
     {
         match self.graph.cells() {
             Some(cells) => cells,
-            None => sum_of(&self.capacities),
+            None => self.total_capacity(),
         }
+    }
+
+    /// Puts these tokens, as many as the channel begins with, in the place of its initial ones. The
+    /// graph stays accepted, with the same vector and the same capacities.
+    pub fn begin_with(&mut self, channel: u32, tokens: Vec<i32>)
+        requires exists { channel < length self.old.graph.channels }
+        requires as_many { IfSome (slice_get self.old.graph.channels channel) (λ c. HasAsMany c tokens.items) }
+        ensures value { self.new ≡ accepted_beginning channel tokens.items self.old }
+        ensures accepted { IsAccepted self.new }
+    {
+        self.graph.begin_with(channel, tokens);
+    }
+
+    /// The graph as it goes on where its channels hold these tokens, as many in each as it begins
+    /// with: they stand in the place of the initial ones, in file order.
+    pub fn going_on(self, left: Vec<Vec<i32>>) -> Accepted
+        requires { HaveAsMany (lists_in left.items) self.graph.channels }
+        ensures value { result ≡ continued (lists_in left.items) self }
+        ensures accepted { IsAccepted result }
+    {
+        let mut next = self;
+        let mut channel: u32 = 0;
+        for tokens in left {
+            next.begin_with(channel, tokens);
+            channel += 1;
+        }
+        next
     }
 
     /// An equal value in memory of its own.

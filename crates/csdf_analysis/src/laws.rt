@@ -2,6 +2,7 @@
 
 ghost use Rattle.csdf_analysis.specs.Laws.{GreaterCapacitiesComplete, FullCapacitySuffices, EveryScheduleGoesOn};
 ghost use Rattle.csdf_analysis.specs.Alone.{OwnCapacitiesAreNeeded};
+ghost use Rattle.csdf_analysis.specs.Continued.{ContinuedIsAccepted};
 ghost use Rattle.csdf_analysis.specs.Room.{RoomHoldsPeriods, RoomIsAccepted, RoomIsRefused};
 
 /// A law: greater capacities complete a period where smaller ones do.
@@ -43,4 +44,10 @@ pub fn room_holds_periods()
 /// are those of graphs where a channel is the only one.
 pub fn own_capacities_are_needed()
     ensures { OwnCapacitiesAreNeeded }
+{}
+
+/// A law: an accepted graph whose channels begin with as many other tokens is accepted too, with the same
+/// vector and the same capacities.
+pub fn continued_is_accepted()
+    ensures { ContinuedIsAccepted }
 {}

@@ -11,6 +11,7 @@ use Rattle.std.proofs.lemmas.Bool.{lt-leb}
 use Rattle.std.proofs.lemmas.Bool.Decides.{eqb_tells}
 use Rattle.csdf_model.specs.Graph as graph
 use Rattle.csdf_model.specs.Graph.{phases_of}
+use Rattle.csdf_model.specs.Kernels.{is_source_kernel}
 use Rattle.std.proofs.Math.Nat.{mul-mod_right}
 use Rattle.csdf_model.specs.Rates.{total, produced, consumed}
 use Rattle.csdf_analysis.specs.Acceptance.{Accepted, IsAccepted, cells_of}
@@ -22,7 +23,7 @@ use Rattle.csdf_core.specs.declared.stage.Stage.TheVariants.{Idle, Begun, Fetche
 use Rattle.csdf_core.specs.Moves.{Move}
 use Rattle.csdf_core.specs.Moves.{Begin, Read, Write, Finish}
 use Rattle.csdf_core.specs.Plan.{Channel, Plan, HasAmpleCells}
-use Rattle.csdf_core.specs.Planned.{with_capacity, is_source_kernel, plan_for}
+use Rattle.csdf_core.specs.Planned.{with_capacity, plan_for}
 use Rattle.csdf_core.specs.Rows.{gift}
 use Rattle.csdf_core.specs.State.{Stream, State, present, waiting, opening}
 use Rattle.csdf_core.specs.Step.{Reply, count, stage, is_stage, given, is_source, is_reached, is_stopped, begun_count, refusal, answer, accepted, after}

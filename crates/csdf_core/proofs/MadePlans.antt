@@ -7,12 +7,13 @@ use Rattle.std.proofs.lemmas.List.Sums.{sum_by-cons, sum_by-le}
 use Rattle.std.proofs.lemmas.List.Elements.{recursion_from_All}
 use Rattle.csdf_model.specs.Graph as graph
 use Rattle.csdf_model.specs.Graph.{Graph, inputs_of, outputs_of}
+use Rattle.csdf_model.specs.Kernels.{is_source_kernel}
 use Rattle.csdf_model.specs.WellFormed.{IsChannel, IsCells, initial_total}
 use Rattle.csdf_analysis.specs.Period.{HoldInitial}
 use Rattle.csdf_analysis.specs.Acceptance.{Accepted, IsAccepted, cells_of}
 use Rattle.csdf_core.specs.Plan.{Channel}
 use Rattle.csdf_core.specs.Playable.{IsPlayable}
-use Rattle.csdf_core.specs.Planned.{with_capacity, is_source_kernel, plan_for, IsPlanned}
+use Rattle.csdf_core.specs.Planned.{with_capacity, plan_for, IsPlanned}
 use Rattle.csdf_core.proofs.PlanLemmas.{length-capacities}
 
 -- each channel beside its capacity, which has room for the initial tokens, and the capacities add up to more than these

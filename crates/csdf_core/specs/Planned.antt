@@ -1,21 +1,13 @@
 -- What a core keeps of an accepted graph, and what it plays by it.
-use Rattle.std.specs.Prelude.{◌≡◌, ℕ, Bool, true, false, List, Option, length, map}
+use Rattle.std.specs.Prelude.{◌≡◌, ℕ, List, Option, length, map}
 use Rattle.std.specs.List.{zip}
-use Rattle.csdf_model.specs.declared.parts.Kernel.{Kernel}
-use Rattle.csdf_model.specs.declared.parts.Kernel.TheVariants as kernel
 use Rattle.csdf_model.specs.Graph as graph
 use Rattle.csdf_model.specs.Graph.{Graph}
+pub use Rattle.csdf_model.specs.Kernels.{is_source_kernel}
 use Rattle.csdf_model.specs.WellFormed.{IsWellFormed}
 use Rattle.csdf_analysis.specs.Acceptance.{Accepted, cells_of}
 use Rattle.csdf_core.specs.Plan.{Channel, Plan}
 use Rattle.csdf_core.specs.Playable.{IsPlayable}
-
-abbrev pub is_source_kernel : Kernel → Bool
-is_source_kernel kernel.Source = true
-is_source_kernel kernel.Sink = false
-is_source_kernel kernel.Copy = false
-is_source_kernel kernel.Sum = false
-is_source_kernel (kernel.Fir weights taps shift) = false
 
 -- a channel of the graph with its capacity
 abbrev pub with_capacity : graph.Channel × ℕ → Channel

@@ -215,6 +215,18 @@ impl Core {
         opens[channel as usize]
     }
 
+    /// The tokens that wait in the channel, the oldest first, in a list of their own.
+    ///
+    /// An error says that memory ran out.
+    pub fn tokens(&self, alloc: Global, channel: u32) -> Result<Vec<i32>, AllocError>
+        requires { channel < length self.now.plan.channels }
+        ensures { IfOk result (λ tokens. tokens.items ≡ tokens_at self.now.now.tokens channel) }
+    {
+        let mut tokens = vec![in alloc; 0; self.pool.len(channel) as usize]?;
+        self.pool.copy_front(channel, &mut tokens);
+        Ok(tokens)
+    }
+
     /// The cells of the channel's tokens, the oldest first.
     pub fn cells(&self, channel: u32) -> Cells<'_>
         requires { channel < length self.now.plan.channels }

@@ -5,7 +5,7 @@
 
 ghost use Rattle.std.specs.Prelude.{ℕ, ◌≡◌, ◌+◌, ◌*◌, ◌<◌, ◌≤◌, ◌↔◌, IsTrue, length, map, slice_get, slice_index, slice_index_or, false, All, IfOk, Some};
 ghost use Rattle.csdf_core.specs.Plan.{Channel as ChannelModel, consume_at, from_at, produce_at, to_at};
-ghost use Rattle.csdf_core.specs.Planned.{is_source_kernel, plan_for, with_capacity};
+ghost use Rattle.csdf_core.specs.Planned.{plan_for, with_capacity};
 ghost use Rattle.csdf_model.specs.Graph.{channel_view};
 ghost use Rattle.csdf_model.specs.Rates.{total};
 ghost use Rattle.csdf_core.specs.Blocks.{takes_at, gives_at};
@@ -18,7 +18,7 @@ ghost use Rattle.csdf_core.specs.Phases.{HasPhases, IsInPhase, IsPhase};
 use crate::turn::Turn;
 use csdf_analysis::Accepted;
 use csdf_model::{
-    Channel, Graph, Kernel, MAX_ACTORS, MAX_CHANNELS, MAX_FIRINGS_PER_ACTOR, MAX_PHASES,
+    Channel, Graph, MAX_ACTORS, MAX_CHANNELS, MAX_FIRINGS_PER_ACTOR, MAX_PHASES,
     MAX_TOKENS_PER_FIRING, MAX_TOTAL_PER_FIRING, rate, total,
 };
 use std::alloc::{AllocError, Global};
@@ -45,13 +45,6 @@ impl Model for Plan {
     ghost view = { λ l. plan_of l.graph l.capacities.items l.limits.items l.supply.items l.firings l.cells };
 
     ghost invariant = { λ l. IsPlanned l.graph l.capacities.items l.limits.items l.supply.items l.firings l.cells };
-}
-
-#[inline(always)]
-fn is_source(kernel: Kernel) -> bool
-    ensures { result ≡ is_source_kernel kernel }
-{
-    matches!(kernel, Kernel::Source)
 }
 
 /// How many tokens n firings move at these rates, from this one on.
@@ -319,7 +312,7 @@ impl Plan {
         requires { actor < length self.now.sources }
         ensures { result ≡ slice_index_or self.now.sources actor false }
     {
-        is_source(self.graph.actors()[actor as usize].kernel)
+        self.graph.actors()[actor as usize].kernel.is_source()
     }
 
     /// The greatest number of firings of all actors, where there is one.

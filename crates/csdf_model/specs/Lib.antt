@@ -2,6 +2,8 @@ pub mod Checks
 pub mod Graph
 pub mod Joined
 pub mod Kept
+pub mod Kernels
 pub mod Names
 pub mod Rates
 pub mod WellFormed
+pub mod Holding

@@ -2,6 +2,7 @@
 
 ghost use Rattle.std.specs.Prelude.{◌≡◌, ◌<◌, ◌≤◌, map, length, string_bytes, slice_get, All, IfOk, IfSome};
 ghost use Rattle.csdf_model.specs.Graph.{actor_view, channel_view, graph_view, inputs_of, outputs_of, ports_of, ports_view, with_capacity_at, without_cells};
+ghost use Rattle.csdf_model.specs.Holding.{HasAsMany, beginning_with};
 ghost use Rattle.csdf_model.specs.WellFormed.{IsCapacity, IsWellFormed};
 ghost use Rattle.csdf_model.specs.Names.{number_in};
 
@@ -175,6 +176,15 @@ impl Graph {
         ensures { self.new ≡ with_capacity_at channel capacity self.old }
     {
         self.channels[channel as usize].capacity = Some(capacity);
+    }
+
+    /// Puts these tokens, as many as the channel begins with, in the place of its initial ones.
+    pub fn begin_with(&mut self, channel: u32, tokens: Vec<i32>)
+        requires exists { channel < length self.old.channels }
+        requires as_many { IfSome (slice_get self.old.channels channel) (λ c. HasAsMany c tokens.items) }
+        ensures { self.new ≡ beginning_with channel tokens.items self.old }
+    {
+        self.channels[channel as usize].initial = tokens;
     }
 
     /// The same graph where no number of cells is given.

@@ -15,6 +15,6 @@ pub use limits::{
     MAX_PHASES, MAX_ROOM, MAX_SCRIPT_LIMIT, MAX_SCRIPT_LINES, MAX_SCRIPT_SUPPLY, MAX_SHIFT,
     MAX_TOKENS_PER_FIRING, MAX_TOTAL_PER_FIRING, MAX_WEIGHT, MAX_WEIGHTS, MIN_WEIGHT,
 };
-pub use numbers::number_in;
+pub use numbers::{actor_name, channel_name, number_in};
 pub use parts::{Actor, Channel, Kernel};
 pub use rates::{rate, total};

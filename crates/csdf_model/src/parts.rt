@@ -23,6 +23,27 @@ pub enum Kernel {
     },
 }
 
+impl Kernel {
+    ghost use Rattle.std.specs.Prelude.{◌≡◌};
+    ghost use Rattle.csdf_model.specs.Kernels.{is_source_kernel, is_sink_kernel};
+
+    /// Whether an actor with this kernel is a source.
+    #[inline(always)]
+    pub fn is_source(&self) -> bool
+        ensures { result ≡ is_source_kernel self.now }
+    {
+        matches!(self, Kernel::Source)
+    }
+
+    /// Whether an actor with this kernel is a sink.
+    #[inline(always)]
+    pub fn is_sink(&self) -> bool
+        ensures { result ≡ is_sink_kernel self.now }
+    {
+        matches!(self, Kernel::Sink)
+    }
+}
+
 /// An actor: its firing number `k`, counted from 0, is in phase `k` modulo `phases`.
 #[derive(Debug, Drop)]
 pub struct Actor {

@@ -2,7 +2,7 @@ use Rattle.std.proofs.Common.{◌<◌, length, false, ap, sym, ◌∙◌, arith}
 use Rattle.std.proofs.lemmas.List.{length-map}
 use Rattle.csdf_model.specs.Graph as graph
 use Rattle.csdf_model.specs.Graph.{actor_view}
-use Rattle.csdf_core.specs.Planned.{is_source_kernel}
+use Rattle.csdf_model.specs.Kernels.{is_source_kernel}
 use Rattle.csdf_core.proofs.PlanLemmas.{seen_at}
 use Rattle.csdf_core.proofs.plan.Plan.is_source.Goals as goal
 

@@ -5,7 +5,8 @@ use Rattle.csdf_core.specs.Plan.{Channel}
 use Rattle.csdf_core.proofs.PhaseLemmas.{numbers_own}
 use Rattle.std.proofs.lemmas.List.{length-map}
 use Rattle.csdf_model.specs.Graph as graph
-use Rattle.csdf_core.specs.Planned.{is_source_kernel, with_capacity}
+use Rattle.csdf_model.specs.Kernels.{is_source_kernel}
+use Rattle.csdf_core.specs.Planned.{with_capacity}
 use Rattle.csdf_core.proofs.PlanLemmas.{numbers-capacities, length-capacities}
 use Rattle.csdf_core.proofs.plan.Plan.outputs.Goals as goal
 

@@ -3,8 +3,8 @@ use Rattle.std.proofs.lemmas.List.{length-map}
 use Rattle.std.proofs.lemmas.List.Elements.{recursion_from_All}
 use Rattle.csdf_model.specs.Graph as graph
 use Rattle.csdf_model.specs.Graph.{actor_view, phases_of}
+use Rattle.csdf_model.specs.Kernels.{is_source_kernel}
 use Rattle.csdf_model.specs.WellFormed.{IsActor, IsChannel}
-use Rattle.csdf_core.specs.Planned.{is_source_kernel}
 use Rattle.csdf_core.proofs.PlanLemmas.{seen_at}
 use Rattle.csdf_core.proofs.PhaseLemmas.{has_phases, phases_at, some_phases, few_phases}
 use Rattle.csdf_core.proofs.plan.Plan.phases.Goals as goal
