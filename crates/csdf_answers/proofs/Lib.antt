@@ -1,4 +1,3 @@
-pub mod NameLemmas
 pub mod TurnLemmas
 pub mod SessionLemmas
 pub mod AnswerLemmas

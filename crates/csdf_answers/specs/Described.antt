@@ -1,9 +1,10 @@
 -- What the program answers to a question about a graph file.
-use Rattle.std.specs.Prelude.{◌≡◌, ◌≢◌, ℕ, List, ◌++◌, Result, Ok, Err, MatchResult, codes, length, map, slice_index}
+use Rattle.std.specs.Prelude.{◌≡◌, ◌≢◌, ℕ, List, ◌++◌, Result, Ok, Err, MatchResult, codes, length, slice_index}
 use Rattle.std.specs.List.{enumerate_from, flat_map}
 use Rattle.std.specs.Fmt.{decimal}
 use Rattle.csdf_graph.specs.declared.fault.GraphFault.{GraphFault}
-use Rattle.csdf_model.specs.Graph.{Graph, Actor}
+use Rattle.csdf_model.specs.Graph.{Graph}
+pub use Rattle.csdf_model.specs.Names.{actor_names}
 use Rattle.csdf_graph.specs.GraphText.{IsGraphOf}
 use Rattle.csdf_analysis.specs.declared.fault.AcceptFault.{AcceptFault}
 use Rattle.csdf_analysis.specs.declared.fault.AcceptFault.TheVariants as accept
@@ -21,10 +22,6 @@ use Rattle.csdf_answers.specs.Printed.{newline, names_of, name_at}
 use Rattle.csdf_answers.specs.Session.{RefusesGraph}
 
 -- ---- texts
-
--- the names of actors
-abbrev pub actor_names : List Actor → List (List ℕ)
-actor_names actors = map (λ (a : Actor). a.name) actors
 
 -- how many actors and channels a consistent graph has
 abbrev pub check_text : ℕ → ℕ → List ℕ

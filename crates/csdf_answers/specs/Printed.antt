@@ -1,8 +1,8 @@
 -- Printed text: the replies to the moves of a script, and the cells.
-use Rattle.std.specs.Prelude.{ℕ, ℤ, List, [], ◌∷◌, ◌++◌, Ok, Err, codes, map, slice_index_or}
+use Rattle.std.specs.Prelude.{ℕ, ℤ, List, [], ◌∷◌, ◌++◌, Ok, Err, codes}
 use Rattle.std.specs.List.{enumerate_from, flat_map}
 use Rattle.std.specs.Fmt.{decimal, signed_decimal}
-use Rattle.csdf_model.specs.Graph.{Channel}
+pub use Rattle.csdf_model.specs.Names.{channel_names as names_of, name_at}
 use Rattle.csdf_pool.specs.Pool.{Held, Shared, held_cells, chain_of}
 use Rattle.csdf_core.specs.declared.refusal.Refusal.{Refusal}
 use Rattle.csdf_core.specs.declared.refusal.Refusal.TheVariants.{Unknown, Busy, Spent, Closed, Dry, Short, Full, Stopped}
@@ -11,14 +11,6 @@ use Rattle.csdf_core.specs.Step.{Reply}
 
 abbrev pub newline : List ℕ
 newline = 10 ∷ []
-
--- the names of channels
-abbrev pub names_of : List Channel → List (List ℕ)
-names_of channels = map (λ (c : Channel). c.name) channels
-
--- the name of channel c
-abbrev pub name_at : List (List ℕ) → ℕ → List ℕ
-name_at names c = slice_index_or names c []
 
 -- each number after a space
 abbrev pub spaced : List ℕ → List ℕ

@@ -2,13 +2,14 @@
 use Rattle.std.specs.Prelude.{◌≡◌, ◌≢◌, ℕ, suc, List, [], ◌∷◌, ◌++◌, Option, Some, None, MatchResult, Result, Ok, Err, length, map, replicate, if◌then◌else◌}
 use Rattle.csdf_graph.specs.declared.fault.GraphFault.{GraphFault}
 use Rattle.csdf_model.specs.Graph.{Graph, Actor}
+use Rattle.csdf_model.specs.Kernels.{is_source_kernel}
 use Rattle.csdf_graph.specs.GraphText.{IsGraphOf}
 use Rattle.csdf_graph.specs.ScriptText.{Script, script_of}
 use Rattle.csdf_pool.specs.Pool.{Shared, held_tokens, IsPartition}
 use Rattle.csdf_analysis.specs.declared.fault.AcceptFault.{AcceptFault}
 use Rattle.csdf_analysis.specs.declared.fault.AcceptFault.TheVariants as accept
 use Rattle.csdf_analysis.specs.Acceptance.{Accepted, IsAccepted, IsNotAccepted}
-use Rattle.csdf_core.specs.Planned.{is_source_kernel, plan_for}
+use Rattle.csdf_core.specs.Planned.{plan_for}
 use Rattle.csdf_core.specs.Plan.{Plan}
 use Rattle.csdf_core.specs.State.{State, Present, present, opening}
 use Rattle.csdf_core.specs.Step.{reply_to, after}

@@ -1,6 +1,6 @@
 //! Why a graph file is refused, or that it is accepted: from its bytes to the explanation.
 
-ghost use Rattle.std.specs.Prelude.{◌≡◌, ◌≢◌, ◌⊎◌, ◌<◌, ◌^◌, ◌++◌, ℕ, List, true, length, sum, Ok, Err, string_bytes, IfErr, IfOk, OnOk};
+ghost use Rattle.std.specs.Prelude.{◌≡◌, ◌≢◌, ◌⊎◌, ◌<◌, ◌++◌, ℕ, List, true, length, sum, Ok, Err, string_bytes, IfErr, IfOk, OnOk};
 ghost use Rattle.std.specs.Io.KnownBytes.{Appends};
 ghost use Rattle.csdf_analysis.specs.Acceptance.{IsNotAccepted};
 ghost use Rattle.csdf_analysis.specs.Demands.{IsDemand};
@@ -14,8 +14,6 @@ use crate::explanation::{
     accepted_text, heading, push_stall, push_tight, too_large_text, unbalanced_text,
 };
 use crate::fault::ToolFault;
-use crate::printed::name_at;
-use crate::question::actor_name;
 use crate::sending::send;
 use csdf_analysis::{
     AcceptFault, Accepted, Bounds, Demand, Vector, accept, demand_of, repetition, stall_of,
@@ -24,7 +22,7 @@ use csdf_analysis::{
 use csdf_bytes::Outlet;
 use csdf_graph::{GraphFault, read_graph};
 use csdf_misfits::explain_fault;
-use csdf_model::Graph;
+use csdf_model::{Graph, actor_name, channel_name};
 use std::alloc::{AllocError, Global};
 
 /// The line of a channel that asks this of its two actors.
@@ -41,9 +39,15 @@ fn demand_text(
     let channels = graph.channels();
     let actors = graph.actors();
     let channel = &channels[number as usize];
-    let from = actor_name(actors, channel.from);
-    let to = actor_name(actors, channel.to);
-    unbalanced_text(alloc, name_at(channels, number), from, to, demand)
+    let from = actor_name(actors, channel.from as usize);
+    let to = actor_name(actors, channel.to as usize);
+    unbalanced_text(
+        alloc,
+        channel_name(channels, number as usize),
+        from,
+        to,
+        demand,
+    )
 }
 
 /// What the channel asks of its two actors, and what those before it ask.
@@ -114,7 +118,7 @@ fn tell_refusal(alloc: Global, graph: &Graph, fault: AcceptFault) -> Result<Stri
     match fault {
         AcceptFault::Unbalanced(number) => tell_unbalanced(alloc, graph, number),
         AcceptFault::TooLarge(number) => {
-            let text = too_large_text(alloc, name_at(graph.channels(), number))?;
+            let text = too_large_text(alloc, channel_name(graph.channels(), number as usize))?;
             Ok(text)
         }
         AcceptFault::Deadlock => tell_deadlock(alloc, graph),
@@ -123,19 +127,11 @@ fn tell_refusal(alloc: Global, graph: &Graph, fault: AcceptFault) -> Result<Stri
     }
 }
 
-/// The sum of the numbers.
-fn sum_of(numbers: &[u32]) -> u32
-    requires { sum numbers.now < 2 ^ 32 }
-    ensures { result ≡ sum numbers.now }
-{
-    numbers.iter().sum()
-}
-
 /// That the graph is accepted, and with how many cells where its file gives fewer.
 fn tell_accepted(alloc: Global, accepted: &Accepted) -> Result<String, AllocError>
     ensures { IfOk result (λ text. string_bytes text ≡ accepted_text (sum accepted.now.capacities) accepted.now.graph.cells) }
 {
-    let needed = sum_of(accepted.capacities());
+    let needed = accepted.total_capacity();
     accepted_text(alloc, needed, accepted.graph().cells())
 }
 

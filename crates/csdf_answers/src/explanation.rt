@@ -2,15 +2,13 @@
 
 ghost use Rattle.std.specs.Prelude.{◌≡◌, ◌++◌, Some, length, map, slice_index, string_bytes, IfOk, OnOk};
 ghost use Rattle.csdf_model.specs.Graph.{actor_view, channel_view};
-ghost use Rattle.csdf_answers.specs.Described.{actor_names};
 ghost use Rattle.csdf_answers.specs.Explained.{accepted_line, accepted_text, asked_text, before_text, few_cells_text, heading, ratio_text, room_line, tokens_line, too_large_text, unbalanced_text};
 ghost use Rattle.csdf_answers.specs.Explained.{beside_text, circle_text, more_line, others_text, some_lines, tight_line, tight_text, wait_line, wait_lines, wait_text, waits_text};
-ghost use Rattle.csdf_answers.specs.Printed.{name_at, names_of};
+ghost use Rattle.csdf_answers.specs.Printed.{names_of};
 
 use crate::circle::{circle_of, wait_at, waiting_but};
-use crate::printed::name_at;
 use csdf_analysis::{Bounds, Demand, Ratio, Stall, Tight, Wait};
-use csdf_model::{Actor, Channel};
+use csdf_model::{Actor, Channel, actor_name, channel_name};
 use std::alloc::{AllocError, Global};
 
 /// That a graph is accepted.
@@ -138,7 +136,7 @@ pub(crate) fn push_tight(
     match tight {
         Some(tight) => push_tight_line(
             text,
-            name_at(channels, tight.channel),
+            channel_name(channels, tight.channel as usize),
             tight.given,
             tight.needs,
         ),
@@ -212,12 +210,18 @@ fn push_wait_line(
     match wait {
         Wait::Tokens(number) => {
             let holds = number_at(&stall.held, number);
-            push_tokens_line(text, actor, name_at(channels, number), holds)
+            push_tokens_line(text, actor, channel_name(channels, number as usize), holds)
         }
         Wait::Room(number) => {
             let holds = number_at(&stall.held, number);
             let most = number_at(&stall.bounds, number);
-            push_room_line(text, actor, name_at(channels, number), holds, most)
+            push_room_line(
+                text,
+                actor,
+                channel_name(channels, number as usize),
+                holds,
+                most,
+            )
         }
     }
 }
@@ -239,16 +243,6 @@ fn push_wait(
     }
 }
 
-/// The name of the actor with this number; the empty text where there is none.
-fn name_of(actors: &[Actor], number: usize) -> &str
-    ensures { result.now ≡ name_at (actor_names (map actor_view actors.now)) number }
-{
-    match actors.get(number) {
-        Some(actor) => actor.name.as_str(),
-        None => "",
-    }
-}
-
 /// Appends the lines of the actors with these numbers.
 fn push_waits(
     text: &mut String,
@@ -262,7 +256,7 @@ fn push_waits(
 {
     for number in numbers {
         let wait = wait_at(&stall.waits, *number);
-        push_wait(text, channels, stall, name_of(actors, *number), wait)?;
+        push_wait(text, channels, stall, actor_name(actors, *number), wait)?;
     }
     Ok(())
 }

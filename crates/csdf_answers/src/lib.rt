@@ -24,7 +24,7 @@ pub use described::{describe, describe_as, describe_with_room};
 pub use explained::{explain, explain_with};
 pub use fault::{Name, Stream, ToolFault, unread};
 pub use object::{fault_line, memory_line};
-pub use question::{Form, Question, actor_name};
+pub use question::{Form, Question};
 pub use replay::play_script;
 pub use session::accept_fault;
 pub use token_note::{TokenFile, push_token_note};

@@ -11,10 +11,10 @@ ghost use Rattle.csdf_answers.specs.Objects.{actor_items, actor_object, capacity
 ghost use Rattle.csdf_answers.specs.Printed.{names_of, newline};
 
 use crate::fault::{Reason, ToolFault};
-use crate::question::{Form, actor_name};
+use crate::question::Form;
 use csdf_analysis::{Accepted, Vector, schedule};
 use csdf_json::{json_writer, line_of, open_list, put_flag, put_number, put_text};
-use csdf_model::{Actor, Channel};
+use csdf_model::{Actor, Channel, actor_name};
 use json::Writer;
 use std::alloc::{AllocError, Global};
 
@@ -108,7 +108,7 @@ fn put_firings(writer: &mut Writer, actors: &[Actor], firings: &[u32]) -> Result
     ensures before { writer.new.before ≡ writer.old.before }
 {
     for actor in firings {
-        writer.string(actor_name(actors, *actor))?;
+        writer.string(actor_name(actors, *actor as usize))?;
     }
     writer.end_array()
 }

@@ -8,7 +8,7 @@ ghost use Rattle.csdf_core.specs.Shows.{as_reply};
 ghost use Rattle.csdf_answers.specs.Printed.{names_of, name_at, spaced, spaced_tokens, refusal_text, reply_text, reply_line, chain_line, chain_lines, cells_text};
 
 use csdf_core::{Core, Refusal, Reply};
-use csdf_model::{Channel, MAX_CHANNELS};
+use csdf_model::{Channel, MAX_CHANNELS, channel_name};
 use csdf_pool::Cells;
 use std::alloc::AllocError;
 
@@ -17,16 +17,6 @@ fn push(text: &mut String, more: &str) -> Result<(), AllocError>
     ensures { OnOk result (string_bytes text.new ≡ string_bytes text.old ++ more.now) }
 {
     text.push_str(more)
-}
-
-/// The channel's name.
-pub(crate) fn name_at(channels: &[Channel], number: u32) -> &str
-    ensures { result.now ≡ name_at (names_of (map channel_view channels.now)) number }
-{
-    match channels.get(number as usize) {
-        Some(channel) => channel.name.as_str(),
-        None => "",
-    }
 }
 
 /// Appends a refusal's name, and the name of the channel that it speaks of.
@@ -39,7 +29,7 @@ fn push_channel(
     ensures { OnOk result (string_bytes text.new ≡ string_bytes text.old ++ (word.now ++ name_at (names_of (map channel_view channels.now)) number)) }
 {
     push(text, word)?;
-    push(text, name_at(channels, number))
+    push(text, channel_name(channels, number as usize))
 }
 
 /// A refusal's name, and the channel that it speaks of, where it does.

@@ -68,23 +68,13 @@ pub(crate) fn repetition_text(
     Ok(text)
 }
 
-/// The name of the actor with this number; the empty text where there is none.
-pub fn actor_name(actors: &[Actor], number: u32) -> &str
-    ensures { result.now ≡ name_at (actor_names (map actor_view actors.now)) number }
-{
-    match actors.get(number as usize) {
-        Some(actor) => actor.name.as_str(),
-        None => "",
-    }
-}
-
 /// A line for each firing: its actor's name.
 fn firings_text(alloc: Global, actors: &[Actor], firings: &[u32]) -> Result<String, AllocError>
     ensures { IfOk result (λ text. string_bytes text ≡ schedule_text (actor_names (map actor_view actors.now)) firings.now) }
 {
     let mut text = String::new(alloc);
     for actor in firings {
-        let name = actor_name(actors, *actor);
+        let name = csdf_model::actor_name(actors, *actor as usize);
         write!(text, "{name}\n")?;
     }
     Ok(text)

@@ -14,11 +14,10 @@ ghost use Rattle.csdf_answers.specs.Session.{lines_from, supply_of, plan_in, Ref
 
 use crate::fault::{Name, ToolFault};
 use crate::line::{Line, line_in};
-use crate::printed::name_at;
 use csdf_analysis::{AcceptFault, Accepted, Room, accept, accept_in_room};
 use csdf_core::Core;
 use csdf_graph::Script;
-use csdf_model::{Actor, Graph, Kernel};
+use csdf_model::{Actor, Graph, channel_name};
 use std::alloc::{AllocError, Global};
 
 /// What each line asks for, or the first that asks for nothing that there is.
@@ -52,11 +51,11 @@ pub fn accept_fault(
     let channels = graph.channels();
     match fault {
         AcceptFault::Unbalanced(number) => {
-            let name = Name::new(alloc, name_at(channels, number))?;
+            let name = Name::new(alloc, channel_name(channels, number as usize))?;
             Ok(ToolFault::Unbalanced(name))
         }
         AcceptFault::TooLarge(number) => {
-            let name = Name::new(alloc, name_at(channels, number))?;
+            let name = Name::new(alloc, channel_name(channels, number as usize))?;
             Ok(ToolFault::TooLarge(name))
         }
         AcceptFault::Deadlock => Ok(ToolFault::Deadlock),
@@ -95,10 +94,7 @@ pub(crate) fn accepted_in(alloc: Global, graph: &Graph, room: Room) -> Result<Ac
 fn supply_of(supply: u32, actor: &Actor) -> u32
     ensures { result ≡ supply_of supply (actor_view actor.now) }
 {
-    match actor.kernel {
-        Kernel::Source => supply,
-        Kernel::Sink | Kernel::Copy | Kernel::Sum | Kernel::Fir { .. } => 0,
-    }
+    if actor.kernel.is_source() { supply } else { 0 }
 }
 
 /// How many tokens each actor's file has.

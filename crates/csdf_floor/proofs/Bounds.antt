@@ -151,7 +151,7 @@ below_fired w s t a booked there below less b =
       | inr e ↦ let now = get_or-set_other s.counts a b (suc (get_or s.counts a 0)) 0 e.1 in let h = below b in omega arith
     ]
 
-below_from : (w : Program) (s t : State) (actors : List ℕ) → IsAtRest w s → IsSequentialFrom w s actors → IsBooked w.plan t → AllIdle t
+pub below_from : (w : Program) (s t : State) (actors : List ℕ) → IsAtRest w s → IsSequentialFrom w s actors → IsBooked w.plan t → AllIdle t
     → IsStuck w.plan (present t) → Below s t → Below (state_from w s actors) t
 below_from w s t [] r p bt idle stuck below = below
 below_from w s t (a ∷ actors) r p bt idle stuck below =

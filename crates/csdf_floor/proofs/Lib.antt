@@ -34,3 +34,10 @@ pub mod MoreFirings
 pub mod LoopMakings
 pub mod Drafted
 pub mod Notings
+pub mod Standings
+pub mod JoinedStreams
+pub mod Joinings
+pub mod Continuing
+pub mod Lefts
+pub mod Stretches
+pub mod Exacts

@@ -69,6 +69,7 @@ at_rest plan p quiet a lt = (quiet a lt).0
 module _ (f : FloorView) (reads : List (List ℤ)) (b : IsBook f reads) (between : IsBetween f.core.plan f.core.now) (quiet : IsQuiet f.core.plan f.core.now)
     (o : Outcome)
     (journal : journal_in o ≡ f.journal) (sinks : feeds_in o.sinks.items ≡ f.sinks) (report : o.report.items ≡ report_on (program f.work) f.journal)
+    (left : feeds_in o.left.items ≡ (present (state_of (program f.work) f.journal)).tokens)
     (ending : IsEnding f.core.plan f.core.now o.ending) where
   abbrev w : Program
   w = program f.work
@@ -113,6 +114,9 @@ module _ (f : FloorView) (reads : List (List ℤ)) (b : IsBook f reads) (between
 
   report_is : o.report.items ≡ report_on w j
   report_is = report ∙ ap (report_on w) (sym journal)
+
+  left_is : feeds_in o.left.items ≡ p.tokens
+  left_is = left ∙ ap (λ (ms : List Move). (present (state_of w ms)).tokens) (sym journal)
 
   told_is : (c : ℕ) → c < length w.plan.channels → report_at o c ≡ report_of w j c
   told_is c lt =
@@ -229,6 +233,7 @@ module _ (f : FloorView) (reads : List (List ℤ)) (b : IsBook f reads) (between
     closing = keeps_closed w.plan j playable;
     sinks = sinks_are;
     report = report_is;
+    left = left_is;
     ending = ending_is;
     sequential = λ actors run. beside o.ending actors ending_is run;
     rooms = in_any_room;

@@ -12,3 +12,4 @@ pub mod Report
 pub mod Periods
 pub mod Making
 pub mod Drafts
+pub mod Continuing

@@ -83,6 +83,10 @@ TellsSinks w o = feeds_in o.sinks.items ≡ sinks_of w (journal_in o)
 abbrev pub TellsReport : Program → Outcome → Type 0
 TellsReport w o = o.report.items ≡ report_on w (journal_in o)
 
+-- what each channel holds at the end
+abbrev pub TellsLeft : Program → Outcome → Type 0
+TellsLeft w o = feeds_in o.left.items ≡ (present (state_of w (journal_in o))).tokens
+
 abbrev pub TellsEnding : Program → Outcome → Type 0
 TellsEnding w o = IsEnding w.plan (present (state_of w (journal_in o))) o.ending
 
@@ -162,6 +166,7 @@ pub record IsOutcome (w : Work) (o : Outcome) : Type 0 where
   pub closing : LeavesClosedAlone (program w) o
   pub sinks : TellsSinks (program w) o
   pub report : TellsReport (program w) o
+  pub left : TellsLeft (program w) o
   pub ending : TellsEnding (program w) o
   pub sequential : IsAsSequentialRun (program w) o
   pub rooms : IsAsInAnyRoom (program w) o

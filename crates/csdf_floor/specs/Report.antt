@@ -1,21 +1,14 @@
 -- The printed report of a run.
-use Rattle.std.specs.Prelude.{ℕ, Bool, true, false, List, [], ◌∷◌, ◌++◌, codes, map, slice_index_or}
+use Rattle.std.specs.Prelude.{ℕ, Bool, true, false, List, [], ◌∷◌, ◌++◌, codes}
 use Rattle.std.specs.List.{enumerate_from, flat_map}
 use Rattle.std.specs.Fmt.{decimal}
-use Rattle.csdf_model.specs.Graph.{Channel}
+pub use Rattle.csdf_model.specs.Names.{channel_names as names_of, name_at}
 use Rattle.csdf_floor.specs.declared.ending.Ending.{Ending}
 use Rattle.csdf_floor.specs.declared.ending.Ending.TheVariants.{Complete, Stopped, Starved, Dry}
 use Rattle.csdf_floor.specs.declared.outcome.ChannelReport.{ChannelReport}
 
 abbrev pub newline : List ℕ
 newline = 10 ∷ []
-
--- the names of channels, and that of channel c
-abbrev pub names_of : List Channel → List (List ℕ)
-names_of channels = map (λ (c : Channel). c.name) channels
-
-abbrev pub name_at : List (List ℕ) → ℕ → List ℕ
-name_at names c = slice_index_or names c []
 
 abbrev pub ending_word : Ending → List ℕ
 ending_word Complete = codes "complete"

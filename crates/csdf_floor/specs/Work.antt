@@ -1,12 +1,11 @@
 -- What a run is asked for.
-use Rattle.std.specs.Prelude.{ℕ, ◌≡◌, ◌↔◌, ◌*◌, ◌≤◌, Bool, true, false, List, [], ℤ, Option, All, length, map, slice_index_or}
+use Rattle.std.specs.Prelude.{ℕ, ◌≡◌, ◌↔◌, ◌*◌, ◌≤◌, Bool, false, List, [], ℤ, Option, All, length, map, slice_index_or}
 use Rattle.std.specs.Global.{Vec}
 use Rattle.csdf_model.specs.declared.limits.TheConstants.{MAX_FIRINGS_PER_ACTOR, MAX_PERIODS}
-use Rattle.csdf_model.specs.declared.parts.Kernel.{Kernel}
-use Rattle.csdf_model.specs.declared.parts.Kernel.TheVariants as kernel
 use Rattle.csdf_model.specs.Graph.{Graph, Actor}
+use Rattle.csdf_model.specs.Kernels.{is_source_kernel}
+pub use Rattle.csdf_model.specs.Kernels.{is_sink_kernel}
 use Rattle.csdf_analysis.specs.Acceptance.{Accepted, IsAccepted}
-use Rattle.csdf_core.specs.Planned.{is_source_kernel}
 use Rattle.csdf_floor.specs.declared.limits.TheConstants.{MAX_FEED_TOKENS}
 use Rattle.csdf_floor.specs.Journal.{Program, program_for}
 
@@ -60,10 +59,3 @@ pub record IsWork (w : Work) : Type 0 where
   pub fed : AreFeeds w.accepted.graph w.feeds
   pub some_period : 1 ≤ w.periods
   pub few_firings : HasFewFirings w.accepted w.periods
-
-abbrev pub is_sink_kernel : Kernel → Bool
-is_sink_kernel kernel.Source = false
-is_sink_kernel kernel.Sink = true
-is_sink_kernel kernel.Copy = false
-is_sink_kernel kernel.Sum = false
-is_sink_kernel (kernel.Fir weights taps shift) = false

@@ -384,6 +384,34 @@ impl Book {
         Ok(report)
     }
 
+    /// The tokens that each channel holds, in file order.
+    pub(crate) fn left(&self, alloc: Global) -> Result<Vec<Vec<i32>>, AllocError>
+        ensures { IfOk result (λ left. feeds_in left.items ≡ (present (state_of (program self.now.shown.work) self.now.shown.journal)).tokens) }
+    {
+        let _ = &self.work;
+        let mut left = Vec::new(alloc);
+        for channel in 0..self.core.channels() {
+            let tokens = self.core.tokens(alloc, channel)?;
+            left.push(tokens)?;
+        }
+        Ok(left)
+    }
+
+    /// What is told of each channel, and the tokens that it holds, where every actor is idle.
+    pub(crate) fn report_and_left(
+        &self,
+        alloc: Global,
+    ) -> Result<(Vec<ChannelReport>, Vec<Vec<i32>>), AllocError>
+        requires { (a : ℕ) → a < length self.now.shown.core.plan.sources → stage self.now.shown.core.now a ≡ Idle }
+        ensures report { IfOk result (λ told. told.0.items ≡ report_on (program self.now.shown.work) self.now.shown.journal) }
+        ensures left { IfOk result (λ told. feeds_in told.1.items
+            ≡ (present (state_of (program self.now.shown.work) self.now.shown.journal)).tokens) }
+    {
+        let report = self.report(alloc)?;
+        let left = self.left(alloc)?;
+        Ok((report, left))
+    }
+
     /// Whether each actor has finished as many firings.
     pub(crate) fn has_counts(&self, totals: &[u32]) -> bool
         ensures { IsTrue result ↔ (self.now.shown.core.now.counts ≡ totals.now) }

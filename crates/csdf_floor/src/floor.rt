@@ -431,18 +431,19 @@ impl Floor {
         ensures totals { IfOk result.outcome (λ o. HasTotals (program self.work) o self.core.now.counts) }
         ensures memory { IfErr result.outcome (λ fault. fault ≡ RunFault.Memory) }
     {
-        let report = self.book.report(alloc);
+        let told = self.book.report_and_left(alloc);
         let ending = ending_of(self.book.core());
         let Floor { book } = self;
         let (fed, journal, sinks) = book.into_parts();
-        match report {
-            Ok(report) => Settled {
+        match told {
+            Ok((report, left)) => Settled {
                 fed,
                 outcome: Ok(Outcome {
                     ending,
                     sinks,
                     journal,
                     report,
+                    left,
                 }),
             },
             Err(_error) => Settled {

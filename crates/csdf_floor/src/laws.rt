@@ -6,6 +6,7 @@ ghost use Rattle.csdf_floor.specs.Laws.{SequentialIsHonest, OrderDoesNotShow};
 ghost use Rattle.csdf_floor.specs.Rooms.{CapacitiesDoNotCount, CapacitiesDoNotShow, MoreRoomGoesAsFar, RoomDoesNotShow, StayInStep};
 ghost use Rattle.csdf_floor.specs.Periods.{RunsHonestly};
 ghost use Rattle.csdf_floor.specs.Endings.{OneEnding, EndsByEnding};
+ghost use Rattle.csdf_floor.specs.Continuing.{AskAsAtFirst, CanBePlayedWhole, CompleteIsWhole, GoesOnBySegments, LeavesAsFound, SegmentsAreOneRun};
 
 /// A law: an idle actor that is neither spent, dry, short nor full stays so under the moves of others.
 pub fn persists()
@@ -147,4 +148,39 @@ pub fn runs_honestly()
 /// were written to each channel, taken from it and left in it.
 pub fn room_does_not_show()
     ensures { RoomDoesNotShow }
+{}
+
+/// A law: at the end of a segment that is played whole each channel holds as many tokens as it began
+/// with, and the graph that begins with these tokens is accepted too.
+pub fn leaves_as_found()
+    ensures { LeavesAsFound }
+{}
+
+/// A law: a run may be played in segments. Where each begins with the tokens that the channels held at the
+/// end of the one before, what each sink takes in all of them is a front of what it takes in the one long
+/// run; and where the last one ends with no actor able to go, it is the same, and so is what the channels
+/// hold.
+pub fn segments_are_one_run()
+    ensures { SegmentsAreOneRun }
+{}
+
+/// A law: with as many cells as the capacities add up to, any number of periods can be played whole.
+pub fn can_be_played_whole()
+    ensures { CanBePlayedWhole }
+{}
+
+/// A law: a run that ends complete, over files that hold what it takes and no more, is played whole.
+pub fn complete_is_whole()
+    ensures { CompleteIsWhole }
+{}
+
+/// A law: a run that was played in whole segments so far goes on by one segment more.
+pub fn goes_on_by_segments()
+    ensures { GoesOnBySegments }
+{}
+
+/// A law: files that are exact, feeds that are fit and a number of periods that may be run are so of the
+/// graph that goes on from whole segments too, where they are so of the first one.
+pub fn ask_as_at_first()
+    ensures { AskAsAtFirst }
 {}

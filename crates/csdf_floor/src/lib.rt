@@ -8,6 +8,7 @@ mod counts;
 mod draft;
 mod drafting;
 mod ending;
+mod exact;
 mod fault;
 mod fed;
 mod floor;
@@ -24,20 +25,23 @@ mod same;
 mod settling;
 mod work;
 
+pub use csdf_model::channel_name;
 pub use draft::Draft;
 pub use ending::Ending;
+pub use exact::are_exact;
 pub use fault::{DeliverFault, RunFault, StartFault};
 pub use fed::Fed;
 pub use floor::Floor;
 pub use laws::{
-    agree, begins_no_more, capacities_do_not_show, completes_all, ends_as_sequential,
-    ends_by_ending, ends_complete, ends_counted, finishes_all, goes_on, has_sequential_run,
-    is_honest_at_each, is_only, more_room_goes_as_far, one_ending, order_does_not_show, persists,
-    quiet_is_exhausted, room_does_not_show, runs_honestly, sequential_is_honest, stay_in_step,
-    stays_counted, stays_within,
+    agree, ask_as_at_first, begins_no_more, can_be_played_whole, capacities_do_not_show,
+    complete_is_whole, completes_all, ends_as_sequential, ends_by_ending, ends_complete,
+    ends_counted, finishes_all, goes_on, goes_on_by_segments, has_sequential_run,
+    is_honest_at_each, is_only, leaves_as_found, more_room_goes_as_far, one_ending,
+    order_does_not_show, persists, quiet_is_exhausted, room_does_not_show, runs_honestly,
+    segments_are_one_run, sequential_is_honest, stay_in_step, stays_counted, stays_within,
 };
 pub use limits::{MAX_FEED_TOKENS, few_in_thousand, may_run, most_periods};
 pub use outcome::{ChannelReport, Outcome, Settled};
-pub use printed::{channel_name, ending_word, printed_report};
+pub use printed::{ending_word, printed_report};
 pub use settling::{settle, settle_and_hand_back};
 pub use work::are_feeds;

@@ -33,6 +33,8 @@ pub struct Outcome {
     pub journal: Journal,
     /// What is told of each channel, in file order.
     pub report: Vec<ChannelReport>,
+    /// The tokens that each channel holds, in file order.
+    pub left: Vec<Vec<i32>>,
 }
 
 /// A run that has ended: what it was of, and its outcome, or why there is none.

@@ -4,22 +4,12 @@ ghost use Rattle.std.specs.Prelude.{◌≡◌, ◌++◌, codes, map, string_byte
 ghost use Rattle.std.specs.Fmt.{decimal};
 ghost use Rattle.std.specs.List.{enumerate_from};
 ghost use Rattle.csdf_model.specs.Graph.{channel_view};
-ghost use Rattle.csdf_floor.specs.Report.{ending_word, name_at, names_of, newline, report_line, report_lines, report_text, room_part, state_word, tokens_part};
+ghost use Rattle.csdf_floor.specs.Report.{ending_word, names_of, newline, report_line, report_lines, report_text, room_part, state_word, tokens_part};
 
 use crate::ending::Ending;
 use crate::outcome::{ChannelReport, Outcome};
-use csdf_model::{Channel, Graph};
+use csdf_model::{Channel, Graph, channel_name};
 use std::alloc::{AllocError, Global};
-
-/// The name of the channel with this number; the empty text where there is none.
-pub fn channel_name(channels: &[Channel], number: usize) -> &str
-    ensures { result.now ≡ name_at (names_of (map channel_view channels.now)) number }
-{
-    match channels.get(number) {
-        Some(channel) => channel.name.as_str(),
-        None => "",
-    }
-}
 
 /// The word that a report has for an ending.
 pub fn ending_word(ending: Ending) -> &'static str

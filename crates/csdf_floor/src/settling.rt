@@ -4,7 +4,7 @@ ghost use Rattle.std.specs.Prelude.{◌≡◌, ◌≤◌, IfOk, length};
 ghost use Rattle.csdf_floor.specs.Journal.{program_for};
 ghost use Rattle.csdf_floor.specs.Work.{AreFeeds, HasFewFirings, feeds_in, program};
 ghost use Rattle.csdf_floor.specs.Outcome.{IsEndOf, IsOutcome, IsSettleAnswer, HasTotals, HasHonestJournal, EndsSettled, TakesInOrder};
-ghost use Rattle.csdf_floor.specs.Outcome.{StaysWithinCapacities, LeavesClosedAlone, TellsSinks, TellsReport, TellsEnding};
+ghost use Rattle.csdf_floor.specs.Outcome.{StaysWithinCapacities, LeavesClosedAlone, TellsSinks, TellsReport, TellsLeft, TellsEnding};
 ghost use Rattle.csdf_floor.specs.Outcome.{IsAsSequentialRun, IsAsInAnyRoom, CompletesWhereAmple, journal_in};
 
 use crate::fault::RunFault;
@@ -48,6 +48,7 @@ pub fn settle(
     ensures closing { IfOk result (LeavesClosedAlone (program_for accepted.now (feeds_in feeds.now) periods firings)) }
     ensures sinks { IfOk result (TellsSinks (program_for accepted.now (feeds_in feeds.now) periods firings)) }
     ensures report { IfOk result (TellsReport (program_for accepted.now (feeds_in feeds.now) periods firings)) }
+    ensures left { IfOk result (TellsLeft (program_for accepted.now (feeds_in feeds.now) periods firings)) }
     ensures ending { IfOk result (TellsEnding (program_for accepted.now (feeds_in feeds.now) periods firings)) }
     ensures totals { IfOk result (λ o. HasTotals (program_for accepted.now (feeds_in feeds.now) periods firings) o totals.now) }
     ensures sequential { IfOk result (IsAsSequentialRun (program_for accepted.now (feeds_in feeds.now) periods firings)) }

@@ -6,7 +6,7 @@ ghost use Rattle.csdf_model.specs.Graph.{channel_view};
 ghost use Rattle.csdf_model.specs.Rates.{total};
 ghost use Rattle.csdf_core.specs.Feedback.{IsFeedback};
 ghost use Rattle.csdf_core.specs.Headline.{capacity_of};
-ghost use Rattle.csdf_core.specs.Planned.{is_source_kernel, with_capacity};
+ghost use Rattle.csdf_core.specs.Planned.{with_capacity};
 ghost use Rattle.csdf_core.specs.Plan.{consume_at, produce_at, to_at};
 ghost use Rattle.csdf_core.specs.Step.{is_source, producer};
 ghost use Rattle.csdf_kernel.specs.Value.{HasFilterInRange};
@@ -68,20 +68,6 @@ fn kernel_in(actor: &Actor) -> &Kernel
     ensures { result.now ≡ actor.now.kernel }
 {
     &actor.kernel
-}
-
-/// Whether this is the kernel of a source.
-fn is_source(kernel: &Kernel) -> bool
-    ensures { result ≡ is_source_kernel kernel.now }
-{
-    matches!(kernel, Kernel::Source)
-}
-
-/// Whether this is the kernel of a sink.
-fn is_sink(kernel: &Kernel) -> bool
-    ensures { result ≡ is_sink_kernel kernel.now }
-{
-    matches!(kernel, Kernel::Sink)
 }
 
 impl Work {
@@ -158,7 +144,7 @@ impl Work {
         requires { actor < length self.now.accepted.graph.actors }
         ensures { result ≡ is_source (program self.now).plan actor }
     {
-        is_source(self.kernel(actor))
+        self.kernel(actor).is_source()
     }
 
     /// Whether the actor is a sink.
@@ -166,7 +152,7 @@ impl Work {
         requires { actor < length self.now.accepted.graph.actors }
         ensures { result ≡ is_sink_kernel (slice_index_or (program self.now).kernels actor Sink) }
     {
-        is_sink(self.kernel(actor))
+        self.kernel(actor).is_sink()
     }
 
     /// The channel as the graph has it.
@@ -257,7 +243,7 @@ fn is_feed(graph: &Graph, actor: u32, feed: &[i32]) -> bool
     ensures { IsTrue result ↔ IsFeed graph.now actor feed.now }
 {
     let kernel = &graph.actors()[actor as usize].kernel;
-    feed.len() <= MAX_FEED_TOKENS && (feed.is_empty() || is_source(kernel))
+    feed.len() <= MAX_FEED_TOKENS && (feed.is_empty() || kernel.is_source())
 }
 
 /// Whether the lists can be the feeds of a run of the graph: one for each actor, of at most `MAX_FEED_TOKENS`

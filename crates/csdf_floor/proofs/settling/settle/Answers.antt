@@ -45,6 +45,9 @@ returns-clause-sinks c = (outcome (goal.at.returns-clause-sinks c).In_ok-outcome
 pub returns-clause-report : goal.returns-clause-report
 returns-clause-report c = (outcome (goal.at.returns-clause-report c).In_ok-outcome).report
 
+pub returns-clause-left : goal.returns-clause-left
+returns-clause-left c = (outcome (goal.at.returns-clause-left c).In_ok-outcome).left
+
 pub returns-clause-ending : goal.returns-clause-ending
 returns-clause-ending c = (outcome (goal.at.returns-clause-ending c).In_ok-outcome).ending
 

@@ -10,8 +10,8 @@ use Rattle.csdf_floor.proofs.Settles.{at_rest, counts_are, outcome_is}
 use Rattle.csdf_floor.proofs.floor.Floor.into_settled.Goals as goal
 use Rattle.csdf_floor.proofs.floor.Floor.into_settled.Goals.{In-Ok}
 
-pub report-report-requires : goal.report-report-requires
-report-report-requires c =
+pub report_and_left-told-requires : goal.report_and_left-told-requires
+report_and_left-told-requires c =
     at_rest c.self.inside.book.shown.core.plan c.self.inside.book.shown.core.now
     (subst (λ (f : FloorView). IsQuiet f.core.plan f.core.now) (sym c.self.view_is) c.requires)
 
@@ -22,6 +22,7 @@ module _ (c : In-Ok) where
     sinks = c.into_parts-fed.result.2;
     journal = c.into_parts-fed.result.1;
     report = c.in-Ok.report;
+    left = c.in-Ok.left;
   }
 
 pub returns-in-Ok-clause-outcome : goal.returns-in-Ok-clause-outcome
@@ -30,7 +31,7 @@ returns-in-Ok-clause-outcome c =
     subst (λ (f : FloorView). IsOutcome f.work o) c.self.view_is
     (outcome_is c.self.inside.book.shown c.self.inside.book.reads c.core.ensures.book c.self.invariant
     (subst (λ (f : FloorView). IsQuiet f.core.plan f.core.now) (sym c.self.view_is) c.requires) o
-    c.into_parts-fed.ensures.moves c.into_parts-fed.ensures.sinks c.in-Ok.ensures
+    c.into_parts-fed.ensures.moves c.into_parts-fed.ensures.sinks c.in-Ok.ensures.report c.in-Ok.ensures.left
     (subst (λ (v : View). IsEnding v.plan v.now c.ending_of-ending.result) c.core.ensures.value c.ending_of-ending.ensures))
 
 pub returns-in-Ok-clause-totals : goal.returns-in-Ok-clause-totals
@@ -39,5 +40,5 @@ returns-in-Ok-clause-totals c =
     subst (λ (f : FloorView). HasTotals (program f.work) o f.core.now.counts) c.self.view_is
     (counts_are c.self.inside.book.shown c.self.inside.book.reads c.core.ensures.book c.self.invariant
     (subst (λ (f : FloorView). IsQuiet f.core.plan f.core.now) (sym c.self.view_is) c.requires) o
-    c.into_parts-fed.ensures.moves c.into_parts-fed.ensures.sinks c.in-Ok.ensures
+    c.into_parts-fed.ensures.moves c.into_parts-fed.ensures.sinks c.in-Ok.ensures.report c.in-Ok.ensures.left
     (subst (λ (v : View). IsEnding v.plan v.now c.ending_of-ending.result) c.core.ensures.value c.ending_of-ending.ensures))

@@ -1,8 +1,0 @@
-use Rattle.std.proofs.Common.{◌∙◌}
-use Rattle.csdf_answers.proofs.NameLemmas.{actor_name-found}
-use Rattle.csdf_answers.proofs.explanation.name_of.Goals as goal
-
-pub returns-in-Some : goal.returns-in-Some
-returns-in-Some c =
-    let found = c.in-Some.ensures.lookup in
-    c.as_str.ensures.value ∙ actor_name-found c.args.actors.now c.args.number c.in-Some.actor.now found.3.0 found.1
