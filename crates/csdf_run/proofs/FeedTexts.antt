@@ -22,6 +22,7 @@ use Rattle.csdf_floor.specs.Outcome.{IsEndBeside, sequential_list}
 use Rattle.csdf_analysis.specs.declared.room.Room.{Room}
 use Rattle.csdf_analysis.specs.declared.length.Length.{Length}
 use Rattle.csdf_run.specs.Texts.{◌>>=◌, AreTextsBeside, IsTextBeside, TellGraphRun, TellSequentialGraphRun, feed_in, feeds_from, sink_texts, sinks_among, text_at}
+use Rattle.csdf_run.specs.Tokens.{IsGraphRun, IsSequentialGraphRun}
 use Rattle.csdf_floor.specs.Work.{AreFeeds, feed_of, feeds_in, is_sink_kernel, program}
 
 -- ---- the feeds, one actor after the other
@@ -219,9 +220,10 @@ lists_beside w o run Dry end a lt =
 lists_beside w o run Stopped end a lt = end.sinks a lt
 lists_beside w o run Starved end a lt = end.sinks a lt
 
-pub as_sequential : (room : Room) (g : Graph) (texts : List (List ℕ)) (how_long : Length) (firings : Option ℕ) (t : Texts) → TellGraphRun room g texts how_long firings t
-    → TellSequentialGraphRun room g texts how_long firings t
-as_sequential room g texts how_long firings t r = record {
+-- an outcome beside the sequential run
+pub run_as_sequential : (room : Room) (g : Graph) (texts : List (List ℕ)) (how_long : Length) (firings : Option ℕ) (o : Outcome)
+    → IsGraphRun room g texts how_long firings o → IsSequentialGraphRun room g texts how_long firings o
+run_as_sequential room g texts how_long firings o r = record {
   accepted = r.accepted;
   feeds = r.feeds;
   periods = r.periods;
@@ -231,10 +233,31 @@ as_sequential room g texts how_long firings t r = record {
       let w : Program = program (record { accepted = r.accepted; feeds = r.feeds; periods = r.periods; firings = firings }) in
       let actors = r.accepted.graph.actors in
       let many : length w.plan.sources ≡ length actors = length-map actors (λ (actor : Actor). is_source_kernel actor.kernel) in
-      let lists = lists_beside w r.outcome run r.outcome.ending (r.told.outcome.sequential run is) in
-      let beside = texts_beside r.outcome.ending (sequential_list w run) (feeds_in r.outcome.sinks.items) 0 actors (λ a lt. lists a (omega arith)) in
+      let lists = lists_beside w o run o.ending (r.outcome.sequential run is) in
+      texts_beside o.ending (sequential_list w run) (feeds_in o.sinks.items) 0 actors (λ a lt. lists a (omega arith));
+}
+
+-- a run that texts tell
+abbrev pub run_of_texts : (room : Room) (g : Graph) (texts : List (List ℕ)) (how_long : Length) (firings : Option ℕ) (t : Texts)
+    → (r : TellGraphRun room g texts how_long firings t) → IsGraphRun room g texts how_long firings r.outcome
+run_of_texts room g texts how_long firings t r =
+    record { accepted = r.accepted; feeds = r.feeds; periods = r.periods; goes_on = r.goes_on; read = r.read; outcome = r.told.outcome }
+
+pub as_sequential : (room : Room) (g : Graph) (texts : List (List ℕ)) (how_long : Length) (firings : Option ℕ) (t : Texts) → TellGraphRun room g texts how_long firings t
+    → TellSequentialGraphRun room g texts how_long firings t
+unfolding run_as_sequential
+as_sequential room g texts how_long firings t r = record {
+  accepted = r.accepted;
+  feeds = r.feeds;
+  periods = r.periods;
+  goes_on = r.goes_on;
+  read = r.read;
+  sinks = λ run is.
+      let w : Program = program (record { accepted = r.accepted; feeds = r.feeds; periods = r.periods; firings = firings }) in
+      let actors = r.accepted.graph.actors in
+      let beside = run_as_sequential room g texts how_long firings r.outcome (run_of_texts room g texts how_long firings t r) in
       let told : AreTextsBeside t.ending (sequential_list w run) (sinks_among actors) (sink_texts actors (feeds_in r.outcome.sinks.items)) =
       subst (λ ending. AreTextsBeside ending (sequential_list w run) (sinks_among actors) (sink_texts actors (feeds_in r.outcome.sinks.items)))
-      (sym r.told.ending) beside in
+      (sym r.told.ending) (beside.sinks run is) in
       subst (AreTextsBeside t.ending (sequential_list w run) (sinks_among actors)) (sym r.told.sinks) told;
 }

@@ -9,7 +9,7 @@ use Rattle.csdf_analysis.specs.declared.length.Length.{Length}
 use Rattle.csdf_analysis.specs.declared.length.Length.TheVariants.{Periods, UntilDry}
 use Rattle.csdf_model.specs.Graph.{Graph}
 use Rattle.csdf_graph.specs.GraphText.{IsGraphOf}
-use Rattle.csdf_run.specs.Texts.{GoesOnFor, IsInRoom, MayGoOn, MayGraphGoOn}
+use Rattle.csdf_run.specs.Texts.{GoesOnFor, IsInRoom, MayGoOn, MayGoOnOver, MayGraphGoOn}
 
 -- a run that may go on so long has a period and few firings
 pub may_run : (room : Room) (g : Graph) (how_long : Length) (a : Accepted) (periods : ℕ) → MayGraphGoOn room g how_long → GoesOnFor how_long a periods
@@ -18,6 +18,13 @@ may_run room g (Periods n) a periods may goes is =
     (subst (λ m. 1 ≤ m) (sym goes) may.0, subst (HasFewFirings a) (sym goes) (may.1 a is))
 may_run room g UntilDry a periods may goes is =
     ((goes 1).1 (omega arith, few_in_thousand a 1 is.accepted (omega arith)), ((goes periods).0 (omega arith)).1)
+
+pub may_over : (room : Room) (g : Graph) (how_long : Length) (a : Accepted) → MayGraphGoOn room g how_long → IsInRoom room g a → MayGoOnOver how_long a
+may_over room g how_long a may is periods goes = may_run room g how_long a periods may goes is
+
+-- so many periods may be run where there are some, and few firings in them
+pub may_for : (a : Accepted) (n : ℕ) → 1 ≤ n → HasFewFirings a n → MayGoOnOver (Periods n) a
+may_for a n some few periods goes = (subst (λ m. 1 ≤ m) (sym goes) some, subst (HasFewFirings a) (sym goes) few)
 
 -- what may go on of a file may of its graph
 pub may_graph : (room : Room) (bytes : List ℕ) (g : Graph) (how_long : Length) → IsGraphOf bytes (Ok g) → MayGoOn room bytes how_long → MayGraphGoOn room g how_long

@@ -4,3 +4,6 @@ pub mod Held
 pub mod Lengths
 pub mod Ends
 pub mod RunFaults
+pub mod TokenRuns
+pub mod Stretching
+pub mod Totalling

@@ -21,9 +21,12 @@ use Rattle.csdf_floor.specs.Rooms.{DifferInRoom, without_room}
 use Rattle.csdf_floor.specs.Work.{HasFewFirings, feeds_in}
 use Rattle.csdf_floor.proofs.Rooms.{differ_in_room, same_period}
 use Rattle.csdf_floor.proofs.Works.{playable_program}
+use Rattle.csdf_floor.specs.declared.outcome.Outcome.{Outcome}
 use Rattle.csdf_run.specs.declared.texts.Texts.{Texts}
 use Rattle.csdf_analysis.specs.declared.length.Length.{Length}
 use Rattle.csdf_run.specs.Texts.{MayGraphGoOn, TellGraphRun, TellGraphSameInAnyRoom, TellSameInAnyRoom, feeds_from, sink_texts, texts_in}
+use Rattle.csdf_run.specs.Tokens.{IsGraphRun, IsGraphRunSameInAnyRoom}
+use Rattle.csdf_run.proofs.FeedTexts.{run_of_texts}
 use Rattle.csdf_run.proofs.Lengths.{may_run, one_length}
 
 -- a text is one graph
@@ -45,7 +48,7 @@ bare_rows q m (c ∷ cs) = ap (λ (xs : List graph.Channel). record c { capacity
 bare_graph : (q : List ℕ) (m : ℕ) (g : Graph) → without_room (with_room q m g) ≡ without_room g
 bare_graph q m g = ap (λ (cs : List graph.Channel). record { actors = g.actors; channels = cs; cells = None }) (bare_rows q m g.channels)
 
-bare_with : (room : Room) (q : List ℕ) (g h : Graph) → IsWithRoom room q g h → without_room h ≡ without_room g
+pub bare_with : (room : Room) (q : List ℕ) (g h : Graph) → IsWithRoom room q g h → without_room h ≡ without_room g
 bare_with Least q g h same = ap without_room same
 bare_with (Periods n) q g h same = ap without_room same ∙ bare_graph q n g
 bare_with Auto q g h auto = ap without_room auto.2 ∙ bare_graph q auto.0 g
@@ -55,8 +58,8 @@ one_feeds : (actors others : List Actor) (texts : List (List ℕ)) (one two : Li
 one_feeds actors others texts one two e x y =
     let z : Ok one ≡ Ok two = sym x ∙ ap (λ (xs : List Actor). feeds_from 0 xs texts) e ∙ y in cc
 
-module _ (room other_room : Room) (g : Graph) (texts : List (List ℕ)) (how_long : Length) (firings others : Option ℕ) (t u : Texts)
-    (may : MayGraphGoOn room g how_long) (r : TellGraphRun room g texts how_long firings t) (s : TellGraphRun other_room g texts how_long others u) where
+module _ (room other_room : Room) (g : Graph) (texts : List (List ℕ)) (how_long : Length) (firings others : Option ℕ) (o u : Outcome)
+    (may : MayGraphGoOn room g how_long) (r : IsGraphRun room g texts how_long firings o) (s : IsGraphRun other_room g texts how_long others u) where
   abbrev a : Accepted
   a = r.accepted
 
@@ -93,15 +96,34 @@ module _ (room other_room : Room) (g : Graph) (texts : List (List ℕ)) (how_lon
       (subst (λ (feeds : List (List ℤ)). DifferInRoom w (program_for b feeds r.periods others)) same_feeds
       (differ_in_room a b r.feeds r.periods firings others r.read.in_room.accepted s.read.in_room.accepted same_bare))
 
+  same_sinks : o.ending ≡ Complete → u.ending ≡ Complete → feeds_in o.sinks.items ≡ feeds_in u.sinks.items
+  same_sinks one two =
+      let all : AllSpent v.plan (present (state_of v (journal_in u))) =
+      subst (IsEnding v.plan (present (state_of v (journal_in u)))) two s.outcome.ending in
+      let playable = playable_program b s.feeds s.periods others s.read.in_room.accepted few in
+      let beside = r.outcome.rooms v (journal_in u) differ playable s.outcome.honest in
+      (beside.complete one all).sinks ∙ sym s.outcome.sinks
+
+pub run_same_in_any_room : (room : Room) (g : Graph) (texts : List (List ℕ)) (how_long : Length) (firings : Option ℕ) (o : Outcome)
+    → MayGraphGoOn room g how_long → IsGraphRun room g texts how_long firings o → IsGraphRunSameInAnyRoom g texts how_long o
+run_same_in_any_room room g texts how_long firings o may r other_room others u s =
+    same_sinks room other_room g texts how_long firings others o u may r s
+
+module _ (room other_room : Room) (g : Graph) (texts : List (List ℕ)) (how_long : Length) (firings others : Option ℕ) (t u : Texts)
+    (may : MayGraphGoOn room g how_long) (r : TellGraphRun room g texts how_long firings t) (s : TellGraphRun other_room g texts how_long others u) where
+  abbrev one_run : IsGraphRun room g texts how_long firings r.outcome
+  one_run = run_of_texts room g texts how_long firings t r
+
+  abbrev other_run : IsGraphRun other_room g texts how_long others s.outcome
+  other_run = run_of_texts other_room g texts how_long others u s
+
   same_texts : t.ending ≡ Complete → u.ending ≡ Complete → texts_in t.sinks.items ≡ texts_in u.sinks.items
   same_texts one two =
-      let all : AllSpent v.plan (present (state_of v (journal_in s.outcome))) =
-      subst (IsEnding v.plan (present (state_of v (journal_in s.outcome)))) (sym s.told.ending ∙ two) s.told.outcome.ending in
-      let playable = playable_program b s.feeds s.periods others s.read.in_room.accepted few in
-      let beside = r.told.outcome.rooms v (journal_in s.outcome) differ playable s.told.outcome.honest in
-      let sinks : feeds_in r.outcome.sinks.items ≡ feeds_in s.outcome.sinks.items =
-      (beside.complete (sym r.told.ending ∙ one) all).sinks ∙ sym s.told.outcome.sinks in
-      r.told.sinks ∙ ap (sink_texts a.graph.actors) sinks ∙ ap (λ (xs : List Actor). sink_texts xs (feeds_in s.outcome.sinks.items)) same_actors
+      let sinks = same_sinks room other_room g texts how_long firings others r.outcome s.outcome may one_run other_run
+      (sym r.told.ending ∙ one) (sym s.told.ending ∙ two) in
+      let actors = same_actors room other_room g texts how_long firings others r.outcome s.outcome may one_run other_run in
+      r.told.sinks ∙ ap (sink_texts r.accepted.graph.actors) sinks
+      ∙ ap (λ (xs : List Actor). sink_texts xs (feeds_in s.outcome.sinks.items)) actors
       ∙ sym s.told.sinks
 
 pub same_in_any_room : (room : Room) (g : Graph) (texts : List (List ℕ)) (how_long : Length) (firings : Option ℕ) (t : Texts)

@@ -3,5 +3,8 @@ pub mod Hand
 pub mod Looking
 pub mod Requests
 pub mod Scripts
+pub mod Streaming
 pub mod Texts
+pub mod Tokens
+pub mod Totals
 pub mod Workers

@@ -1,12 +1,13 @@
 -- What a run is asked for.
-use Rattle.std.specs.Prelude.{◌≡◌, ◌*◌, ℕ, if◌then◌else◌, List, [], Option, Some, None, nat_lt, sum_by}
+use Rattle.std.specs.Prelude.{◌≡◌, ◌*◌, ℕ, Bool, if◌then◌else◌, List, [], Option, Some, None, nat_lt, sum_by}
 use Rattle.csdf_floor.specs.declared.fed.Fed.{Fed}
 use Rattle.csdf_floor.specs.Work.{Work, feeds_in}
 
--- what contracts see of a request: the work, and by how many workers
+-- what contracts see of a request: the work, by how many workers, and whether the journal is kept
 pub record RequestView : Type 0 where
   pub work : Work
   pub workers : ℕ
+  pub keeps : Bool
 
 -- the graph and the tokens of this work
 pub record IsFedOf (w : Work) (fed : Fed) : Type 0 where

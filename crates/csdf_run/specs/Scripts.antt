@@ -1,15 +1,12 @@
 -- The moves of a run as the table `script` of a graph file.
-use Rattle.std.specs.Prelude.{ℕ, ℤ, if◌then◌else◌, List, ◌∷◌, ◌++◌, Option, Some, None, codes, map}
+use Rattle.std.specs.Prelude.{ℕ, ℤ, if◌then◌else◌, List, ◌∷◌, ◌++◌, Option, Some, None, codes}
 use Rattle.std.specs.List.{flat_map}
 use Rattle.std.specs.Fmt.{signed_decimal}
-use Rattle.csdf_model.specs.Graph.{Actor, Graph}
+use Rattle.csdf_model.specs.Graph.{Graph}
 use Rattle.csdf_core.specs.Moves.{Move, Begin, Read, Write, Finish, Close}
 use Rattle.csdf_journal.specs.View.{JournalView}
-use Rattle.csdf_floor.specs.Report.{name_at, names_of}
-
--- the names of actors
-abbrev pub actor_names : List Actor → List (List ℕ)
-actor_names actors = map (λ (a : Actor). a.name) actors
+use Rattle.csdf_model.specs.Names.{actor_names, name_at}
+use Rattle.csdf_floor.specs.Report.{names_of}
 
 -- each token after a space
 abbrev pub spaced_tokens : List ℤ → List ℕ

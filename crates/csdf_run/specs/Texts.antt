@@ -59,6 +59,10 @@ abbrev pub GoesOnFor : Length → Accepted → ℕ → Type 0
 GoesOnFor (Periods n) a periods = periods ≡ n
 GoesOnFor UntilDry a periods = IsMostPeriods a periods
 
+-- a run of an accepted graph may go on so long: however many periods that is, there are some, and few firings in them
+abbrev pub MayGoOnOver : Length → Accepted → Type 0
+MayGoOnOver how_long a = (periods : ℕ) → GoesOnFor how_long a periods → (1 ≤ periods) × HasFewFirings a periods
+
 -- a run of the graph may go on so long
 abbrev pub MayGraphGoOn : Room → Graph → Length → Type 0
 MayGraphGoOn room g (Periods n) = (1 ≤ n) × ((a : Accepted) → IsInRoom room g a → HasFewFirings a n)

@@ -8,6 +8,7 @@ mod gave_up;
 mod hall;
 mod hand;
 mod hints;
+mod options;
 mod periods;
 mod policy;
 mod request;
@@ -15,14 +16,21 @@ mod run_end;
 mod run_floor;
 mod running;
 mod script;
+mod stream;
 mod texts;
+mod tokens;
 mod told;
+mod totals;
 mod watched;
 mod worker;
 
 pub use gate::{Gate, Open};
+pub use options::RunOptions;
 pub use running::run;
+pub use script::kept_script;
+pub use stream::{Part, Stream, Stretch};
 pub use texts::{
-    GraphRun, RunOptions, Texts, TextsFault, run_and_hand_back, run_graph_with, run_texts,
-    run_texts_with,
+    GraphRun, Texts, TextsFault, run_and_hand_back, run_graph_with, run_texts, run_texts_with,
 };
+pub use tokens::{FeedFault, TokensFault, TokensRun, run_tokens};
+pub use totals::ChannelTotal;

@@ -1,39 +1,45 @@
 //! What a run is asked for.
 
-ghost use Rattle.std.specs.Prelude.{◌≡◌, ◌≤◌, ◌*◌, All, IfErr, IfOk, length};
+ghost use Rattle.std.specs.Prelude.{◌≡◌, ◌≤◌, ◌*◌, ℕ, All, IfErr, IfOk, length};
 ghost use Rattle.csdf_journal.specs.View.{is_kept};
 ghost use Rattle.csdf_floor.specs.Work.{AreFeeds, HasFewFirings, feeds_in};
 ghost use Rattle.csdf_run.specs.Requests.{IsFedOf, firings_in, most_firings};
-ghost use Rattle.csdf_run.specs.Texts.{work_for};
+ghost use Rattle.csdf_run.specs.Texts.{GoesOnFor, MayGoOnOver, work_for};
 
 use crate::hints::Hints;
+use crate::options::RunOptions;
+use crate::periods::periods_of;
 use csdf_floor::{Fed, Floor};
-use csdf_journal::Keeping;
 use csdf_model::{MAX_ACTORS, MAX_FIRINGS_PER_ACTOR};
 use std::alloc::{AllocError, Global};
 use std::marker::Model;
 
-/// What a run is asked for: an accepted graph and the feeds of its sources, the number of workers and of
-/// periods, and the limit on all firings where there is one.
+/// What a run is asked for: an accepted graph and the feeds of its sources, and how it is run, which
+/// comes to so many periods.
 ///
-/// A contract sees the work and the number of workers apart, since no outcome depends on that.
+/// A contract sees the work apart from the number of workers and from whether the journal is kept, since
+/// no outcome depends on these.
 #[derive(Drop)]
 pub(crate) struct Request {
     fed: Fed,
-    workers: u32,
     periods: u32,
-    firings: Option<u32>,
+    options: RunOptions,
 }
 
 impl Model for Request {
     ghost use Rattle.std.specs.Prelude.{◌≤◌};
     ghost use Rattle.csdf_floor.specs.Work.{AreFeeds, HasFewFirings, feeds_in};
+    ghost use Rattle.csdf_journal.specs.View.{is_kept};
     ghost use Rattle.csdf_run.specs.Requests.{RequestView};
     ghost use Rattle.csdf_run.specs.Texts.{work_for};
 
     ghost Value = { RequestView };
 
-    ghost view = { λ r. record { work = work_for r.fed.accepted (feeds_in r.fed.feeds.items) r.periods r.firings; workers = r.workers } };
+    ghost view = { λ r. record {
+      work = work_for r.fed.accepted (feeds_in r.fed.feeds.items) r.periods r.options.firings;
+      workers = r.options.workers;
+      keeps = is_kept r.options.keeping;
+    } };
 
     ghost invariant = { λ r. AreFeeds r.fed.accepted.graph (feeds_in r.fed.feeds.items) × (1 ≤ r.periods)
         × HasFewFirings r.fed.accepted r.periods };
@@ -53,18 +59,19 @@ fn firings_in(periods: u32, q: &[u32]) -> u64
 }
 
 impl Request {
-    pub(crate) fn new(fed: Fed, workers: u32, periods: u32, firings: Option<u32>) -> Request
+    pub(crate) fn new(fed: Fed, options: RunOptions) -> Request
         requires fed { AreFeeds fed.accepted.graph (feeds_in fed.feeds.items) }
-        requires some_period { 1 ≤ periods }
-        requires few_firings { HasFewFirings fed.accepted periods }
-        ensures work { result.work ≡ work_for fed.accepted (feeds_in fed.feeds.items) periods firings }
-        ensures workers { result.workers ≡ workers }
+        requires goes_on { MayGoOnOver options.how_long fed.accepted }
+        ensures work { (periods : ℕ) × GoesOnFor options.how_long fed.accepted periods
+            × (result.work ≡ work_for fed.accepted (feeds_in fed.feeds.items) periods options.firings) }
+        ensures workers { result.workers ≡ options.workers }
+        ensures keeps { result.keeps ≡ is_kept options.keeping }
     {
+        let periods = periods_of(options.how_long, &fed.accepted);
         Request {
             fed,
-            workers,
             periods,
-            firings,
+            options,
         }
     }
 
@@ -80,7 +87,7 @@ impl Request {
     pub(crate) fn workers(&self) -> u32
         ensures { result ≡ self.now.workers }
     {
-        self.workers
+        self.options.workers
     }
 
     /// How many firings it makes at most.
@@ -88,7 +95,7 @@ impl Request {
         ensures { result ≡ most_firings self.now.work }
     {
         let all = firings_in(self.periods, self.fed.accepted.vector().q.as_slice());
-        match self.firings {
+        match self.options.firings {
             Some(most) if u64::from(most) < all => u64::from(most),
             _ => all,
         }
@@ -106,19 +113,18 @@ impl Request {
         self.fed
     }
 
-    /// A floor for it on which nothing has fired, with a journal that keeps its moves or does not. What is
-    /// run comes back where memory runs out.
-    pub(crate) fn into_floor(self, alloc: Global, keeping: Keeping) -> Result<Floor, Fed>
+    /// A floor for it on which nothing has fired, with a journal that keeps its moves where they are asked
+    /// for. What is run comes back where memory runs out.
+    pub(crate) fn into_floor(self, alloc: Global) -> Result<Floor, Fed>
         ensures work { IfOk result (λ floor. floor.work ≡ self.work) }
-        ensures keeps { IfOk result (λ floor. floor.keeps ≡ is_kept keeping) }
+        ensures keeps { IfOk result (λ floor. floor.keeps ≡ self.keeps) }
         ensures back { IfErr result (IsFedOf self.work) }
     {
         let Request {
             fed,
-            workers: _,
             periods,
-            firings,
+            options,
         } = self;
-        Floor::over(alloc, fed, periods, firings, keeping)
+        Floor::over(alloc, fed, periods, options.firings, options.keeping)
     }
 }

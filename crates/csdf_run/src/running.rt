@@ -2,11 +2,10 @@
 
 ghost use Rattle.std.specs.Prelude.{◌≡◌, ◌≢◌, ◌≤◌, ◌<◌, ◌-◌, ◌++◌, All, Err, IfErr, IfOk, IfSome, Ok, if◌then◌else◌, length, nat_lt, option_to_list, true, vec_capacity, vec_len};
 ghost use Rattle.csdf_floor.specs.declared.fault.RunFault.TheVariants.{Worker};
-ghost use Rattle.csdf_journal.specs.View.{is_kept};
 ghost use Rattle.csdf_floor.specs.Journal.{program_for};
 ghost use Rattle.csdf_floor.specs.Work.{AreFeeds, HasFewFirings, feeds_in};
 ghost use Rattle.csdf_floor.specs.Outcome.{HasHonestJournal, EndsSettled, TakesInOrder, StaysWithinCapacities, LeavesClosedAlone};
-ghost use Rattle.csdf_floor.specs.Outcome.{TellsSinks, TellsReport, TellsEnding, IsAsSequentialRun, IsAsInAnyRoom, CompletesWhereAmple, IsOutcome};
+ghost use Rattle.csdf_floor.specs.Outcome.{TellsSinks, TellsReport, TellsLeft, TellsEnding, IsAsSequentialRun, IsAsInAnyRoom, CompletesWhereAmple, IsOutcome};
 ghost use Rattle.csdf_run.specs.Causes.{IsCauseAmong};
 ghost use Rattle.csdf_run.specs.Requests.{IsFedOf, most_firings};
 ghost use Rattle.csdf_run.specs.Workers.{AnswersForAll, HoldsNothing, IsEndAt, TakesIn, both};
@@ -14,13 +13,14 @@ ghost use Rattle.csdf_run.specs.Workers.{AnswersForAll, HoldsNothing, IsEndAt, T
 use crate::gate::Gate;
 use crate::gave_up::GaveUp;
 use crate::hall::Hall;
+use crate::options::RunOptions;
 use crate::policy::Crew;
 use crate::request::Request;
 use crate::run_end::{EndCause, RunEnd, Unstarted};
 use crate::run_floor::{Asked, RunFloor};
 use crate::told::{Telling, Told};
 use crate::worker::{Ended, work};
-use csdf_analysis::Accepted;
+use csdf_analysis::{Accepted, Length, Room};
 use csdf_claims::{Board, Place};
 use csdf_floor::{Fed, Outcome, RunFault, Settled, settle_and_hand_back};
 use csdf_journal::Keeping;
@@ -281,13 +281,8 @@ fn run_hall<K: Asked + Send + Sync, R: Threads + Wait + Sync, G: Told>(
 }
 
 /// A hall for the run. What is run comes back where memory runs out.
-fn hall_of<K: Asked>(
-    alloc: Global,
-    request: Request,
-    keeping: Keeping,
-    crew: Crew,
-) -> Result<Hall<K>, Fed>
-    requires keeps { is_kept keeping ≡ K.keeps }
+fn hall_of<K: Asked>(alloc: Global, request: Request, crew: Crew) -> Result<Hall<K>, Fed>
+    requires keeps { request.keeps ≡ K.keeps }
     requires work { request.work ≡ K.work }
     ensures back { IfErr result (IsFedOf request.work) }
 {
@@ -295,7 +290,7 @@ fn hall_of<K: Asked>(
         Ok(hints) => hints,
         Err(_error) => return Err(request.into_fed()),
     };
-    match request.into_floor(alloc, keeping) {
+    match request.into_floor(alloc) {
         Ok(floor) => {
             let floor = RunFloor::new(floor);
             hints.look_at_all(floor.core());
@@ -311,15 +306,14 @@ fn outcome_as<K: Asked + Send + Sync, R: Threads + Wait + Sync, G: Told>(
     alloc: Global,
     request: Request,
     gate: &G,
-    keeping: Keeping,
 ) -> Settled
-    requires keeps { is_kept keeping ≡ K.keeps }
+    requires keeps { request.keeps ≡ K.keeps }
     requires work { request.work ≡ K.work }
     ensures fed { IsFedOf request.work result.fed }
     ensures outcome { IfOk result.outcome (IsOutcome request.work) }
     ensures cause { IfErr result.outcome (IsCauseAmong request.workers) }
     ensures most { IfOk result.outcome (λ _. G.knows_most gate.now (most_firings request.work)) }
-    ensures keeps { IfOk result.outcome (λ o. o.journal.keeps ≡ is_kept keeping) }
+    ensures keeps { IfOk result.outcome (λ o. o.journal.keeps ≡ request.keeps) }
 {
     let crew = Crew {
         workers: request.workers(),
@@ -327,7 +321,7 @@ fn outcome_as<K: Asked + Send + Sync, R: Threads + Wait + Sync, G: Told>(
     };
     let actors = request.actors();
     let most = request.most_firings();
-    let hall: Hall<K> = match hall_of(alloc, request, keeping, crew) {
+    let hall: Hall<K> = match hall_of(alloc, request, crew) {
         Ok(hall) => hall,
         Err(fed) => {
             return Settled {
@@ -346,21 +340,21 @@ fn outcome_as<K: Asked + Send + Sync, R: Threads + Wait + Sync, G: Told>(
     }
 }
 
-/// What [`run`] answers, with a journal that is kept or not, and what was run, which comes back.
+/// What [`run`] answers, with a journal that is kept where it is asked for, and what was run, which comes
+/// back.
 pub(crate) fn outcome_of<R: Threads + Wait + Sync, G: Gate>(
     rt: &R,
     alloc: Global,
     request: Request,
     gate: &G,
-    keeping: Keeping,
 ) -> Settled
     ensures fed { IsFedOf request.work result.fed }
     ensures outcome { IfOk result.outcome (IsOutcome request.work) }
     ensures cause { IfErr result.outcome (IsCauseAmong request.workers) }
-    ensures keeps { IfOk result.outcome (λ o. o.journal.keeps ≡ is_kept keeping) }
+    ensures keeps { IfOk result.outcome (λ o. o.journal.keeps ≡ request.keeps) }
 {
     let told = Telling { gate };
-    outcome_as::<Brand, R, Telling<'_, G>>(rt, alloc, request, &told, keeping)
+    outcome_as::<Brand, R, Telling<'_, G>>(rt, alloc, request, &told)
 }
 
 /// Runs so many periods of an accepted graph over these feeds by worker threads: each firing is computed
@@ -398,6 +392,7 @@ pub fn run<R: Threads + Wait + Sync, G: Gate>(
     ensures closing { IfOk result (LeavesClosedAlone (program_for accepted.now (feeds_in feeds.now) periods firings)) }
     ensures sinks { IfOk result (TellsSinks (program_for accepted.now (feeds_in feeds.now) periods firings)) }
     ensures report { IfOk result (TellsReport (program_for accepted.now (feeds_in feeds.now) periods firings)) }
+    ensures left { IfOk result (TellsLeft (program_for accepted.now (feeds_in feeds.now) periods firings)) }
     ensures ending { IfOk result (TellsEnding (program_for accepted.now (feeds_in feeds.now) periods firings)) }
     ensures sequential { IfOk result (IsAsSequentialRun (program_for accepted.now (feeds_in feeds.now) periods firings)) }
     ensures rooms { IfOk result (IsAsInAnyRoom (program_for accepted.now (feeds_in feeds.now) periods firings)) }
@@ -406,8 +401,15 @@ pub fn run<R: Threads + Wait + Sync, G: Gate>(
     ensures cause { IfErr result (IsCauseAmong workers) }
 {
     let fed = Fed::copied(alloc, accepted, feeds)?;
-    let request = Request::new(fed, workers, periods, firings);
-    let Settled { fed: _, outcome } = outcome_of(rt, alloc, request, gate, Keeping::Kept);
+    let options = RunOptions {
+        workers,
+        how_long: Length::Periods(periods),
+        firings,
+        room: Room::Least,
+        keeping: Keeping::Kept,
+    };
+    let request = Request::new(fed, options);
+    let Settled { fed: _, outcome } = outcome_of(rt, alloc, request, gate);
     let outcome = outcome?;
     Ok(outcome)
 }

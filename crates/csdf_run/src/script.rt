@@ -1,35 +1,13 @@
 //! The moves of a run as the table `script` of a graph file.
 
 ghost use Rattle.std.specs.Prelude.{◌≡◌, ◌++◌, codes, map, option_map, string_bytes, IfOk, OnOk};
-ghost use Rattle.csdf_model.specs.Graph.{actor_view, channel_view};
 ghost use Rattle.csdf_core.specs.Moves.{move_of};
-ghost use Rattle.csdf_floor.specs.Report.{name_at, names_of};
-ghost use Rattle.csdf_run.specs.Scripts.{actor_names, kept_script, move_entries, move_entry, move_text, script_text, spaced_tokens};
+ghost use Rattle.csdf_run.specs.Scripts.{kept_script, move_entries, move_entry, move_text, script_text, spaced_tokens};
 
 use csdf_core::Move;
 use csdf_journal::Journal;
-use csdf_model::{Actor, Channel, Graph};
+use csdf_model::{Graph, actor_name, channel_name};
 use std::alloc::{AllocError, Global};
-
-/// The actor's name.
-fn actor_name(actors: &[Actor], number: u32) -> &str
-    ensures { result.now ≡ name_at (actor_names (map actor_view actors.now)) number }
-{
-    match actors.get(number as usize) {
-        Some(actor) => actor.name.as_str(),
-        None => "",
-    }
-}
-
-/// The channel's name.
-fn channel_name(channels: &[Channel], number: u32) -> &str
-    ensures { result.now ≡ name_at (names_of (map channel_view channels.now)) number }
-{
-    match channels.get(number as usize) {
-        Some(channel) => channel.name.as_str(),
-        None => "",
-    }
-}
 
 /// Appends a verb, and the name of what it speaks of.
 fn push_words(text: &mut String, verb: &str, name: &str) -> Result<(), AllocError>
@@ -62,14 +40,26 @@ fn push_move(text: &mut String, graph: &Graph, next: &Move) -> Result<(), AllocE
     ensures { OnOk result (string_bytes text.new ≡ string_bytes text.old ++ move_text graph.now (move_of next.now)) }
 {
     match next {
-        Move::Begin(actor) => push_words(text, "begin ", actor_name(graph.actors(), *actor)),
-        Move::Read(actor) => push_words(text, "read ", actor_name(graph.actors(), *actor)),
-        Move::Write(actor, tokens) => push_write(text, actor_name(graph.actors(), *actor), tokens),
-        Move::Finish(actor) => push_words(text, "finish ", actor_name(graph.actors(), *actor)),
+        Move::Begin(actor) => push_words(
+            text,
+            "begin ",
+            actor_name(graph.actors(), *actor as usize),
+        ),
+        Move::Read(actor) => push_words(text, "read ", actor_name(graph.actors(), *actor as usize)),
+        Move::Write(actor, tokens) => push_write(
+            text,
+            actor_name(graph.actors(), *actor as usize),
+            tokens,
+        ),
+        Move::Finish(actor) => push_words(
+            text,
+            "finish ",
+            actor_name(graph.actors(), *actor as usize),
+        ),
         Move::Close(channel) => push_words(
             text,
             "close ",
-            channel_name(graph.channels(), *channel),
+            channel_name(graph.channels(), *channel as usize),
         ),
     }
 }
@@ -104,8 +94,11 @@ fn script_text(alloc: Global, graph: &Graph, moves: &[Move]) -> Result<String, A
     Ok(text)
 }
 
-/// The table `script` with the moves of a journal, where it keeps them.
-pub(crate) fn kept_script(
+/// The table `script` with the moves of a journal, where it keeps them, as a graph file has it: a line for
+/// each move, with the names of the graph.
+///
+/// The error is want of memory.
+pub fn kept_script(
     alloc: Global,
     graph: &Graph,
     journal: &Journal,

@@ -4,19 +4,18 @@ ghost use Rattle.std.specs.Prelude.{◌≡◌, ◌++◌, ◌∷◌, ◌≤◌, �
 ghost use Rattle.csdf_model.specs.Graph.{actor_view};
 ghost use Rattle.csdf_bytes.specs.TokenText.{token_line, token_text};
 ghost use Rattle.csdf_analysis.specs.Room.{HasSomePeriod};
-ghost use Rattle.csdf_core.specs.Planned.{is_source_kernel};
 ghost use Rattle.csdf_run.specs.Texts.{AreTextsOf, IsFeedFault, IsGraphRefusal, IsHandedBack, IsReadFault, IsRefusal, IsRunCause, MayGoOn, MayGraphGoOn, TellOutcome};
 ghost use Rattle.csdf_run.specs.Texts.{TellGraphRun, TellGraphSameInAnyRoom, TellRun, TellSameInAnyRoom, TellSequentialGraphRun, TellSequentialRun};
 ghost use Rattle.csdf_run.specs.Texts.{feed_in, feeds_from, sink_texts, source_count, texts_in, work_for};
 ghost use Rattle.csdf_floor.specs.declared.outcome.Outcome.{Outcome as OutcomeCode};
 ghost use Rattle.csdf_floor.specs.Report.{names_of, report_text};
 ghost use Rattle.csdf_floor.specs.Outcome.{IsOutcome};
-ghost use Rattle.csdf_floor.specs.Work.{AreFeeds, Work, feeds_in, is_sink_kernel};
+ghost use Rattle.csdf_floor.specs.Work.{AreFeeds, Work, feeds_in};
 ghost use Rattle.csdf_journal.specs.View.{is_kept};
 ghost use Rattle.csdf_run.specs.Scripts.{kept_script};
 
 use crate::gate::{Gate, Open};
-use crate::periods::periods_of;
+use crate::options::RunOptions;
 use crate::request::Request;
 use crate::running::outcome_of;
 use crate::script::kept_script;
@@ -25,7 +24,7 @@ use csdf_bytes::{Slice, TokenFault, read_tokens};
 use csdf_floor::{ChannelReport, Ending, Fed, Outcome, RunFault, Settled, printed_report};
 use csdf_graph::{GraphFault, read_graph};
 use csdf_journal::Keeping;
-use csdf_model::{Actor, Graph, Kernel, MAX_ACTORS};
+use csdf_model::{Actor, Graph, MAX_ACTORS};
 use std::alloc::{AllocError, Global};
 use std::sync::Wait;
 use std::thread::Threads;
@@ -43,21 +42,6 @@ pub struct Texts {
     pub channels: Vec<ChannelReport>,
     /// The run's moves as the table `script` of a graph file, where they were asked for.
     pub journal: Option<Vec<u8>>,
-}
-
-/// How texts are run.
-#[derive(Clone, Copy, Debug)]
-pub struct RunOptions {
-    /// How many workers make firings.
-    pub workers: u32,
-    /// How long the run goes on.
-    pub how_long: Length,
-    /// The most firings of all actors together; no limit where it is absent.
-    pub firings: Option<u32>,
-    /// The room of the channels that have no capacity in the file.
-    pub room: Room,
-    /// Whether the run's moves are told.
-    pub keeping: Keeping,
 }
 
 /// Why texts make no run: the first that applies.
@@ -87,18 +71,6 @@ pub struct GraphRun {
     pub texts: Result<Texts, TextsFault>,
 }
 
-fn is_source(actor: &Actor) -> bool
-    ensures { result ≡ is_source_kernel (actor_view actor.now).kernel }
-{
-    matches!(actor.kernel, Kernel::Source)
-}
-
-fn is_sink(actor: &Actor) -> bool
-    ensures { result ≡ is_sink_kernel (actor_view actor.now).kernel }
-{
-    matches!(actor.kernel, Kernel::Sink)
-}
-
 /// How many sources there are.
 fn source_count(actors: &[Actor]) -> usize
     requires { length actors.now ≤ MAX_ACTORS }
@@ -106,7 +78,7 @@ fn source_count(actors: &[Actor]) -> usize
 {
     let mut count = 0;
     for actor in actors {
-        if is_source(actor) {
+        if actor.kernel.is_source() {
             count += 1;
         }
     }
@@ -154,7 +126,7 @@ fn feeds_of(alloc: Global, actors: &[Actor], texts: &[Vec<u8>]) -> Result<Vec<Ve
     let mut feeds = Vec::new(alloc);
     let mut next = 0;
     for (number, actor) in actors.iter().enumerate() {
-        if is_source(actor) {
+        if actor.kernel.is_source() {
             let feed = feed_of(alloc, number as u32, text_at(texts, next))?;
             push_feed(&mut feeds, number as u32, feed)?;
             next += 1;
@@ -253,7 +225,7 @@ fn sink_texts(
 {
     let mut texts = Vec::new(alloc);
     for (number, actor) in actors.iter().enumerate() {
-        if is_sink(actor) {
+        if actor.kernel.is_sink() {
             texts.push(text_of(alloc, list_at(lists, number))?)?;
         }
     }
@@ -435,7 +407,6 @@ pub fn run_and_hand_back<R: Threads + Wait + Sync, G: Gate>(
     ensures refused { IfErr result.texts (IsGraphRefusal options.room graph (texts_in feeds.now)) }
     ensures cause { IfErr result.texts (IsRunCause options.workers) }
 {
-    let (workers, firings) = (options.workers, options.firings);
     let fed = match fed_of(alloc, graph, feeds, options.room) {
         Ok(fed) => fed,
         Err(unfed) => {
@@ -445,9 +416,8 @@ pub fn run_and_hand_back<R: Threads + Wait + Sync, G: Gate>(
             };
         }
     };
-    let periods = periods_of(options.how_long, &fed.accepted);
-    let request = Request::new(fed, workers, periods, firings);
-    let Settled { fed, outcome } = outcome_of(rt, alloc, request, gate, options.keeping);
+    let request = Request::new(fed, options);
+    let Settled { fed, outcome } = outcome_of(rt, alloc, request, gate);
     let texts = told_of(alloc, fed.accepted.graph(), outcome);
     GraphRun {
         graph: fed.accepted.into_graph(),

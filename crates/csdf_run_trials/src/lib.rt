@@ -34,4 +34,6 @@ mod run_tests;
 #[cfg(test)]
 mod shared;
 #[cfg(test)]
+mod stream_tests;
+#[cfg(test)]
 mod text_tests;

@@ -44,6 +44,7 @@ fn moves_of(outcome: Outcome) -> Vec<Move> {
         sinks: _,
         journal,
         report: _,
+        left: _,
     } = outcome;
     journal.into_moves()
 }

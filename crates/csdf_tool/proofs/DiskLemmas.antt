@@ -13,7 +13,7 @@ use Rattle.csdf_tool.specs.Acts.{Act, Asks, IsRead, OnlyReads, Read}
 use Rattle.csdf_tool.specs.GraphFiles.{graph_reads, is_input}
 use Rattle.csdf_answers.specs.declared.fault.ToolFault.{ToolFault}
 use Rattle.csdf_answers.specs.declared.fault.ToolFault.TheVariants.{Memory}
-use Rattle.csdf_tool.specs.Running.{IsFeedMissing, IsReadAfter, LacksFeed, feed_paths, feed_reads, in_file, read_whole, run_reads}
+use Rattle.csdf_tool.specs.Running.{IsFeedMissing, LacksFeed, feed_paths, feed_reads, in_file, read_whole, run_reads}
 use Rattle.csdf_words.specs.CommandLine.{Order}
 
 pub asks_none : (before : Option (List Act)) → Asks before before []
@@ -165,15 +165,3 @@ module _ (before now next : Option (List Act)) (folder : List ℕ) (actors : Lis
           told = h.told;
         },
       )
-
-  pub actor_next : (more : List (List ℕ)) → IsReadAfter folder actor now next texts more → IsReadTo before next folder actors (place + 1) more
-  actor_next more h = by (is_source_kernel actor.kernel) refl
-    where
-      by : (b : Bool) → is_source_kernel actor.kernel ≡ b → IsReadTo before next folder actors (place + 1) more
-      by true is =
-          let read = h.source is in
-          subst (IsReadTo before next folder actors (place + 1)) (sym read.1) (read_next read.0 is read.2)
-      by false is =
-          let same = h.other is in
-          subst (IsReadTo before next folder actors (place + 1)) (sym same.0)
-          (subst (λ (o : Option (List Act)). IsReadTo before o folder actors (place + 1) texts) (sym same.1) (skip_next is))

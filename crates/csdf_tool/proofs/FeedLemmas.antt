@@ -15,14 +15,15 @@ use Rattle.csdf_analysis.specs.declared.room.Room.{Room}
 use Rattle.csdf_core.specs.Planned.{is_source_kernel}
 use Rattle.csdf_floor.specs.declared.fault.RunFault.{RunFault}
 use Rattle.csdf_floor.specs.declared.fault.RunFault.TheVariants as run
-use Rattle.csdf_run.specs.declared.texts.TextsFault.{TextsFault}
-use Rattle.csdf_run.specs.declared.texts.TextsFault.TheVariants as texts
-use Rattle.csdf_run.specs.Texts.{◌>>=◌, IsGraphRefusal, feed_in, feeds_from}
+use Rattle.csdf_run.specs.declared.tokens.TokensFault.{TokensFault}
+use Rattle.csdf_run.specs.declared.tokens.TokensFault.TheVariants as tokens
+use Rattle.csdf_run.specs.Texts.{◌>>=◌, feed_in, feeds_from}
+use Rattle.csdf_run.specs.Tokens.{IsTokensRefusal}
 use Rattle.csdf_answers.specs.Faults.{accept_fault}
 use Rattle.csdf_answers.specs.declared.fault.Stream.{Stream}
 use Rattle.csdf_answers.specs.declared.fault.ToolFault.{ToolFault}
 use Rattle.csdf_answers.specs.declared.fault.ToolFault.TheVariants.{Device}
-use Rattle.csdf_tool.specs.Running.{RefusesGraphRun, run_fault, texts_fault}
+use Rattle.csdf_tool.specs.Running.{RefusesGraphRun, run_fault, token_fault, tokens_fault}
 
 -- ---- one text
 
@@ -124,20 +125,17 @@ run_no_stream run.Memory s e = cc
 run_no_stream run.Mixed s e = cc
 run_no_stream run.Worker s e = cc
 
-read_refuted : (actors : List Actor) (ts : List (List ℕ)) (n : ℕ) → feeds_from 0 actors ts ≡ Err (n, token.Read) → ⊥
-read_refuted actors ts n e = subst FailsByFeed e (feeds_by_text 0 actors ts)
+token_no_stream : (name : List ℕ) (why : TokenFault) → IsOfText why → (s : Stream) → token_fault name why ≢ Device s
+token_no_stream name (token.Syntax line) is s e = cc
+token_no_stream name (token.Range line) is s e = cc
+token_no_stream name token.TooMany is s e = cc
+token_no_stream name token.Read is s e = absurd is
+token_no_stream name token.Memory is s e = absurd is
 
-no_stream_by : (room : Room) (g : Graph) (ts : List (List ℕ)) (why : TextsFault) → IsGraphRefusal room g ts why → (s : Stream) → texts_fault g why ≢ Device s
-no_stream_by room g ts (texts.Graph why) is s = absurd is
-no_stream_by room g ts (texts.Accept why) is s = accept_no_stream _ why s
-no_stream_by room g ts texts.FeedCount is s = λ e. cc
-no_stream_by room g ts (texts.Feed n (token.Syntax line)) is s = λ e. cc
-no_stream_by room g ts (texts.Feed n (token.Range line)) is s = λ e. cc
-no_stream_by room g ts (texts.Feed n token.TooMany) is s = λ e. cc
-no_stream_by room g ts (texts.Feed n token.Read) is s = λ e.
-    absurd (read_refuted is.0.graph.actors ts n (is.2.1 (λ m. let no : token.Read ≡ token.Memory = m in cc)))
-no_stream_by room g ts (texts.Feed n token.Memory) is s = λ e. cc
-no_stream_by room g ts (texts.Run why) is s = run_no_stream why s
+no_stream_by : (room : Room) (g : Graph) (ts : List (List ℕ)) (why : TokensFault) → IsTokensRefusal room g ts why → (s : Stream) → tokens_fault g why ≢ Device s
+no_stream_by room g ts (tokens.Accept why) is s = accept_no_stream _ why s
+no_stream_by room g ts (tokens.Feed feed) is s = token_no_stream _ feed.fault (subst FailsByFeed is.1 (feeds_by_text 0 g.actors ts)) s
+no_stream_by room g ts (tokens.Run why) is s = run_no_stream why s
 
 -- the fault of texts that make no run is of no stream
 pub no_stream : (room : Room) (g : Graph) (ts : List (List ℕ)) (f : ToolFault) → RefusesGraphRun room g ts f → (s : Stream) → f ≢ Device s

@@ -9,4 +9,5 @@ pub mod InputExamples
 pub mod PutLemmas
 pub mod ReportLemmas
 pub mod RunLemmas
+pub mod TokenLemmas
 pub mod UseLemmas

@@ -1,16 +1,15 @@
 -- The files of a run, and the faults that are told of them.
 use Rattle.std.proofs.Common.{◌≡◌, ◌≢◌, ℕ, suc, zero, ◌+◌, ◌<◌, Bool, true, false, cond, List, [], ◌∷◌, ◌++◌, length, map, take, drop, get_or, refl, ap, sym}
 use Rattle.std.proofs.Common.{subst, ◌∙◌, arith, append_assoc, inl, inr, Ok, Err, Option, Some, None, Bor, option_map}
-use Rattle.std.specs.Prelude.{◌⊎◌, IfErr, IfOk, IsErrAnd, OnErr, OnOk, Result, is_some}
-use Rattle.std.proofs.lemmas.List.{get_or-drop, map-append, take_more}
-use Rattle.std.specs.Global.{Vec}
+use Rattle.std.specs.Prelude.{ℤ, ◌⊎◌, IfErr, IfOk, IsErrAnd, OnErr, OnOk, Result, codes, is_some}
+use Rattle.std.proofs.lemmas.List.{map-append, take_more}
 use Rattle.csdf_model.specs.Graph.{Actor, Channel, Graph}
 use Rattle.csdf_graph.specs.GraphText.{IsGraphOf}
 use Rattle.csdf_graph.specs.declared.fault.GraphFault.{GraphFault}
 use Rattle.csdf_graph.specs.declared.fault.GraphFault.TheVariants as graph
 use Rattle.csdf_bytes.specs.declared.intake.InputFault.{InputFault}
 use Rattle.csdf_bytes.specs.declared.intake.InputFault.TheVariants as input
-use Rattle.csdf_floor.specs.Work.{is_sink_kernel}
+use Rattle.csdf_floor.specs.Work.{feeds_in, is_sink_kernel}
 use Rattle.csdf_answers.specs.declared.fault.ToolFault.{ToolFault}
 use Rattle.csdf_answers.specs.declared.fault.ToolFault.TheVariants as fault
 use Rattle.csdf_answers.specs.declared.fault.Stream.TheVariants.{Output, File}
@@ -20,10 +19,15 @@ use Rattle.csdf_analysis.specs.Room.{IsWithRoom, channel_with_room, with_room}
 use Rattle.csdf_floor.proofs.Works.{few_in_thousand}
 use Rattle.csdf_analysis.specs.declared.length.Length.{Length}
 use Rattle.csdf_analysis.specs.declared.length.Length.TheVariants as lengths
-use Rattle.csdf_run.specs.declared.texts.TextsFault.{TextsFault}
-use Rattle.csdf_run.specs.declared.texts.TextsFault.TheVariants as texts
-use Rattle.csdf_run.specs.declared.texts.Texts.{Texts}
-use Rattle.csdf_run.specs.Texts.{IsGraphRefusal, IsHandedBack, IsRefusal, MayGraphGoOn, TellGraphRun, TellSequentialGraphRun, texts_in}
+use Rattle.csdf_core.specs.Moves.{Move, Begin, Read as Take, Write as Give, Finish, Close}
+use Rattle.csdf_floor.specs.declared.outcome.Outcome.{Outcome}
+use Rattle.csdf_floor.specs.Report.{report_text}
+use Rattle.csdf_journal.specs.View.{JournalView}
+use Rattle.csdf_run.specs.declared.tokens.TokensFault.{TokensFault}
+use Rattle.csdf_run.specs.declared.tokens.TokensFault.TheVariants as tokens
+use Rattle.csdf_run.specs.Scripts.{kept_script, move_entries, move_entry, spaced_tokens}
+use Rattle.csdf_run.specs.Texts.{IsHandedBack, MayGraphGoOn, text_at}
+use Rattle.csdf_run.specs.Tokens.{IsGraphRun, IsSequentialGraphRun}
 use Rattle.csdf_words.specs.CommandLine.{Order}
 use Rattle.csdf_words.specs.HowLong.{MayBeAsked}
 use Rattle.csdf_tool.specs.GraphFiles.{IsNamed}
@@ -37,7 +41,7 @@ use Rattle.csdf_tool.specs.Acts.{Act, Asks, Marks, OnlyReads, devices}
 use Rattle.csdf_tool.specs.Reports.{TellsReport, report_object}
 use Rattle.csdf_tool.specs.Running.{AreNamedAlike, EndsBeforeFiles, EndsOnFiles, IsCutShort, IsKeptFrom, IsUnput, LacksFeed, RefusesGraphRun, RefusesRun, RunsOn, StopsOnPlaces, StopsOnTexts, StopsRun, Written}
 use Rattle.csdf_tool.specs.GraphFiles.{graph_reads}
-use Rattle.csdf_tool.specs.Running.{feed_fault, feed_paths, feed_reads, files_of, journal_files, out_file, put_fault, put_whole, run_asks, run_reads, sink_files, texts_fault, token_fault}
+use Rattle.csdf_tool.specs.Running.{feed_fault, feed_paths, feed_reads, files_of, journal_files, out_file, put_fault, put_whole, run_asks, run_reads, sink_files_from, tokens_fault, token_fault}
 use Rattle.csdf_tool.specs.declared.run_files.Ran.{Ran}
 use Rattle.csdf_tool.specs.declared.put_fault.PutFault.{PutFault}
 use Rattle.csdf_tool.specs.declared.put_fault.PutFault.TheVariants as put
@@ -87,21 +91,39 @@ handed_back room g h (inl same) = same_alike g h same
 handed_back room g h (inr roomy) = alike_with room roomy.0.q g h (subst (λ (x : Graph). IsWithRoom room roomy.0.q g x) (sym roomy.2) roomy.1.roomy)
 
 -- what is told of a run is told by names alone
-pub fault_alike : (g h : Graph) (why : TextsFault) → AreNamedAlike g h → texts_fault h why ≡ texts_fault g why
-fault_alike g h (texts.Graph why) alike = refl
-fault_alike g h (texts.Accept why) alike = ap (λ names. accept_fault names why) alike.names
-fault_alike g h texts.FeedCount alike = refl
-fault_alike g h (texts.Feed a why) alike = ap (λ (actors : List Actor). token_fault (name_at (actor_names actors) a) why) alike.actors
-fault_alike g h (texts.Run why) alike = refl
+pub fault_alike : (g h : Graph) (why : TokensFault) → AreNamedAlike g h → tokens_fault h why ≡ tokens_fault g why
+fault_alike g h (tokens.Accept why) alike = ap (λ names. accept_fault names why) alike.names
+fault_alike g h (tokens.Feed feed) alike =
+    ap (λ (actors : List Actor). token_fault (name_at (actor_names actors) feed.actor) feed.fault) alike.actors
+fault_alike g h (tokens.Run why) alike = refl
 
-pub files_alike : (order : Order) (g h : Graph) (t : Texts) → AreNamedAlike g h → files_of order h t ≡ files_of order g t
-files_alike order g h t alike = ap (λ (actors : List Actor). sink_files order.sink_folder actors (texts_in t.sinks.items)
-    ++ journal_files order.journal (option_map (λ (text : Vec ℕ). text.items) t.journal)) alike.actors
+move_alike : (g h : Graph) (m : Move) → AreNamedAlike g h → move_entry h m ≡ move_entry g m
+move_alike g h (Begin a) alike = ap (λ (xs : List Actor). codes "  \"" ++ (codes "begin " ++ name_at (actor_names xs) a) ++ codes "\",\n") alike.actors
+move_alike g h (Take a) alike = ap (λ (xs : List Actor). codes "  \"" ++ (codes "read " ++ name_at (actor_names xs) a) ++ codes "\",\n") alike.actors
+move_alike g h (Give a v) alike =
+    ap (λ (xs : List Actor). codes "  \"" ++ (codes "write " ++ name_at (actor_names xs) a ++ spaced_tokens v) ++ codes "\",\n") alike.actors
+move_alike g h (Finish a) alike = ap (λ (xs : List Actor). codes "  \"" ++ (codes "finish " ++ name_at (actor_names xs) a) ++ codes "\",\n") alike.actors
+move_alike g h (Close c) alike = ap (λ names. codes "  \"" ++ (codes "close " ++ name_at names c) ++ codes "\",\n") alike.names
 
-pub report_alike : (form : Form) (g h : Graph) (t : Texts) (text : List ℕ) → AreNamedAlike g h → TellsReport form h t text → TellsReport form g t text
-report_alike forms.Text g h t text alike told = told
-report_alike forms.Json g h t text alike told =
-    subst (λ names. IsLineOf (report_object names t.ending t.channels.items) text) alike.names told
+moves_alike : (g h : Graph) (moves : List Move) → AreNamedAlike g h → move_entries h moves ≡ move_entries g moves
+moves_alike g h [] alike = refl
+moves_alike g h (m ∷ moves) alike =
+    ap (λ (text : List ℕ). text ++ move_entries h moves) (move_alike g h m alike) ∙ ap (λ text. move_entry g m ++ text) (moves_alike g h moves alike)
+
+-- and so are its moves
+script_alike : (g h : Graph) (j : JournalView) → AreNamedAlike g h → kept_script h j ≡ kept_script g j
+script_alike g h j alike = ap (λ text. cond j.keeps (Some (codes "[script]\nmoves = [\n" ++ text ++ codes "]\n")) None) (moves_alike g h j.moves alike)
+
+pub files_alike : (order : Order) (g h : Graph) (o : Outcome) → AreNamedAlike g h → files_of order h o ≡ files_of order g o
+files_alike order g h o alike =
+    ap (λ (actors : List Actor). sink_files_from 0 order.sink_folder actors (feeds_in o.sinks.items) ++ journal_files order.journal (kept_script h o.journal))
+    alike.actors
+    ∙ ap (λ text. sink_files_from 0 order.sink_folder g.actors (feeds_in o.sinks.items) ++ journal_files order.journal text) (script_alike g h o.journal alike)
+
+pub report_alike : (form : Form) (g h : Graph) (o : Outcome) (text : List ℕ) → AreNamedAlike g h → TellsReport form h o text → TellsReport form g o text
+report_alike forms.Text g h o text alike told = told ∙ ap (λ names. report_text names o.ending o.report.items) alike.names
+report_alike forms.Json g h o text alike told =
+    subst (λ names. IsLineOf (report_object names o.ending o.report.items) text) alike.names told
 
 -- ---- sinks
 
@@ -134,36 +156,26 @@ files_cut before now next files i file fault lt at so_far cut = (
   record { many = i; last = cut.0; acts_are = refl; cut = inr (file, lt, at, cut.2) },
 )
 
-drop_one : {A : Type 0} (n : ℕ) (xs : List A) → drop 1 (drop n xs) ≡ drop (suc n) xs
-drop_one zero xs = refl
-drop_one (suc n) [] = refl
-drop_one (suc n) (x ∷ xs) = drop_one n xs
+module _ (folder : List ℕ) (a : ℕ) (actor : Actor) (actors : List Actor) (lists : List (List ℤ)) (front total : List Written) where
+  abbrev file_of : Written
+  file_of = record { folder = folder; name = out_file actor.name; text = text_at lists a }
 
-module _ (folder : List ℕ) (n : ℕ) (actor : Actor) (actors : List Actor) (texts : List (List ℕ)) (front total : List Written) where
-  abbrev file_of : List ℕ → Written
-  file_of text = record { folder = folder; name = out_file actor.name; text = text }
+  abbrev rest : ℕ → List Written
+  rest k = sink_files_from k folder actors lists
 
-  abbrev of_sink : List Written
-  of_sink = file_of (get_or (drop n texts) 0 []) ∷ sink_files folder actors (drop 1 (drop n texts))
+  later : rest (suc a) ≡ rest (a + 1)
+  later = ap rest (let e : suc a ≡ a + 1 = omega arith in e)
 
-  here : get_or (drop n texts) 0 [] ≡ get_or texts n []
-  here = get_or-drop n texts 0 [] ∙ ap (λ k. get_or texts k []) (let e : n + 0 ≡ n = omega arith in e)
-
-  later : drop 1 (drop n texts) ≡ drop (n + 1) texts
-  later = drop_one n texts ∙ ap (λ k. drop k texts) (let e : suc n ≡ n + 1 = omega arith in e)
-
-  pub sink_next : is_sink_kernel actor.kernel ≡ true → front ++ sink_files folder (actor ∷ actors) (drop n texts) ≡ total
-      → (front ++ file_of (get_or texts n []) ∷ []) ++ sink_files folder actors (drop (n + 1) texts) ≡ total
+  pub sink_next : is_sink_kernel actor.kernel ≡ true → front ++ sink_files_from a folder (actor ∷ actors) lists ≡ total → (front ++ file_of ∷ []) ++ rest (a + 1) ≡ total
   sink_next is so_far =
-      append_assoc front (file_of (get_or texts n []) ∷ []) (sink_files folder actors (drop (n + 1) texts))
-      ∙ ap (λ ts. front ++ file_of (get_or texts n []) ∷ sink_files folder actors ts) (sym later)
-      ∙ ap (λ text. front ++ file_of text ∷ sink_files folder actors (drop 1 (drop n texts))) (sym here)
-      ∙ ap (λ b. front ++ cond b of_sink (sink_files folder actors (drop n texts))) (sym is)
+      append_assoc front (file_of ∷ []) (rest (a + 1))
+      ∙ ap (λ files. front ++ file_of ∷ files) (sym later)
+      ∙ ap (λ b. front ++ cond b (file_of ∷ rest (suc a)) (rest (suc a))) (sym is)
       ∙ so_far
 
-  pub other_next : is_sink_kernel actor.kernel ≡ false → front ++ sink_files folder (actor ∷ actors) (drop n texts) ≡ total
-      → front ++ sink_files folder actors (drop n texts) ≡ total
-  other_next is so_far = ap (λ b. front ++ cond b of_sink (sink_files folder actors (drop n texts))) (sym is) ∙ so_far
+  pub other_next : is_sink_kernel actor.kernel ≡ false → front ++ sink_files_from a folder (actor ∷ actors) lists ≡ total → front ++ rest (a + 1) ≡ total
+  other_next is so_far =
+      ap (λ files. front ++ files) (sym later) ∙ ap (λ b. front ++ cond b (file_of ∷ rest (suc a)) (rest (suc a))) (sym is) ∙ so_far
 
 -- ---- faults
 
@@ -224,17 +236,9 @@ texts_end room g feeds f refuses = by (memory_or_not f)
 -- ---- why a run ends before its files are put
 
 -- why there is no run of a graph, there is none of its file
-refuses_file : (room : Room) (bytes : List ℕ) (g : Graph) (feeds : List (List ℕ)) (why : TextsFault) → IsGraphOf bytes (Ok g) → IsGraphRefusal room g feeds why
-    → IsRefusal room bytes feeds why
-refuses_file room bytes g feeds (texts.Graph why) read is = absurd is
-refuses_file room bytes g feeds (texts.Accept why) read is = record { graph = g; read = read; holds = is }
-refuses_file room bytes g feeds texts.FeedCount read is = record { graph = g; read = read; holds = is }
-refuses_file room bytes g feeds (texts.Feed n why) read is = record { graph = g; read = read; holds = is }
-refuses_file room bytes g feeds (texts.Run why) read is = record { graph = g; read = read; holds = is }
-
 refuses_run : (room : Room) (bytes : List ℕ) (g : Graph) (feeds : List (List ℕ)) (f : ToolFault) → IsGraphOf bytes (Ok g) → RefusesGraphRun room g feeds f
     → RefusesRun room g bytes feeds f
-refuses_run room bytes g feeds f read refuses = (refuses.0, refuses_file room bytes g feeds refuses.0 read refuses.1, refuses.2)
+refuses_run room bytes g feeds f read refuses = (refuses.0, record { graph = g; read = read; holds = refuses.1 }, refuses.2)
 
 graph_memory : (why : GraphFault) → (why ≡ graph.Memory) ⊎ (why ≢ graph.Memory)
 graph_memory graph.NotToml = inr (λ e. cc)
@@ -375,11 +379,11 @@ both_errs (Err f) P Q p q = (p, q)
 -- the run of a graph is that of its file
 pub ran_of_file : (order : Order) (left : Option (List ℕ)) (g : Graph) (bytes : List ℕ) (feeds : List (List ℕ)) (a b c : Option (List Act)) (keeps : Bool)
     (r : Result Ran ToolFault) → IsNamed order.graph left bytes → IsGraphOf bytes (Ok g) → Asks a b (run_reads order g bytes feeds) → is_some order.journal ≡ keeps
-    → IfOk r (λ ran. TellGraphRun order.room g feeds order.how_long order.firings ran.texts)
-    → IfOk r (λ ran. TellSequentialGraphRun order.room g feeds order.how_long order.firings ran.texts) → IfOk r (λ ran. is_some ran.texts.journal ≡ keeps)
+    → IfOk r (λ ran. IsGraphRun order.room g feeds order.how_long order.firings ran.outcome)
+    → IfOk r (λ ran. IsSequentialGraphRun order.room g feeds order.how_long order.firings ran.outcome) → IfOk r (λ ran. ran.outcome.journal.keeps ≡ keeps)
     → IfOk r (λ ran. AreNamedAlike g ran.graph)
     → OnOk r ((looks : List Act) × Asks b c looks × Apart (listed_files order g.actors) looks)
-    → IfOk r (λ ran. (h : Graph) × (bs : List ℕ) × (fs : List (List ℕ)) × RunsOn order left h bs fs ran.texts × AreNamedAlike h ran.graph
+    → IfOk r (λ ran. (h : Graph) × (bs : List ℕ) × (fs : List (List ℕ)) × RunsOn order left h bs fs ran.outcome × AreNamedAlike h ran.graph
     × (looks : List Act) × Apart (listed_files order h.actors) looks × Asks a c (run_asks order h bs fs looks))
 ran_of_file order left g bytes feeds a b c keeps (Ok ran) named read asked word told sequential kept alike apart = (
   g,
@@ -408,12 +412,12 @@ only_asks a b order g bytes feeds looks apart asked =
     (run_asks order g bytes feeds looks, both_read (run_reads order g bytes feeds) looks (run_read order g bytes feeds) (apart_reads apart.1), asked)
 
 -- the files were put after all was read
-pub puts_alike : (a b c : Option (List Act)) (order : Order) (g h : Graph) (bytes : List ℕ) (feeds : List (List ℕ)) (looks : List Act) (t : Texts)
-    → AreNamedAlike g h → Asks a b (run_asks order g bytes feeds looks) → Asks b c (map put_whole (files_of order h t))
-    → Asks a c (run_asks order g bytes feeds looks ++ map put_whole (files_of order g t))
-puts_alike a b c order g h bytes feeds looks t alike read put =
-    asks_more a b c (run_asks order g bytes feeds looks) (map put_whole (files_of order g t)) read
-    (subst (λ (files : List Written). Asks b c (map put_whole files)) (files_alike order g h t alike) put)
+pub puts_alike : (a b c : Option (List Act)) (order : Order) (g h : Graph) (bytes : List ℕ) (feeds : List (List ℕ)) (looks : List Act) (o : Outcome)
+    → AreNamedAlike g h → Asks a b (run_asks order g bytes feeds looks) → Asks b c (map put_whole (files_of order h o))
+    → Asks a c (run_asks order g bytes feeds looks ++ map put_whole (files_of order g o))
+puts_alike a b c order g h bytes feeds looks o alike read put =
+    asks_more a b c (run_asks order g bytes feeds looks) (map put_whole (files_of order g o)) read
+    (subst (λ (files : List Written). Asks b c (map put_whole files)) (files_alike order g h o alike) put)
 
 -- memory ran out before a file was put
 pub ends_for_memory : (r : Result (Unit {0}) ToolFault) (order : Order) (left : Option (List ℕ)) (a b : Option (List Act)) (m : Marks)

@@ -1,5 +1,6 @@
 pub mod Acts
 pub mod Carried
+pub mod Contents
 pub mod Ends
 pub mod Explaining
 pub mod GraphFiles

@@ -6,8 +6,8 @@ use Rattle.csdf_json.specs.Lines.{IsLineOf, flag_member, items_by, list_member, 
 use Rattle.csdf_model.specs.Graph.{Graph}
 use Rattle.csdf_floor.specs.declared.ending.Ending.{Ending}
 use Rattle.csdf_floor.specs.declared.outcome.ChannelReport.{ChannelReport}
-use Rattle.csdf_floor.specs.Report.{ending_word, name_at, names_of}
-use Rattle.csdf_run.specs.declared.texts.Texts.{Texts}
+use Rattle.csdf_floor.specs.declared.outcome.Outcome.{Outcome}
+use Rattle.csdf_floor.specs.Report.{ending_word, name_at, names_of, report_text}
 use Rattle.csdf_answers.specs.declared.question.Form.{Form}
 use Rattle.csdf_answers.specs.declared.question.Form.TheVariants as form
 
@@ -28,6 +28,6 @@ report_object names ending reports =
     object (text_member (codes "ending") (ending_word ending) (list_member (codes "channels") (channel_items names (enumerate_from 0 reports)) no_members))
 
 -- a text is the report of a run of the graph in a form: the printed one, or the line of its object
-abbrev pub TellsReport : Form → Graph → Texts → List ℕ → Type 0
-TellsReport form.Text g t text = text ≡ t.report.items
-TellsReport form.Json g t text = IsLineOf (report_object (names_of g.channels) t.ending t.channels.items) text
+abbrev pub TellsReport : Form → Graph → Outcome → List ℕ → Type 0
+TellsReport form.Text g o text = text ≡ report_text (names_of g.channels) o.ending o.report.items
+TellsReport form.Json g o text = IsLineOf (report_object (names_of g.channels) o.ending o.report.items) text

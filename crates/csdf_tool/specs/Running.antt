@@ -1,7 +1,6 @@
 -- A run of a graph file over the token files of a folder.
-use Rattle.std.specs.Prelude.{◌≡◌, ◌≢◌, ◌⊎◌, ℕ, Bool, true, List, [], ◌∷◌, ◌++◌, ◌<◌, false, Option, Some, None, Result, Ok, Err, drop, filter, is_some, length, option_map, take, map, if◌then◌else◌, slice_index_or}
+use Rattle.std.specs.Prelude.{◌≡◌, ◌≢◌, ◌⊎◌, ℕ, Bool, true, List, [], ◌∷◌, ◌++◌, ◌<◌, false, Option, Some, None, Result, Ok, Err, ℤ, suc, filter, is_some, length, take, map, if◌then◌else◌, slice_index_or}
 use Rattle.std.specs.Io.KnownBytes.{Appends}
-use Rattle.std.specs.Global.{Vec}
 use Rattle.std.specs.Path.{path_join}
 use Rattle.std.specs.List.{zip}
 use Rattle.csdf_graph.specs.declared.fault.GraphFault.{GraphFault}
@@ -14,12 +13,15 @@ use Rattle.csdf_graph.specs.GraphText.{IsGraphOf}
 use Rattle.csdf_core.specs.Planned.{is_source_kernel}
 use Rattle.csdf_floor.specs.declared.fault.RunFault.{RunFault}
 use Rattle.csdf_floor.specs.declared.fault.RunFault.TheVariants as run
-use Rattle.csdf_run.specs.declared.texts.Texts.{Texts}
-use Rattle.csdf_run.specs.declared.texts.TextsFault.{TextsFault}
-use Rattle.csdf_run.specs.declared.texts.TextsFault.TheVariants as texts
+use Rattle.csdf_floor.specs.declared.outcome.Outcome.{Outcome}
+use Rattle.csdf_run.specs.declared.tokens.TokensFault.{TokensFault}
+use Rattle.csdf_run.specs.declared.tokens.TokensFault.TheVariants as tokens
 use Rattle.csdf_analysis.specs.declared.room.Room.{Room}
-use Rattle.csdf_run.specs.Texts.{IsGraphRefusal, IsRefusal, TellRun, TellSequentialRun, texts_in}
-use Rattle.csdf_floor.specs.Work.{is_sink_kernel}
+use Rattle.csdf_run.specs.Scripts.{kept_script}
+use Rattle.csdf_run.specs.Texts.{text_at}
+use Rattle.csdf_run.specs.Tokens.{IsRunOf, IsSequentialRunOf, IsTokensRefusal, IsTokensRefusalOf}
+use Rattle.csdf_bytes.specs.TokenText.{tokens_in}
+use Rattle.csdf_floor.specs.Work.{feeds_in, is_sink_kernel}
 use Rattle.csdf_answers.specs.declared.fault.Stream.{Stream}
 use Rattle.csdf_answers.specs.declared.fault.Stream.TheVariants.{File, Output}
 use Rattle.csdf_answers.specs.declared.fault.ToolFault.{ToolFault}
@@ -29,6 +31,7 @@ use Rattle.csdf_tool.specs.declared.put_fault.PutFault.{PutFault}
 use Rattle.csdf_tool.specs.declared.put_fault.PutFault.TheVariants as put
 use Rattle.csdf_tool.specs.Acts.{Act, Asks, Devices, Marks, OnlyReads, Put, Read}
 use Rattle.csdf_words.specs.CommandLine.{Order}
+use Rattle.csdf_tool.specs.Contents.{content_text}
 use Rattle.csdf_tool.specs.GraphFiles.{IsNamed, IsNotGiven, graph_reads}
 use Rattle.csdf_tool.specs.Reports.{TellsReport}
 pub use Rattle.csdf_tool.specs.Places.{in_file, out_file}
@@ -46,15 +49,15 @@ pub record Written : Type 0 where
   pub text : List ℕ
 
 abbrev pub file_view : SinkFile → Written
-file_view file = record { folder = file.folder.now; name = file.name; text = file.text.now }
+file_view file = record { folder = file.folder.now; name = file.name; text = content_text file.content }
 
--- the file of each sink in a folder and its text, in file order
-abbrev pub sink_files : List ℕ → List Actor → List (List ℕ) → List Written
-sink_files folder [] texts = []
-sink_files folder (actor ∷ actors) texts =
+-- the file of each sink in a folder among the actors from number a on, and the text of its list, in file order
+abbrev pub sink_files_from : ℕ → List ℕ → List Actor → List (List ℤ) → List Written
+sink_files_from a folder [] lists = []
+sink_files_from a folder (actor ∷ actors) lists =
     if is_sink_kernel actor.kernel
-    then record { folder = folder; name = out_file actor.name; text = slice_index_or texts 0 [] } ∷ sink_files folder actors (drop 1 texts)
-    else sink_files folder actors texts
+    then record { folder = folder; name = out_file actor.name; text = text_at lists a } ∷ sink_files_from (suc a) folder actors lists
+    else sink_files_from (suc a) folder actors lists
 
 -- the file of a run's moves, where one is asked for and they were kept: its name is its path
 abbrev pub journal_files : Option (List ℕ) → Option (List ℕ) → List Written
@@ -84,21 +87,19 @@ run_fault run.Memory = Memory
 run_fault run.Mixed = Mixed
 run_fault run.Worker = Worker
 
--- why texts make no run of the graph, as the program tells it: actors and channels by their names
-abbrev pub texts_fault : Graph → TextsFault → ToolFault
-texts_fault g (texts.Graph why) = fault_of why
-texts_fault g (texts.Accept why) = accept_fault (names_of g.channels) why
-texts_fault g texts.FeedCount = Mixed
-texts_fault g (texts.Feed a why) = token_fault (name_at (actor_names g.actors) a) why
-texts_fault g (texts.Run why) = run_fault why
+-- why tokens make no run of the graph, as the program tells it: actors and channels by their names
+abbrev pub tokens_fault : Graph → TokensFault → ToolFault
+tokens_fault g (tokens.Accept why) = accept_fault (names_of g.channels) why
+tokens_fault g (tokens.Feed feed) = token_fault (name_at (actor_names g.actors) feed.actor) feed.fault
+tokens_fault g (tokens.Run why) = run_fault why
 
 -- the fault tells why the texts make no run of the graph with this room
 abbrev pub RefusesGraphRun : Room → Graph → List (List ℕ) → ToolFault → Type 0
-RefusesGraphRun room g feeds fault = (why : TextsFault) × IsGraphRefusal room g feeds why × (fault ≡ texts_fault g why)
+RefusesGraphRun room g feeds fault = (why : TokensFault) × IsTokensRefusal room g feeds why × (fault ≡ tokens_fault g why)
 
 -- the same of the graph of a file
 abbrev pub RefusesRun : Room → Graph → List ℕ → List (List ℕ) → ToolFault → Type 0
-RefusesRun room g bytes feeds fault = (why : TextsFault) × IsRefusal room bytes feeds why × (fault ≡ texts_fault g why)
+RefusesRun room g bytes feeds fault = (why : TokensFault) × IsTokensRefusalOf room bytes feeds why × (fault ≡ tokens_fault g why)
 
 -- why a run of the graph is not begun: a file that it is to write is in use; or none is, and the texts make no run
 abbrev pub IsKeptFrom : Order → Graph → List (List ℕ) → List Act → ToolFault → Type 0
@@ -107,18 +108,18 @@ IsKeptFrom order g feeds looks fault =
 
 -- ---- runs
 
--- the texts tell the run that is asked for, of the graph of a file over one text for each source, and they are those of the sequential run; its moves are told
--- where they are asked for
-pub record IsRunBy (order : Order) (g : Graph) (bytes : List ℕ) (feeds : List (List ℕ)) (t : Texts) : Type 0 where
+-- the outcome is that of the run that is asked for, of the graph of a file over one text for each source, and its sinks are those of the sequential run; its moves
+-- are kept where they are asked for
+pub record IsRunBy (order : Order) (g : Graph) (bytes : List ℕ) (feeds : List (List ℕ)) (o : Outcome) : Type 0 where
   pub graph : IsGraphOf bytes (Ok g)
-  pub told : TellRun order.room bytes feeds order.how_long order.firings t
-  pub sequential : TellSequentialRun order.room bytes feeds order.how_long order.firings t
-  pub kept : is_some t.journal ≡ is_some order.journal
+  pub told : IsRunOf order.room bytes feeds order.how_long order.firings o
+  pub sequential : IsSequentialRunOf order.room bytes feeds order.how_long order.firings o
+  pub kept : o.journal.keeps ≡ is_some order.journal
 
 -- the run that is asked for, of what the devices gave: of the graph file's bytes, over a text for each source
-pub record RunsOn (order : Order) (left : Option (List ℕ)) (g : Graph) (bytes : List ℕ) (feeds : List (List ℕ)) (t : Texts) : Type 0 where
+pub record RunsOn (order : Order) (left : Option (List ℕ)) (g : Graph) (bytes : List ℕ) (feeds : List (List ℕ)) (o : Outcome) : Type 0 where
   pub named : IsNamed order.graph left bytes
-  pub run : IsRunBy order g bytes feeds t
+  pub run : IsRunBy order g bytes feeds o
 
 -- ---- what is asked of files
 
@@ -143,11 +144,16 @@ run_reads order g bytes feeds = graph_reads order.graph bytes ++ feed_reads orde
 abbrev pub run_asks : Order → Graph → List ℕ → List (List ℕ) → List Act → List Act
 run_asks order g bytes feeds looks = run_reads order g bytes feeds ++ looks
 
--- where an actor is a source, its token file was asked for, and its text stands behind the others; else nothing was done
-pub record IsReadAfter (folder : List ℕ) (actor : Actor) (before after : Option (List Act)) (texts more : List (List ℕ)) : Type 0 where
+-- where an actor is a source, its token file was asked for, and this is what the text that came holds; else nothing was done, and it has no tokens
+pub record IsFeedOf (folder : List ℕ) (actor : Actor) (before after : Option (List Act)) (told : Result (List ℤ) TokenFault) : Type 0 where
   pub source : is_source_kernel actor.kernel ≡ true
-      → (text : List ℕ) × (more ≡ texts ++ text ∷ []) × Asks before after (Read (path_join folder (in_file actor.name)) (Ok text) ∷ [])
-  pub other : is_source_kernel actor.kernel ≡ false → (more ≡ texts) × (after ≡ before)
+      → (text : List ℕ) × Asks before after (Read (path_join folder (in_file actor.name)) (Ok text) ∷ []) × (tokens_in text ≡ told)
+  pub other : is_source_kernel actor.kernel ≡ false → (after ≡ before) × (told ≡ Ok [])
+
+-- the token files of all sources were asked for in file order, and these texts came
+pub record IsReadAll (folder : List ℕ) (actors : List Actor) (before after : Option (List Act)) (texts : List (List ℕ)) : Type 0 where
+  pub asked : Asks before after (feed_reads folder actors texts)
+  pub each : length (feed_paths folder actors) ≡ length texts
 
 -- the token file of a source was asked for, and this came of it in place of its bytes
 pub record IsFeedMissing (folder name : List ℕ) (before after : Option (List Act)) (fault : ToolFault) : Type 0 where
@@ -180,11 +186,9 @@ pub record AreNamedAlike (g h : Graph) : Type 0 where
   pub actors : h.actors ≡ g.actors
   pub names : names_of h.channels ≡ names_of g.channels
 
--- the files of the sinks' texts, and then that of the moves
-abbrev pub files_of : Order → Graph → Texts → List Written
-files_of order g t =
-    sink_files order.sink_folder g.actors (texts_in t.sinks.items)
-    ++ journal_files order.journal (option_map (λ (text : Vec ℕ). text.items) t.journal)
+-- the files of what the sinks took, and then that of the moves
+abbrev pub files_of : Order → Graph → Outcome → List Written
+files_of order g o = sink_files_from 0 order.sink_folder g.actors (feeds_in o.sinks.items) ++ journal_files order.journal (kept_script g o.journal)
 
 -- the run was made of the bytes of the graph file and of the sources' token files, after it was looked whether a file that it writes is in use; then the text of
 -- each sink was put in the place of its file, and after them the moves where they are asked for, and its report was written in the form that is asked for
@@ -193,12 +197,12 @@ pub record RunsOnFiles (order : Order) (d : Devices) (before after : Option (Lis
   pub bytes : List ℕ
   pub feeds : List (List ℕ)
   pub looks : List Act
-  pub texts : Texts
+  pub outcome : Outcome
   pub apart : Apart (listed_files order graph.actors) looks
-  pub runs : RunsOn order d.left graph bytes feeds texts
-  pub files : Asks d.before d.after (run_asks order graph bytes feeds looks ++ map put_whole (files_of order graph texts))
+  pub runs : RunsOn order d.left graph bytes feeds outcome
+  pub files : Asks d.before d.after (run_asks order graph bytes feeds looks ++ map put_whole (files_of order graph outcome))
   pub report : List ℕ
-  pub tells : TellsReport order.form graph texts report
+  pub tells : TellsReport order.form graph outcome report
   pub written : Appends before after report
 
 -- why a file was not put in its place, as the program tells it
@@ -224,12 +228,12 @@ pub record EndsAmongFiles (order : Order) (d : Devices) (fault : ToolFault) : Ty
   pub bytes : List ℕ
   pub feeds : List (List ℕ)
   pub looks : List Act
-  pub texts : Texts
+  pub outcome : Outcome
   pub puts : List Act
   pub apart : Apart (listed_files order graph.actors) looks
-  pub runs : RunsOn order d.left graph bytes feeds texts
+  pub runs : RunsOn order d.left graph bytes feeds outcome
   pub files : Asks d.before d.after (run_asks order graph bytes feeds looks ++ puts)
-  pub cut : IsCutShort (files_of order graph texts) puts fault
+  pub cut : IsCutShort (files_of order graph outcome) puts fault
 
 -- the run was made and its files were put, and the report was not written
 pub record EndsAfterFiles (order : Order) (d : Devices) : Type 0 where
@@ -237,10 +241,10 @@ pub record EndsAfterFiles (order : Order) (d : Devices) : Type 0 where
   pub bytes : List ℕ
   pub feeds : List (List ℕ)
   pub looks : List Act
-  pub texts : Texts
+  pub outcome : Outcome
   pub apart : Apart (listed_files order graph.actors) looks
-  pub runs : RunsOn order d.left graph bytes feeds texts
-  pub files : Asks d.before d.after (run_asks order graph bytes feeds looks ++ map put_whole (files_of order graph texts))
+  pub runs : RunsOn order d.left graph bytes feeds outcome
+  pub files : Asks d.before d.after (run_asks order graph bytes feeds looks ++ map put_whole (files_of order graph outcome))
 
 -- ---- why a run ends before its files are put
 

@@ -8,6 +8,7 @@ use Rattle.std.specs.declared.io.Error.{Error}
 use Rattle.std.specs.declared.io.ErrorKind.{ErrorKind}
 use Rattle.std.specs.declared.io.ErrorKind.TheVariants.{NotFound}
 use Rattle.std.specs.IoError.{error_kind}
+use Rattle.csdf_tool.specs.Contents.{content_text}
 use Rattle.csdf_tool.specs.declared.put_fault.PutFault.{PutFault}
 use Rattle.csdf_tool.specs.declared.put_fault.PutFault.TheVariants.{Device, Memory}
 use Rattle.csdf_tool.specs.declared.putting.Stage.{Stage}
@@ -73,7 +74,7 @@ part_of path = path ++ codes ".part"
 
 -- what is done to a part, as a step
 abbrev pub step_of : Stage → Step
-step_of (stage.Write part text) = Write part.now text.now
+step_of (stage.Write part content) = Write part.now (content_text content)
 step_of (stage.Rename part path) = Rename part.now path.now
 
 -- permissions are given where there are some

@@ -9,7 +9,6 @@ ghost use Rattle.csdf_tool.specs.Places.{Apart, IsInUse, file_on, files_of_moves
 use crate::disk::Disk;
 use crate::files::path_in;
 use crate::place::Place;
-use crate::run_files::{is_sink, is_source};
 use csdf_answers::{Name, ToolFault};
 use csdf_model::Actor;
 use csdf_words::RunWords;
@@ -38,7 +37,7 @@ fn source_file<'a>(
 ) -> Result<Option<RunFile<'a>>, AllocError>
     ensures { IfOk result (λ file. option_map listed_view file ≡ file_on Side.Sources folder.entry.now (actor_view actor.now)) }
 {
-    if !is_source(actor) {
+    if !actor.kernel.is_source() {
         return Ok(None);
     }
     let name = Name::with_ending(alloc, actor.name.as_str(), ".in")?;
@@ -57,7 +56,7 @@ fn sink_file<'a>(
 ) -> Result<Option<RunFile<'a>>, AllocError>
     ensures { IfOk result (λ file. option_map listed_view file ≡ file_on Side.Sinks folder.entry.now (actor_view actor.now)) }
 {
-    if !is_sink(actor) {
+    if !actor.kernel.is_sink() {
         return Ok(None);
     }
     let name = Name::with_ending(alloc, actor.name.as_str(), ".out")?;

@@ -1,16 +1,18 @@
 //! Files, as the program asks for them.
 
-ghost use Rattle.std.specs.Prelude.{◌≡◌, [], ◌∷◌, List, Option, None, IfErr};
+ghost use Rattle.std.specs.Prelude.{◌≡◌, ℕ, [], ◌∷◌, List, Option, None, Ok, Err, IfErr, IfOk};
 ghost use Rattle.csdf_tool.specs.Acts.{Act, Asks, Locate, Look, Read, Put, found, given, placed};
+ghost use Rattle.csdf_tool.specs.Contents.{AreTokensOf, content_text};
 
+use crate::content::Content;
 use crate::locate::place_at;
-use crate::look::{bytes_at, token_file_at};
+use crate::look::{bytes_at, token_file_at, tokens_at};
 use crate::place::Place;
 use crate::put_fault::PutFault;
 use crate::putting::put_at;
 use crate::system::HostSystem;
 use csdf_answers::{TokenFile, ToolFault};
-use csdf_bytes::InputFault;
+use csdf_bytes::{InputFault, TokenFault};
 use std::alloc::AllocError;
 use std::rt::Files;
 
@@ -23,6 +25,12 @@ pub trait Disk {
     fn read(&mut self, path: &str) -> Result<Vec<u8>, InputFault>
         ensures { Asks (acts self.old) (acts self.new) (Read path.now (given result) ∷ []) };
 
+    /// The tokens of a file, or the fault of its first faulty line. One that can't be opened is one that
+    /// fails. Of its text no copy is kept.
+    fn tokens(&mut self, path: &str) -> Result<Result<Vec<i32>, TokenFault>, InputFault>
+        ensures read { IfOk result (λ told. (text : List ℕ) × Asks (acts self.old) (acts self.new) (Read path.now (Ok text) ∷ []) × AreTokensOf text told) }
+        ensures unread { IfErr result (λ why. Asks (acts self.old) (acts self.new) (Read path.now (Err why) ∷ [])) };
+
     /// What is found at the path of a token file: no wait for a pipe. The error says that memory ran out.
     fn look(&mut self, path: &str) -> Result<TokenFile, ToolFault>
         ensures found { Asks (acts self.old) (acts self.new) (Look path.now (found result) ∷ []) }
@@ -32,9 +40,9 @@ pub trait Disk {
     fn locate(&mut self, path: &str) -> Result<Place, AllocError>
         ensures { Asks (acts self.old) (acts self.new) (Locate path.now (placed result) ∷ []) };
 
-    /// Puts a file with this text in its place, in that of a file that is there.
-    fn put(&mut self, path: &str, text: &[u8]) -> Result<(), PutFault>
-        ensures { Asks (acts self.old) (acts self.new) (Put path.now text.now result ∷ []) };
+    /// Puts a file with this content in its place, in that of a file that is there.
+    fn put(&mut self, path: &str, content: Content<'_>) -> Result<(), PutFault>
+        ensures { Asks (acts self.old) (acts self.new) (Put path.now (content_text content.entry) result ∷ []) };
 }
 
 /// The files of the system. What is asked of them is known to no contract here: what each call comes to is
@@ -58,6 +66,10 @@ impl<R: Files + AllocGlobal> Disk for HostDisk<'_, R> {
         bytes_at(self.rt.alloc(), &mut HostSystem(self.rt), path)
     }
 
+    fn tokens(&mut self, path: &str) -> Result<Result<Vec<i32>, TokenFault>, InputFault> {
+        tokens_at(self.rt.alloc(), &mut HostSystem(self.rt), path)
+    }
+
     fn look(&mut self, path: &str) -> Result<TokenFile, ToolFault> {
         token_file_at(self.rt.alloc(), &mut HostSystem(self.rt), path)
     }
@@ -66,7 +78,7 @@ impl<R: Files + AllocGlobal> Disk for HostDisk<'_, R> {
         place_at(self.rt.alloc(), &mut HostSystem(self.rt), path)
     }
 
-    fn put(&mut self, path: &str, text: &[u8]) -> Result<(), PutFault> {
-        put_at(self.rt.alloc(), &mut HostSystem(self.rt), path, text)
+    fn put(&mut self, path: &str, content: Content<'_>) -> Result<(), PutFault> {
+        put_at(self.rt.alloc(), &mut HostSystem(self.rt), path, content)
     }
 }

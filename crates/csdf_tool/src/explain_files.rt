@@ -10,7 +10,6 @@ ghost use Rattle.csdf_tool.specs.GraphFiles.{is_input};
 
 use crate::disk::Disk;
 use crate::files::{graph_bytes, token_path};
-use crate::run_files::is_source;
 use csdf_answers::{Stream, ToolFault, explain, explain_with, push_token_note};
 use csdf_bytes::{Intake, Outlet};
 use csdf_graph::{GraphFault, read_graph};
@@ -48,7 +47,7 @@ fn push_actor_note<D: Disk>(
         (string_bytes text.old) (string_bytes text.new)) }
     ensures memory { IfErr result (λ fault. fault ≡ ToolFault.Memory) }
 {
-    if !is_source(actor) {
+    if !actor.kernel.is_source() {
         return Ok(());
     }
     push_note(alloc, disk, text, folder, actor.name.as_str())?;

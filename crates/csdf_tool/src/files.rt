@@ -1,17 +1,19 @@
 //! Whole files, read and put in their places, and standard input.
 
-ghost use Rattle.std.specs.Prelude.{◌≡◌, ◌≢◌, ◌⊎◌, ◌↔◌, [], ◌∷◌, List, true, false, Ok, Err, IfErr, IfOk, IfSome, OnErr, OnOk};
+ghost use Rattle.std.specs.Prelude.{◌≡◌, ◌≢◌, ◌⊎◌, ◌↔◌, ℕ, [], ◌∷◌, List, true, false, Ok, Err, IfErr, IfOk, IfSome, OnErr, OnOk};
 ghost use Rattle.std.specs.Path.{path_buf_bytes, path_join};
 ghost use Rattle.csdf_answers.specs.Faults.{unread};
 ghost use Rattle.csdf_tool.specs.Acts.{Act, Asks, OnlyReads, Put, Read, devices};
+ghost use Rattle.csdf_tool.specs.Contents.{AreTokensOf, content_text};
 ghost use Rattle.csdf_tool.specs.Explaining.{token_path};
 ghost use Rattle.csdf_tool.specs.GraphFiles.{graph_reads, is_input, IsInputFault, IsNamed, IsNotGiven};
 ghost use Rattle.csdf_tool.specs.Running.{IsFeedMissing, IsUnput, in_file};
 
+use crate::content::Content;
 use crate::disk::Disk;
 use crate::put_fault::PutFault;
 use csdf_answers::{Name, Stream, ToolFault, unread};
-use csdf_bytes::{InputFault, Intake, read_bytes};
+use csdf_bytes::{InputFault, Intake, TokenFault, read_bytes};
 use std::alloc::{AllocError, Global};
 use std::path::{Path, PathBuf};
 
@@ -73,15 +75,15 @@ pub(crate) fn path_in(alloc: Global, folder: &str, file: &Name) -> Result<PathBu
     Path::new(folder).join(alloc, file.as_str())
 }
 
-/// All bytes of the token file of a source: `NAME.in` in the folder.
-pub(crate) fn feed_bytes<D: Disk>(
+/// The tokens of the token file of a source, `NAME.in` in the folder, or the fault of its first faulty line.
+pub(crate) fn feed_tokens<D: Disk>(
     alloc: Global,
     disk: &mut D,
     folder: &str,
     source: &str,
-) -> Result<Vec<u8>, ToolFault>
-    ensures read { IfOk result (λ bytes. Asks (D.acts disk.old) (D.acts disk.new)
-        (Read (path_join folder.now (in_file source.now)) (Ok bytes.items) ∷ [])) }
+) -> Result<Result<Vec<i32>, TokenFault>, ToolFault>
+    ensures read { IfOk result (λ told. (text : List ℕ) × Asks (D.acts disk.old) (D.acts disk.new)
+        (Read (path_join folder.now (in_file source.now)) (Ok text) ∷ []) × AreTokensOf text told) }
     ensures only { OnErr result (OnlyReads (D.acts disk.old) (D.acts disk.new)) }
     ensures missing { IfErr result (λ fault. (fault ≡ ToolFault.Memory)
         ⊎ IsFeedMissing folder.now source.now (D.acts disk.old) (D.acts disk.new) fault) }
@@ -89,8 +91,8 @@ pub(crate) fn feed_bytes<D: Disk>(
     let source = Name::new(alloc, source)?;
     let file = Name::with_ending(alloc, source.as_str(), ".in")?;
     let path = path_in(alloc, folder, &file)?;
-    match disk.read(path.as_str()) {
-        Ok(bytes) => Ok(bytes),
+    match disk.tokens(path.as_str()) {
+        Ok(told) => Ok(told),
         Err(InputFault::Read) => Err(ToolFault::Device(Stream::File(file))),
         Err(InputFault::TooLong) => Err(ToolFault::TooManyTokens(source)),
         Err(InputFault::Memory) => Err(ToolFault::Memory),
@@ -105,22 +107,22 @@ pub(crate) fn token_path(alloc: Global, folder: &str, source: &str) -> Result<Pa
     path_in(alloc, folder, &file)
 }
 
-/// Puts a text in the place of a file of a folder.
+/// Puts a content in the place of a file of a folder.
 pub(crate) fn put_file<D: Disk>(
     alloc: Global,
     disk: &mut D,
     folder: &str,
     file: &Name,
-    text: &[u8],
+    content: Content<'_>,
 ) -> Result<(), ToolFault>
     ensures put { OnOk result (Asks (D.acts disk.old) (D.acts disk.new)
-        (Put (path_join folder.now file.now) text.now (Ok tt) ∷ [])) }
+        (Put (path_join folder.now file.now) (content_text content.entry) (Ok tt) ∷ [])) }
     ensures unput { IfErr result (λ fault. (acts : List Act) × Asks (D.acts disk.old) (D.acts disk.new) acts
-        × IsUnput (record { folder = folder.now; name = file.now; text = text.now }) acts fault) }
+        × IsUnput (record { folder = folder.now; name = file.now; text = content_text content.entry }) acts fault) }
 {
     let name = Name::new(alloc, file.as_str())?;
     let path = path_in(alloc, folder, file)?;
-    match disk.put(path.as_str(), text) {
+    match disk.put(path.as_str(), content) {
         Ok(()) => Ok(()),
         Err(PutFault::Device) => Err(ToolFault::Device(Stream::File(name))),
         Err(PutFault::Memory) => Err(ToolFault::Memory),

@@ -4,6 +4,7 @@
 
 mod answer_files;
 mod apart;
+mod content;
 mod disk;
 mod explain_files;
 mod files;
@@ -20,6 +21,7 @@ mod run_files;
 mod system;
 mod telling;
 
+pub use content::Content;
 pub use disk::{Disk, HostDisk};
 pub use place::{Node, Place};
 pub use program::run_words;

@@ -1,15 +1,16 @@
 //! What is found at the path of a file that is to be read.
 
-ghost use Rattle.std.specs.Prelude.{◌≡◌, ◌↔◌, [], ◌∷◌, true, None, Ok, IfErr, IfOk, IfSome, OnErr, Option};
+ghost use Rattle.std.specs.Prelude.{◌≡◌, ◌↔◌, ℕ, List, [], ◌∷◌, true, None, Ok, IfErr, IfOk, IfSome, OnErr, Option};
 ghost use Rattle.std.specs.Fs.{IsDir, IsFile};
 ghost use Rattle.std.specs.IoError.{error_kind};
 ghost use Rattle.std.specs.declared.io.ErrorKind.{ErrorKind};
+ghost use Rattle.csdf_tool.specs.Contents.{AreTokensOf};
 ghost use Rattle.csdf_tool.specs.SystemCalls.{Called, Open, unopened_as};
 ghost use Rattle.csdf_tool.specs.TokenFiles.{IsOpenedAs, IsReadOf, Looks, unopened};
 
 use crate::system::System;
 use csdf_answers::{TokenFile, ToolFault};
-use csdf_bytes::{FromReader, InputFault, Intake, read_bytes};
+use csdf_bytes::{FromReader, InputFault, Intake, TokenFault, read_bytes, read_token_file};
 use std::alloc::Global;
 use std::fs::FileType;
 use std::io::{self, ErrorKind, Read};
@@ -109,4 +110,32 @@ pub(crate) fn bytes_at<S: System>(
         × IfSome why (λ kind. result ≡ Err InputFault.Read) }
 {
     opened_bytes(alloc, system.open(path))
+}
+
+/// The tokens of a file that was to be opened.
+fn opened_tokens<F: Read + Drop>(
+    alloc: Global,
+    opened: io::Result<F>,
+) -> Result<Result<Vec<i32>, TokenFault>, InputFault>
+    ensures came { IfOk opened (λ file. IfOk result (λ told. (text : List ℕ) × IfSome (F.remaining file) (λ left. text ≡ left) × AreTokensOf text told)) }
+    ensures unopened { OnErr opened (result ≡ Err InputFault.Read) }
+{
+    let Ok(file) = opened else {
+        return Err(InputFault::Read);
+    };
+    read_token_file(alloc, &mut FromReader::new(file))
+}
+
+/// The tokens of the file at a path, or the fault of its first faulty line. One that can't be opened is one
+/// that fails.
+pub(crate) fn tokens_at<S: System>(
+    alloc: Global,
+    system: &mut S,
+    path: &str,
+) -> Result<Result<Vec<i32>, TokenFault>, InputFault>
+    ensures called { (why : Option ErrorKind) × Called (S.calls system.old) (S.calls system.new) (Open path.now why ∷ [])
+        × IfSome why (λ kind. result ≡ Err InputFault.Read) }
+    ensures came { IfOk result (λ told. (text : List ℕ) × AreTokensOf text told) }
+{
+    opened_tokens(alloc, system.open(path))
 }

@@ -2,8 +2,10 @@
 
 ghost use Rattle.std.specs.Prelude.{◌≡◌, [], ◌∷◌, List, true, false, IfErr, IfOk, OnOk, is_ok, option_map, string_bytes};
 ghost use Rattle.std.specs.Fs.{permissions_mode};
+ghost use Rattle.csdf_tool.specs.Contents.{content_text};
 ghost use Rattle.csdf_tool.specs.SystemCalls.{Call, Called, Puts, PutsBeside, Says, Steps, part_of, permits, step_of, steps_beside};
 
+use crate::content::Content;
 use crate::put_fault::PutFault;
 use crate::system::System;
 use std::alloc::{AllocError, Global};
@@ -57,7 +59,7 @@ fn ended(call: io::Result<()>) -> Result<(), PutFault>
 #[derive(Clone, Copy)]
 enum Stage<'a> {
     /// It is made or emptied, and this is written to it.
-    Write(&'a str, &'a [u8]),
+    Write(&'a str, Content<'a>),
     /// It is put in the place of a file.
     Rename(&'a str, &'a str),
 }
@@ -67,7 +69,7 @@ fn advance<S: System>(system: &mut S, stage: Stage<'_>) -> Result<(), PutFault>
     ensures { Steps (step_of stage.entry ∷ []) (S.calls system.old) (S.calls system.new) result }
 {
     match stage {
-        Stage::Write(part, text) => ended(system.write(part, text)),
+        Stage::Write(part, content) => ended(system.write(part, content)),
         Stage::Rename(part, path) => ended(system.rename(part, path)),
     }
 }
@@ -92,13 +94,13 @@ fn put_whole<S: System>(
     part: &str,
     permissions: Option<Permissions>,
     path: &str,
-    text: &[u8],
+    content: Content<'_>,
 ) -> Result<(), PutFault>
-    ensures { Steps (steps_beside part.now (option_map permissions_mode permissions) path.now text.now) (S.calls system.old) (S.calls system.new) result }
+    ensures { Steps (steps_beside part.now (option_map permissions_mode permissions) path.now (content_text content.entry)) (S.calls system.old) (S.calls system.new) result }
 {
-    advance(system, Stage::Write(part, &[]))?;
+    advance(system, Stage::Write(part, Content::Bytes(&[])))?;
     permit(system, part, permissions)?;
-    advance(system, Stage::Write(part, text))?;
+    advance(system, Stage::Write(part, content))?;
     advance(system, Stage::Rename(part, path))
 }
 
@@ -108,15 +110,15 @@ fn put_beside<S: System>(
     system: &mut S,
     permissions: Option<Permissions>,
     path: &str,
-    text: &[u8],
+    content: Content<'_>,
 ) -> Result<(), PutFault>
     ensures { (calls : List Call) × Called (S.calls system.old) (S.calls system.new) calls
-        × PutsBeside (option_map permissions_mode permissions) path.now text.now calls result }
+        × PutsBeside (option_map permissions_mode permissions) path.now (content_text content.entry) calls result }
 {
     let Ok(part) = part_of(alloc, path) else {
         return Err(PutFault::Memory);
     };
-    match put_whole(system, part.as_str(), permissions, path, text) {
+    match put_whole(system, part.as_str(), permissions, path, content) {
         Ok(()) => Ok(()),
         Err(why) => {
             let _ = system.remove_file(part.as_str());
@@ -133,14 +135,20 @@ pub(crate) fn put_at<S: System>(
     alloc: Global,
     system: &mut S,
     path: &str,
-    text: &[u8],
+    content: Content<'_>,
 ) -> Result<(), PutFault>
-    ensures { Puts path.now text.now (S.calls system.old) (S.calls system.new) result }
+    ensures { Puts path.now (content_text content.entry) (S.calls system.old) (S.calls system.new) result }
 {
     match there_of(system.symlink_metadata(path)) {
-        Ok(There::Free) => put_beside(alloc, system, None, path, text),
-        Ok(There::Plain(permissions)) => put_beside(alloc, system, Some(permissions), path, text),
-        Ok(There::Other) => ended(system.write(path, text)),
+        Ok(There::Free) => put_beside(alloc, system, None, path, content),
+        Ok(There::Plain(permissions)) => put_beside(
+            alloc,
+            system,
+            Some(permissions),
+            path,
+            content,
+        ),
+        Ok(There::Other) => ended(system.write(path, content)),
         Err(why) => Err(why),
     }
 }

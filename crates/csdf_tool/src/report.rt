@@ -8,9 +8,9 @@ ghost use Rattle.csdf_model.specs.Graph.{channel_view};
 ghost use Rattle.csdf_floor.specs.Report.{names_of};
 ghost use Rattle.csdf_tool.specs.Reports.{channel_items, channel_object, report_object};
 
-use csdf_floor::{ChannelReport, Ending, channel_name, ending_word};
+use csdf_floor::{ChannelReport, Ending, ending_word};
 use csdf_json::{json_writer, line_of, open_list, put_flag, put_number, put_text};
-use csdf_model::{Channel, Graph};
+use csdf_model::{Channel, Graph, channel_name};
 use json::Writer;
 use std::alloc::{AllocError, Global};
 

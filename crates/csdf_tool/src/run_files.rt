@@ -1,88 +1,96 @@
 //! A run of a graph file over the token files of a folder.
 
-ghost use Rattle.std.specs.Prelude.{◌≡◌, ◌≢◌, ◌⊎◌, ℕ, List, [], true, Err, is_some, length, map, option_map, option_to_list, slice_index_or, IfErr, IfOk, OnErr, OnOk};
+ghost use Rattle.std.specs.Prelude.{◌≡◌, ◌≢◌, ◌⊎◌, ◌≤◌, ◌++◌, ℕ, List, [], true, Err, is_some, length, map, option_map, option_to_list, slice_index_or, IfErr, IfOk, OnErr, OnOk};
 ghost use Rattle.csdf_model.specs.Graph.{Graph as GraphModel, actor_view};
 ghost use Rattle.csdf_graph.specs.GraphText.{IsGraphOf};
 ghost use Rattle.csdf_core.specs.Planned.{is_source_kernel};
-ghost use Rattle.csdf_run.specs.Texts.{TellGraphRun, TellSequentialGraphRun, source_count, texts_in};
-ghost use Rattle.csdf_floor.specs.Work.{is_sink_kernel};
-ghost use Rattle.csdf_journal.specs.View.{is_kept};
+ghost use Rattle.csdf_run.specs.Scripts.{kept_script};
+ghost use Rattle.csdf_run.specs.Tokens.{AreReadOf, IsGraphRun, IsSequentialGraphRun, read_in, told_at, with_last};
+ghost use Rattle.csdf_floor.specs.Work.{feeds_in};
 ghost use Rattle.csdf_words.specs.CommandLine.{order_view};
 ghost use Rattle.csdf_tool.specs.Acts.{Act, Asks, OnlyReads, devices, marks};
+ghost use Rattle.csdf_tool.specs.Contents.{told_tokens};
 ghost use Rattle.csdf_tool.specs.GraphFiles.{is_input};
 ghost use Rattle.csdf_tool.specs.Reports.{TellsReport};
-ghost use Rattle.csdf_tool.specs.Running.{AreNamedAlike, EndsBeforeFiles, EndsOnFiles, IsCutShort, IsFeedMissing, IsKeptFrom, IsReadAfter, LacksFeed, RefusesGraphRun, RunsOn, RunsOnFiles};
-ghost use Rattle.csdf_tool.specs.Running.{feed_paths, feed_reads, file_view, files_of, journal_files, put_whole, run_asks, run_fault, sink_files, texts_fault, token_fault};
+ghost use Rattle.csdf_tool.specs.Running.{AreNamedAlike, EndsBeforeFiles, EndsOnFiles, IsCutShort, IsFeedMissing, IsFeedOf, IsKeptFrom, IsReadAll, LacksFeed, RefusesGraphRun, RunsOn, RunsOnFiles};
+ghost use Rattle.csdf_tool.specs.Running.{file_view, files_of, journal_files, put_whole, run_asks, run_fault, sink_files_from, token_fault, tokens_fault};
 ghost use Rattle.csdf_tool.specs.Places.{Apart, listed_files};
 
 use crate::apart::keep_apart;
+use crate::content::Content;
 use crate::disk::Disk;
-use crate::files::{feed_bytes, graph_bytes, put_file};
+use crate::files::{feed_tokens, graph_bytes, put_file};
 use crate::progress::Progress;
 use crate::report::report_object;
-use csdf_answers::{Form, Name, Stream, ToolFault, accept_fault, actor_name};
+use csdf_answers::{Form, Name, Stream, ToolFault, accept_fault};
 use csdf_bytes::{Intake, Outlet, TokenFault, write_bytes};
-use csdf_floor::RunFault;
+use csdf_floor::{Outcome, RunFault, printed_report};
 use csdf_graph::read_graph;
-use csdf_journal::Keeping;
-use csdf_model::{Actor, Graph, Kernel};
-use csdf_run::{GraphRun, RunOptions, Texts, TextsFault, run_and_hand_back};
+use csdf_model::{Actor, Graph, MAX_ACTORS, actor_name};
+use csdf_run::{FeedFault, TokensFault, TokensRun, kept_script, run_tokens};
 use csdf_words::RunWords;
 use std::alloc::{AllocError, Global};
 use std::sync::Wait;
 use std::thread::Threads;
 
-pub(crate) fn is_source(actor: &Actor) -> bool
-    ensures { result ≡ is_source_kernel (actor_view actor.now).kernel }
-{
-    matches!(actor.kernel, Kernel::Source)
-}
-
-pub(crate) fn is_sink(actor: &Actor) -> bool
-    ensures { result ≡ is_sink_kernel (actor_view actor.now).kernel }
-{
-    matches!(actor.kernel, Kernel::Sink)
-}
-
-/// Appends the bytes of an actor's token file, where it is a source.
-fn push_feed<D: Disk>(
+/// The tokens of an actor's token file, where it is a source; else none.
+fn actor_tokens<D: Disk>(
     alloc: Global,
     disk: &mut D,
     folder: &str,
     actor: &Actor,
-    feeds: &mut Vec<Vec<u8>>,
-) -> Result<(), ToolFault>
-    ensures read { OnOk result (IsReadAfter folder.now (actor_view actor.now) (D.acts disk.old) (D.acts disk.new)
-        (texts_in feeds.old.items) (texts_in feeds.new.items)) }
+) -> Result<Result<Vec<i32>, TokenFault>, ToolFault>
+    ensures read { IfOk result (λ told. IsFeedOf folder.now (actor_view actor.now) (D.acts disk.old) (D.acts disk.new) (told_tokens told)) }
     ensures only { OnErr result (OnlyReads (D.acts disk.old) (D.acts disk.new)) }
     ensures missing { IfErr result (λ fault. (fault ≡ ToolFault.Memory) ⊎ ((is_source_kernel (actor_view actor.now).kernel ≡ true)
         × IsFeedMissing folder.now (actor_view actor.now).name (D.acts disk.old) (D.acts disk.new) fault)) }
 {
-    if !is_source(actor) {
-        return Ok(());
+    if !actor.kernel.is_source() {
+        return Ok(Ok(Vec::new(alloc)));
     }
-    let feed = feed_bytes(alloc, disk, folder, actor.name.as_str())?;
-    feeds.push(feed)?;
-    Ok(())
+    feed_tokens(alloc, disk, folder, actor.name.as_str())
 }
 
-/// The bytes of the token file of each source, in file order.
-fn feeds_in<D: Disk>(
+/// What was read for the actors before one, and then what was read for that one. The first fault stays.
+fn with_feed(
+    feeds: Result<Vec<Vec<i32>>, FeedFault>,
+    actor: u32,
+    told: Result<Vec<i32>, TokenFault>,
+) -> Result<Result<Vec<Vec<i32>>, FeedFault>, AllocError>
+    ensures { IfOk result (λ more. read_in more ≡ with_last (read_in feeds) (told_at actor (told_tokens told))) }
+{
+    let mut feeds = match feeds {
+        Ok(feeds) => feeds,
+        Err(fault) => return Ok(Err(fault)),
+    };
+    match told {
+        Ok(feed) => {
+            feeds.push(feed)?;
+            Ok(Ok(feeds))
+        }
+        Err(fault) => Ok(Err(FeedFault { actor, fault })),
+    }
+}
+
+/// The tokens of the token file of each source, in file order, and none for any other actor; or the first
+/// source whose file has a faulty line. All files are read, also behind that one.
+fn read_feeds<D: Disk>(
     alloc: Global,
     disk: &mut D,
     folder: &str,
     actors: &[Actor],
-) -> Result<Vec<Vec<u8>>, ToolFault>
-    ensures read { IfOk result (λ feeds. Asks (D.acts disk.old) (D.acts disk.new)
-        (feed_reads folder.now (map actor_view actors.now) (texts_in feeds.items))) }
-    ensures each { IfOk result (λ feeds. length (feed_paths folder.now (map actor_view actors.now)) ≡ length (texts_in feeds.items)) }
+) -> Result<Result<Vec<Vec<i32>>, FeedFault>, ToolFault>
+    requires { length actors.now ≤ MAX_ACTORS }
+    ensures read { IfOk result (λ feeds. (texts : List (List ℕ)) × IsReadAll folder.now (map actor_view actors.now) (D.acts disk.old) (D.acts disk.new) texts
+        × AreReadOf (map actor_view actors.now) texts feeds) }
     ensures only { OnErr result (OnlyReads (D.acts disk.old) (D.acts disk.new)) }
     ensures missing { IfErr result (λ fault. (fault ≡ ToolFault.Memory) ⊎ ((acts : List Act) × Asks (D.acts disk.old) (D.acts disk.new) acts
         × LacksFeed folder.now (map actor_view actors.now) acts fault)) }
 {
-    let mut feeds = Vec::new(alloc);
-    for actor in actors {
-        push_feed(alloc, disk, folder, actor, &mut feeds)?;
+    let mut feeds = Ok(Vec::new(alloc));
+    for (number, actor) in actors.iter().enumerate() {
+        let told = actor_tokens(alloc, disk, folder, actor)?;
+        feeds = with_feed(feeds, number as u32, told)?;
     }
     Ok(feeds)
 }
@@ -115,84 +123,83 @@ fn run_fault(fault: RunFault) -> ToolFault
     }
 }
 
-/// Why texts make no run, as the program tells it: actors and channels by their names.
-fn texts_fault(alloc: Global, graph: &Graph, fault: TextsFault) -> Result<ToolFault, AllocError>
-    ensures { IfOk result (λ told. told ≡ texts_fault graph.now fault) }
+/// Why tokens make no run, as the program tells it: actors and channels by their names.
+fn tokens_fault(alloc: Global, graph: &Graph, fault: TokensFault) -> Result<ToolFault, AllocError>
+    ensures { IfOk result (λ told. told ≡ tokens_fault graph.now fault) }
 {
     match fault {
-        TextsFault::Graph(fault) => Ok(ToolFault::from(fault)),
-        TextsFault::Accept(fault) => accept_fault(alloc, graph, fault),
-        TextsFault::FeedCount => Ok(ToolFault::Mixed),
-        TextsFault::Feed(actor, fault) => {
-            token_fault(alloc, actor_name(graph.actors(), actor), fault)
+        TokensFault::Accept(fault) => accept_fault(alloc, graph, fault),
+        TokensFault::Feed(feed) => {
+            token_fault(
+                alloc,
+                actor_name(graph.actors(), feed.actor as usize),
+                feed.fault,
+            )
         }
-        TextsFault::Run(fault) => Ok(run_fault(fault)),
+        TokensFault::Run(fault) => Ok(run_fault(fault)),
     }
 }
 
-/// Whether a run keeps its moves: where there is a file for them.
-fn keeping_of(journal: Option<&str>) -> Keeping
-    ensures { is_kept result ≡ is_some journal.entry }
-{
-    if journal.is_some() {
-        Keeping::Kept
-    } else {
-        Keeping::NotKept
-    }
-}
-
-/// The graph of a run as it was handed back, and what is told of the run.
+/// The graph of a run as it was handed back, and the outcome.
 #[derive(Drop)]
 struct Ran {
     graph: Graph,
-    texts: Texts,
+    outcome: Outcome,
 }
 
-/// Runs a graph over the bytes of its sources' token files.
+/// Runs a graph over the tokens of its sources' token files.
 fn ran_over<R: AllocGlobal + Eprint + Threads + Wait + Sync>(
     rt: &R,
     graph: Graph,
-    feeds: &[Vec<u8>],
+    feeds: Result<Vec<Vec<i32>>, FeedFault>,
     order: RunWords<'_>,
 ) -> Result<Ran, ToolFault>
-    ensures told { IfOk result (λ ran. TellGraphRun order.entry.room graph (texts_in feeds.now) order.entry.how_long order.entry.firings ran.texts) }
-    ensures sequential { IfOk result (λ ran. TellSequentialGraphRun order.entry.room graph (texts_in feeds.now) order.entry.how_long order.entry.firings ran.texts) }
-    ensures kept { IfOk result (λ ran. is_some ran.texts.journal ≡ is_some order.entry.journal) }
+    requires read { (texts : List (List ℕ)) × AreReadOf graph.actors texts feeds }
+    ensures told { (texts : List (List ℕ)) → AreReadOf graph.actors texts feeds
+        → IfOk result (λ ran. IsGraphRun order.entry.options.room graph texts order.entry.options.how_long order.entry.options.firings ran.outcome) }
+    ensures sequential { (texts : List (List ℕ)) → AreReadOf graph.actors texts feeds
+        → IfOk result (λ ran. IsSequentialGraphRun order.entry.options.room graph texts order.entry.options.how_long order.entry.options.firings ran.outcome) }
+    ensures kept { IfOk result (λ ran. ran.outcome.journal.keeps ≡ is_some order.entry.journal) }
     ensures alike { IfOk result (λ ran. AreNamedAlike graph ran.graph) }
-    ensures refused { IfErr result (λ fault. fault ≢ ToolFault.Memory → RefusesGraphRun order.entry.room graph (texts_in feeds.now) fault) }
+    ensures refused { (texts : List (List ℕ)) → AreReadOf graph.actors texts feeds
+        → IfErr result (λ fault. fault ≢ ToolFault.Memory → RefusesGraphRun order.entry.options.room graph texts fault) }
 {
     let alloc = rt.alloc();
-    let options = RunOptions {
-        workers: order.workers,
-        how_long: order.how_long,
-        firings: order.firings,
-        room: order.room,
-        keeping: keeping_of(order.journal),
-    };
     let progress = Progress::new(rt, order.progress);
-    let GraphRun { graph, texts } = run_and_hand_back(rt, alloc, graph, feeds, options, &progress);
+    let TokensRun { graph, outcome } = run_tokens(
+        rt,
+        alloc,
+        graph,
+        feeds,
+        order.options,
+        &progress,
+    );
     progress.end();
-    match texts {
-        Ok(texts) => Ok(Ran { graph, texts }),
-        Err(fault) => Err(texts_fault(alloc, &graph, fault)?),
+    match outcome {
+        Ok(outcome) => Ok(Ran { graph, outcome }),
+        Err(fault) => Err(tokens_fault(alloc, &graph, fault)?),
     }
 }
 
-/// Runs a graph over the bytes of its sources' token files, where no file that it is to write is in use.
+/// Runs a graph over the tokens of its sources' token files, where no file that it is to write is in use.
 fn ran_apart<R: AllocGlobal + Eprint + Threads + Wait + Sync, D: Disk>(
     rt: &R,
     disk: &mut D,
     graph: Graph,
-    feeds: &[Vec<u8>],
+    feeds: Result<Vec<Vec<i32>>, FeedFault>,
     order: RunWords<'_>,
 ) -> Result<Ran, ToolFault>
-    ensures told { IfOk result (λ ran. TellGraphRun order.entry.room graph (texts_in feeds.now) order.entry.how_long order.entry.firings ran.texts) }
-    ensures sequential { IfOk result (λ ran. TellSequentialGraphRun order.entry.room graph (texts_in feeds.now) order.entry.how_long order.entry.firings ran.texts) }
-    ensures kept { IfOk result (λ ran. is_some ran.texts.journal ≡ is_some order.entry.journal) }
+    requires read { (texts : List (List ℕ)) × AreReadOf graph.actors texts feeds }
+    ensures told { (texts : List (List ℕ)) → AreReadOf graph.actors texts feeds
+        → IfOk result (λ ran. IsGraphRun order.entry.options.room graph texts order.entry.options.how_long order.entry.options.firings ran.outcome) }
+    ensures sequential { (texts : List (List ℕ)) → AreReadOf graph.actors texts feeds
+        → IfOk result (λ ran. IsSequentialGraphRun order.entry.options.room graph texts order.entry.options.how_long order.entry.options.firings ran.outcome) }
+    ensures kept { IfOk result (λ ran. ran.outcome.journal.keeps ≡ is_some order.entry.journal) }
     ensures alike { IfOk result (λ ran. AreNamedAlike graph ran.graph) }
     ensures apart { OnOk result ((looks : List Act) × Asks (D.acts disk.old) (D.acts disk.new) looks × Apart (listed_files (order_view order.entry) graph.actors) looks) }
-    ensures refused { IfErr result (λ fault. (fault ≡ ToolFault.Memory) ⊎ ((looks : List Act) × Asks (D.acts disk.old) (D.acts disk.new) looks
-        × IsKeptFrom (order_view order.entry) graph (texts_in feeds.now) looks fault)) }
+    ensures refused { (texts : List (List ℕ)) → AreReadOf graph.actors texts feeds
+        → IfErr result (λ fault. (fault ≡ ToolFault.Memory) ⊎ ((looks : List Act) × Asks (D.acts disk.old) (D.acts disk.new) looks
+        × IsKeptFrom (order_view order.entry) graph texts looks fault)) }
     ensures only { OnErr result (OnlyReads (D.acts disk.old) (D.acts disk.new)) }
 {
     keep_apart(rt.alloc(), disk, order, graph.actors())?;
@@ -207,7 +214,7 @@ fn ran_by<R: AllocGlobal + Eprint + Threads + Wait + Sync, D: Disk, I: Intake>(
     reader: &mut I,
 ) -> Result<Ran, ToolFault>
     ensures ran { IfOk result (λ ran. (graph : GraphModel) × (bytes : List ℕ) × (feeds : List (List ℕ))
-        × RunsOn (order_view order.entry) (I.left reader.old) graph bytes feeds ran.texts
+        × RunsOn (order_view order.entry) (I.left reader.old) graph bytes feeds ran.outcome
         × AreNamedAlike graph ran.graph × (looks : List Act) × Apart (listed_files (order_view order.entry) graph.actors) looks
         × Asks (D.acts disk.old) (D.acts disk.new) (run_asks (order_view order.entry) graph bytes feeds looks)) }
     ensures stopped { IfErr result (EndsBeforeFiles (order_view order.entry) (devices (I.left reader.old) (D.acts disk.old) (D.acts disk.new))
@@ -218,24 +225,24 @@ fn ran_by<R: AllocGlobal + Eprint + Threads + Wait + Sync, D: Disk, I: Intake>(
     let alloc = rt.alloc();
     let bytes = graph_bytes(alloc, disk, order.graph, reader)?;
     let graph = read_graph(alloc, &bytes)?;
-    let feeds = feeds_in(alloc, disk, order.folder, graph.actors())?;
-    ran_apart(rt, disk, graph, &feeds, order)
+    let feeds = read_feeds(alloc, disk, order.folder, graph.actors())?;
+    ran_apart(rt, disk, graph, feeds, order)
 }
 
-/// A file that is to be put: its folder, its name there and its text.
+/// A file that is to be put: its folder, its name there and its content.
 #[derive(Drop)]
 struct SinkFile<'a> {
     folder: &'a str,
     name: Name,
-    text: &'a [u8],
+    content: Content<'a>,
 }
 
-/// The text with this number; the empty text where there is none.
-fn text_at(texts: &[Vec<u8>], number: usize) -> &[u8]
-    ensures { result.now ≡ slice_index_or (texts_in texts.now) number [] }
+/// The list with this number; the empty list where there is none.
+fn list_at(lists: &[Vec<i32>], number: usize) -> &[i32]
+    ensures { result.now ≡ slice_index_or (feeds_in lists.now) number [] }
 {
-    match texts.get(number) {
-        Some(text) => text.as_slice(),
+    match lists.get(number) {
+        Some(list) => list.as_slice(),
         None => &[],
     }
 }
@@ -245,20 +252,22 @@ fn sink_files<'a>(
     alloc: Global,
     order: RunWords<'a>,
     actors: &[Actor],
-    texts: &'a [Vec<u8>],
+    lists: &'a [Vec<i32>],
 ) -> Result<Vec<SinkFile<'a>>, AllocError>
     ensures { IfOk result (λ files. map file_view files.items
-        ≡ sink_files (order_view order.entry).sink_folder (map actor_view actors.now) (texts_in texts.entry.now)) }
+        ≡ sink_files_from 0 (order_view order.entry).sink_folder (map actor_view actors.now) (feeds_in lists.entry.now)) }
 {
     let folder = order.sink_folder;
     let mut files = Vec::new(alloc);
-    let mut next = 0;
-    for actor in actors {
-        if is_sink(actor) {
+    for (number, actor) in actors.iter().enumerate() {
+        if actor.kernel.is_sink() {
             let name = Name::with_ending(alloc, actor.name.as_str(), ".out")?;
-            let text = text_at(texts, next);
-            files.push(SinkFile { folder, name, text })?;
-            next += 1;
+            let content = Content::Tokens(list_at(lists, number));
+            files.push(SinkFile {
+                folder,
+                name,
+                content,
+            })?;
         }
     }
     Ok(files)
@@ -268,22 +277,22 @@ fn sink_files<'a>(
 fn journal_file<'a>(
     alloc: Global,
     path: Option<&'a str>,
-    texts: &'a Texts,
+    moves: Option<&'a [u8]>,
 ) -> Result<Option<SinkFile<'a>>, AllocError>
     ensures { IfOk result (λ file. option_to_list (option_map file_view file)
-        ≡ journal_files (option_map (λ p. p.now) path.entry) (option_map (λ t. t.items) texts.entry.now.journal)) }
+        ≡ journal_files (option_map (λ p. p.now) path.entry) (option_map (λ m. m.now) moves.entry)) }
 {
     let Some(path) = path else {
         return Ok(None);
     };
-    let Some(text) = &texts.journal else {
+    let Some(moves) = moves else {
         return Ok(None);
     };
     let name = Name::new(alloc, path)?;
     Ok(Some(SinkFile {
         folder: "",
         name,
-        text: text.as_slice(),
+        content: Content::Bytes(moves),
     }))
 }
 
@@ -292,12 +301,14 @@ fn files_of<'a>(
     alloc: Global,
     order: RunWords<'a>,
     ran: &'a Ran,
+    moves: Option<&'a [u8]>,
 ) -> Result<Vec<SinkFile<'a>>, AllocError>
     ensures { IfOk result (λ files. map file_view files.items
-        ≡ files_of (order_view order.entry) ran.entry.now.graph ran.entry.now.texts) }
+        ≡ sink_files_from 0 (order_view order.entry).sink_folder ran.entry.now.graph.actors (feeds_in ran.entry.now.outcome.sinks.items)
+        ++ journal_files (order_view order.entry).journal (option_map (λ m. m.now) moves.entry)) }
 {
-    let mut files = sink_files(alloc, order, ran.graph.actors(), &ran.texts.sinks)?;
-    if let Some(file) = journal_file(alloc, order.journal, &ran.texts)? {
+    let mut files = sink_files(alloc, order, ran.graph.actors(), &ran.outcome.sinks)?;
+    if let Some(file) = journal_file(alloc, order.journal, moves)? {
         files.push(file)?;
     }
     Ok(files)
@@ -310,12 +321,31 @@ fn put_files<D: Disk>(alloc: Global, disk: &mut D, files: &[SinkFile<'_>]) -> Re
         × IsCutShort (map file_view files.now) acts fault) }
 {
     for file in files {
-        put_file(alloc, disk, file.folder, &file.name, file.text)?;
+        put_file(alloc, disk, file.folder, &file.name, file.content)?;
     }
     Ok(())
 }
 
-/// Puts the text of each sink in the place of its file, in file order, and then the moves in that of
+/// The files of a run, where memory suffices, and puts them in their places.
+fn put_listed<D: Disk>(
+    alloc: Global,
+    disk: &mut D,
+    order: RunWords<'_>,
+    ran: &Ran,
+    moves: Option<&[u8]>,
+) -> Result<(), ToolFault>
+    ensures put { option_map (λ m. m.now) moves.entry ≡ kept_script ran.now.graph ran.now.outcome.journal → OnOk result (Asks (D.acts disk.old) (D.acts disk.new)
+        (map put_whole (files_of (order_view order.entry) ran.now.graph ran.now.outcome))) }
+    ensures cut { option_map (λ m. m.now) moves.entry ≡ kept_script ran.now.graph ran.now.outcome.journal → IfErr result (λ fault. (acts : List Act)
+        × Asks (D.acts disk.old) (D.acts disk.new) acts × IsCutShort (files_of (order_view order.entry) ran.now.graph ran.now.outcome) acts fault) }
+{
+    match files_of(alloc, order, ran, moves) {
+        Ok(files) => put_files(alloc, disk, &files),
+        Err(_) => Err(ToolFault::Memory),
+    }
+}
+
+/// Puts what each sink took in the place of its file, in file order, and then the moves in that of
 /// theirs.
 fn put_sinks<D: Disk>(
     alloc: Global,
@@ -324,23 +354,24 @@ fn put_sinks<D: Disk>(
     ran: &Ran,
 ) -> Result<(), ToolFault>
     ensures put { OnOk result (Asks (D.acts disk.old) (D.acts disk.new)
-        (map put_whole (files_of (order_view order.entry) ran.now.graph ran.now.texts))) }
+        (map put_whole (files_of (order_view order.entry) ran.now.graph ran.now.outcome))) }
     ensures cut { IfErr result (λ fault. (acts : List Act) × Asks (D.acts disk.old) (D.acts disk.new) acts
-        × IsCutShort (files_of (order_view order.entry) ran.now.graph ran.now.texts) acts fault) }
+        × IsCutShort (files_of (order_view order.entry) ran.now.graph ran.now.outcome) acts fault) }
 {
-    match files_of(alloc, order, ran) {
-        Ok(files) => put_files(alloc, disk, &files),
+    match kept_script(alloc, &ran.graph, &ran.outcome.journal) {
+        Ok(Some(moves)) => put_listed(alloc, disk, order, ran, Some(&moves)),
+        Ok(None) => put_listed(alloc, disk, order, ran, None),
         Err(_) => Err(ToolFault::Memory),
     }
 }
 
 /// The report of a run in a form.
 fn report_in(alloc: Global, form: Form, ran: &Ran) -> Result<Vec<u8>, AllocError>
-    ensures { IfOk result (λ text. TellsReport form ran.now.graph ran.now.texts text.items) }
+    ensures { IfOk result (λ text. TellsReport form ran.now.graph ran.now.outcome text.items) }
 {
     match form {
-        Form::Text => Vec::from_slice(alloc, &ran.texts.report),
-        Form::Json => report_object(alloc, &ran.graph, ran.texts.ending, &ran.texts.channels),
+        Form::Text => Ok(printed_report(alloc, &ran.graph, &ran.outcome)?.into_bytes()),
+        Form::Json => report_object(alloc, &ran.graph, ran.outcome.ending, &ran.outcome.report),
     }
 }
 

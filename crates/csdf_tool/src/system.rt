@@ -2,10 +2,13 @@
 
 ghost use Rattle.std.specs.Prelude.{[], ◌∷◌, List, None, Option, is_ok};
 ghost use Rattle.std.specs.Fs.{permissions_mode};
+ghost use Rattle.csdf_tool.specs.Contents.{content_text};
 ghost use Rattle.csdf_tool.specs.SystemCalls.{Call, Called, Follow, Link, Open, Permit, Remove, Rename, See, Write, text_of, unopened_as};
 
+use crate::content::Content;
+use csdf_bytes::{ToWriter, write_tokens};
 use std::fs::{self, Metadata, Permissions};
-use std::io::{self, Read};
+use std::io::{self, ErrorKind, Read, Write};
 use std::path::PathBuf;
 use std::rt::Files;
 
@@ -33,9 +36,9 @@ pub(crate) trait System {
     fn open(&mut self, path: &str) -> io::Result<Self::File>
         ensures { Called (calls self.old) (calls self.new) (Open path.now (unopened_as result) ∷ []) };
 
-    /// Makes a file, or empties the one that is there, and writes these bytes to it.
-    fn write(&mut self, path: &str, bytes: &[u8]) -> io::Result<()>
-        ensures { Called (calls self.old) (calls self.new) (Write path.now bytes.now (is_ok result) ∷ []) };
+    /// Makes a file, or empties the one that is there, and writes this content to it.
+    fn write(&mut self, path: &str, content: Content<'_>) -> io::Result<()>
+        ensures { Called (calls self.old) (calls self.new) (Write path.now (content_text content.entry) (is_ok result) ∷ []) };
 
     /// Gives a file permissions.
     fn set_permissions(&mut self, path: &str, permissions: Permissions) -> io::Result<()>
@@ -76,8 +79,11 @@ impl<R: Files + AllocGlobal> System for HostSystem<'_, R> {
         fs::open(self.0, path)
     }
 
-    fn write(&mut self, path: &str, bytes: &[u8]) -> io::Result<()> {
-        fs::write(self.0, path, bytes)
+    fn write(&mut self, path: &str, content: Content<'_>) -> io::Result<()> {
+        match content {
+            Content::Bytes(bytes) => fs::write(self.0, path, bytes),
+            Content::Tokens(tokens) => write_lines(fs::create(self.0, path)?, tokens),
+        }
     }
 
     fn set_permissions(&mut self, path: &str, permissions: Permissions) -> io::Result<()> {
@@ -90,5 +96,13 @@ impl<R: Files + AllocGlobal> System for HostSystem<'_, R> {
 
     fn remove_file(&mut self, path: &str) -> io::Result<()> {
         fs::remove_file(self.0, path)
+    }
+}
+
+/// Writes the text of tokens to a file.
+fn write_lines<W: Write + Drop>(file: W, tokens: &[i32]) -> io::Result<()> {
+    match write_tokens(&mut ToWriter::new(file), tokens) {
+        Ok(()) => Ok(()),
+        Err(_) => Err(io::Error::from(ErrorKind::Other)),
     }
 }

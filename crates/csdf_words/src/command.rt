@@ -1,12 +1,13 @@
 //! The command line.
 
-ghost use Rattle.std.specs.Prelude.{◌≡◌, ◌≤◌, [], true, false, codes, map, string_bytes, Some, None, Ok, IfErr, IfOk, IfSome, MatchResult, option_map};
+ghost use Rattle.std.specs.Prelude.{◌≡◌, ◌≤◌, [], true, false, codes, map, string_bytes, Some, None, Ok, IfErr, IfOk, IfSome, MatchResult, is_some, option_map};
 ghost use Rattle.clap.specs.Words.{app_of, fault_of, first_of, found_of, kind_of, rows_of, rule_of, subcommand_of, subcommand_rows_of, takes, with_rule, FailsBy};
 ghost use Rattle.clap.specs.declared.builder.command.Command.TheViews.{out-Command as fields_of};
 ghost use Rattle.clap.specs.declared.builder.value_parser.ValueParser.TheVariants.{Unsigned};
 ghost use Rattle.csdf_words.specs.CommandLine.{no_commands, program};
 ghost use Rattle.csdf_words.specs.Rows.{app_of_row, rule_of_row, with_command_row, with_command_rows, with_rows};
 ghost use Rattle.csdf_analysis.specs.Room.{HasSomePeriod};
+ghost use Rattle.csdf_journal.specs.View.{is_kept};
 ghost use Rattle.csdf_words.specs.CommandLine.{Ask, Run, AskForNothing, asked_view, asked_by, asked_of, asked_with, asked, words_ask, IsUnread};
 ghost use Rattle.csdf_words.specs.CommandLine.{form_in, form_of, how_long_of, is_given, number_in, number_of, order_of, order_view, room_in, room_of, word_of, word_or};
 ghost use Rattle.csdf_words.specs.HowLong.{MayBeAsked};
@@ -22,7 +23,9 @@ use clap::error::ErrorKind;
 use clap::{Arg, ArgAction, ArgMatches, Command, Error};
 use csdf_analysis::{Length, Room};
 use csdf_answers::{Form, Question};
+use csdf_journal::Keeping;
 use csdf_model::{MAX_FIRINGS, MAX_PERIODS, MAX_ROOM};
+use csdf_run::RunOptions;
 use std::alloc::{AllocError, Global};
 
 /// What the program is asked to do.
@@ -324,6 +327,17 @@ fn how_long_of(arguments: &ArgMatches<'_>) -> Option<Length>
     }
 }
 
+/// Whether a run keeps its moves: where there is a file for them.
+fn keeping_of(journal: Option<&str>) -> Keeping
+    ensures { is_kept result ≡ is_some journal.entry }
+{
+    if journal.is_some() {
+        Keeping::Kept
+    } else {
+        Keeping::NotKept
+    }
+}
+
 /// The run that the words after `run` ask for, so long and with this room.
 ///
 /// The parser refuses a number out of its range; where one is read all the same, it counts as absent.
@@ -333,15 +347,20 @@ fn order_of<'a>(arguments: &ArgMatches<'a>, room: Room, how_long: Length) -> Run
     ensures { order_view result ≡ order_of (rows_of (found_of arguments.now)) room how_long }
 {
     let folder = word_of(arguments, FOLDER);
-    RunWords {
-        graph: word_of(arguments, GRAPH),
-        folder,
-        sink_folder: word_or(arguments, OUT, folder),
+    let journal = given_of(arguments, JOURNAL);
+    let options = RunOptions {
         workers: number_of(arguments, WORKERS, 1, 8).unwrap_or(1),
         how_long,
         firings: number_of(arguments, FIRINGS, 0, MAX_FIRINGS),
         room,
-        journal: given_of(arguments, JOURNAL),
+        keeping: keeping_of(journal),
+    };
+    RunWords {
+        graph: word_of(arguments, GRAPH),
+        folder,
+        sink_folder: word_or(arguments, OUT, folder),
+        options,
+        journal,
         progress: is_given(arguments, PROGRESS),
         form: form_in(arguments),
     }

@@ -1,12 +1,14 @@
 //! What the commands ask for that take more than a file.
 
-ghost use Rattle.std.specs.Prelude.{◌≤◌};
+ghost use Rattle.std.specs.Prelude.{◌≡◌, ◌≤◌, is_some};
 ghost use Rattle.csdf_analysis.specs.Room.{HasSomePeriod};
+ghost use Rattle.csdf_journal.specs.View.{is_kept};
 ghost use Rattle.csdf_words.specs.Rooms.{HasSomePeriod-prop};
 ghost use Rattle.csdf_words.specs.HowLong.{MayBeAsked, MayBeAsked-prop};
 
-use csdf_analysis::{Length, Room};
+use csdf_analysis::Room;
 use csdf_answers::{Form, Question};
+use csdf_run::RunOptions;
 
 /// A question about the graph of a file.
 #[derive(Clone, Copy)]
@@ -31,22 +33,17 @@ pub struct RunWords<'a> {
     pub folder: &'a str,
     /// The folder that the sinks' files are written to.
     pub sink_folder: &'a str,
-    /// How many workers make firings.
-    pub workers: u32,
-    /// How long the run goes on.
-    pub how_long: Length,
-    /// The most firings of all actors together.
-    pub firings: Option<u32>,
-    /// The room of the channels that have no capacity in the file.
-    pub room: Room,
+    /// How the run is made.
+    pub options: RunOptions,
     /// The file that the run's moves are written to, where they are asked for.
     pub journal: Option<&'a str>,
     /// Whether standard error is to tell how far the run has come.
     pub progress: bool,
     /// The form of the report, and of a fault.
     pub form: Form,
-    ghost some_worker: { 1 ≤ workers },
-    ghost few_workers: { workers ≤ 8 },
-    ghost may_be_asked: { MayBeAsked how_long } by { MayBeAsked-prop how_long },
-    ghost some_room: { HasSomePeriod room } by { HasSomePeriod-prop room },
+    ghost some_worker: { 1 ≤ options.workers },
+    ghost few_workers: { options.workers ≤ 8 },
+    ghost may_be_asked: { MayBeAsked options.how_long } by { MayBeAsked-prop options.how_long },
+    ghost some_room: { HasSomePeriod options.room } by { HasSomePeriod-prop options.room },
+    ghost told: { is_kept options.keeping ≡ is_some journal },
 }

@@ -1,4 +1,4 @@
-use Rattle.std.proofs.Common.{◌≡◌, ap, sym, subst, ◌∙◌, inr}
+use Rattle.std.proofs.Common.{◌≡◌, Bool, ap, sym, subst, ◌∙◌, inr}
 use Rattle.std.specs.Prelude.{IfErr, IfOk}
 use Rattle.std.proofs.lemmas.Result.{IfErr-weaker, IfOk-weaker}
 use Rattle.csdf_analysis.specs.Acceptance.{Accepted}
@@ -9,7 +9,7 @@ use Rattle.csdf_run.specs.Texts.{IsGraphRefusal, texts_in, work_for}
 use Rattle.csdf_run.specs.Causes.{IsCauseAmong}
 use Rattle.csdf_run.proofs.FeedTexts.{as_sequential, can_be_run}
 use Rattle.csdf_run.proofs.RunFaults.{is_run_cause, is_run_fault}
-use Rattle.csdf_run.proofs.Lengths.{may_run}
+use Rattle.csdf_run.proofs.Lengths.{may_over}
 use Rattle.csdf_run.proofs.RoomTexts.{same_in_any_room}
 use Rattle.csdf_run.proofs.texts.run_and_hand_back.Goals as goal
 
@@ -17,29 +17,23 @@ pub new-request-requires-clause-fed : goal.new-request-requires-clause-fed
 new-request-requires-clause-fed g c =
     can_be_run c.in-Ok.fed.accepted.graph (texts_in c.args.feeds.now) (feeds_in c.in-Ok.fed.feeds.items) c.in-Ok.ensures.read.tokens
 
-pub new-request-requires-clause-some_period : goal.new-request-requires-clause-some_period
-new-request-requires-clause-some_period g c =
-    (may_run c.args.options.room c.args.graph c.args.options.how_long c.in-Ok.fed.accepted c.periods_of-periods.result c.requires.goes_on c.periods_of-periods.ensures
-    c.in-Ok.ensures.read.in_room).0
-
-pub new-request-requires-clause-few_firings : goal.new-request-requires-clause-few_firings
-new-request-requires-clause-few_firings g c =
-    (may_run c.args.options.room c.args.graph c.args.options.how_long c.in-Ok.fed.accepted c.periods_of-periods.result c.requires.goes_on c.periods_of-periods.ensures
-    c.in-Ok.ensures.read.in_room).1
+pub new-request-requires-clause-goes_on : goal.new-request-requires-clause-goes_on
+new-request-requires-clause-goes_on g c =
+    may_over c.args.options.room c.args.graph c.args.options.how_long c.in-Ok.fed.accepted c.requires.goes_on c.in-Ok.ensures.read.in_room
 
 pub returns-clause-run : goal.returns-clause-run
 returns-clause-run g c =
     let a = c.in-Ok.fed.accepted in
-    let w : Work = work_for a (feeds_in c.in-Ok.fed.feeds.items) c.periods_of-periods.result c.args.options.firings in
+    let w : Work = work_for a (feeds_in c.in-Ok.fed.feeds.items) c.new-request.ensures.work.0 c.args.options.firings in
     let same : w.accepted.graph ≡ c.graph.result.now =
-    sym (c.graph.ensures.graph ∙ ap (λ (b : Accepted). b.graph) (c.outcome_of-fed.ensures.fed.accepted ∙ ap (λ (x : Work). x.accepted) c.new-request.ensures.work)) in
+    sym (c.graph.ensures.graph ∙ ap (λ (b : Accepted). b.graph) (c.outcome_of-fed.ensures.fed.accepted ∙ ap (λ (x : Work). x.accepted) c.new-request.ensures.work.2)) in
     let outcome : IfOk c.outcome_of-fed.result.outcome (IsOutcome w) =
-    subst (λ (x : Work). IfOk c.outcome_of-fed.result.outcome (IsOutcome x)) c.new-request.ensures.work c.outcome_of-fed.ensures.outcome in
+    subst (λ (x : Work). IfOk c.outcome_of-fed.result.outcome (IsOutcome x)) c.new-request.ensures.work.2 c.outcome_of-fed.ensures.outcome in
     IfOk-weaker c.told_of-texts.result _ _ (λ texts told. record {
       accepted = a;
       feeds = feeds_in c.in-Ok.fed.feeds.items;
-      periods = c.periods_of-periods.result;
-      goes_on = c.periods_of-periods.ensures;
+      periods = c.new-request.ensures.work.0;
+      goes_on = c.new-request.ensures.work.1;
       outcome = told.0;
       read = c.in-Ok.ensures.read;
       told = told.1;
@@ -77,11 +71,12 @@ returns-clause-graph g c =
       c.in-Ok.fed.accepted,
       c.in-Ok.ensures.read.in_room,
       c.into_graph.ensures
-          ∙ ap (λ (b : Accepted). b.graph) (c.outcome_of-fed.ensures.fed.accepted ∙ ap (λ (x : Work). x.accepted) c.new-request.ensures.work),
+          ∙ ap (λ (b : Accepted). b.graph) (c.outcome_of-fed.ensures.fed.accepted ∙ ap (λ (x : Work). x.accepted) c.new-request.ensures.work.2),
     )
 
 pub returns-clause-kept : goal.returns-clause-kept
-returns-clause-kept g c = c.told_of-texts.ensures.kept (is_kept c.args.options.keeping) c.outcome_of-fed.ensures.keeps
+returns-clause-kept g c = c.told_of-texts.ensures.kept (is_kept c.args.options.keeping)
+    (subst (λ (b : Bool). IfOk c.outcome_of-fed.result.outcome (λ o. o.journal.keeps ≡ b)) c.new-request.ensures.keeps c.outcome_of-fed.ensures.keeps)
 
 pub returns-in-Err-clause-cause : goal.returns-in-Err-clause-cause
 returns-in-Err-clause-cause g c = c.in-Err.ensures.cause c.args.options.workers

@@ -1,9 +1,10 @@
 use Rattle.std.proofs.Common.{option_map, ◌∙◌}
 use Rattle.std.specs.Fs.{permissions_mode}
+use Rattle.csdf_tool.specs.Contents.{content_text}
 use Rattle.csdf_tool.proofs.PutLemmas.{taken_away}
 use Rattle.csdf_tool.proofs.putting.put_beside.Goals as goal
 
 pub returns : goal.returns
 returns g c =
-    taken_away (option_map permissions_mode c.args.permissions) c.args.path.now c.args.text.now _ _ c.in-Err.why _ _ _ _
+    taken_away (option_map permissions_mode c.args.permissions) c.args.path.now (content_text c.args.content) _ _ c.in-Err.why _ _ _ _
     (c.as_str.ensures.value ∙ c.in-Ok.ensures) (c.as_str-in-Err.ensures.value ∙ c.in-Ok.ensures) c.in-Err.ensures c.remove_file.ensures

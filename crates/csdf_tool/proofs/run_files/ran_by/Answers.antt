@@ -1,7 +1,6 @@
-use Rattle.std.proofs.Common.{ap, map, refl, sym, subst, inl}
+use Rattle.std.proofs.Common.{map, refl, sym, subst, inl}
 use Rattle.std.proofs.lemmas.Result.{IfErr-weaker}
 use Rattle.csdf_model.specs.Graph.{actor_view}
-use Rattle.csdf_run.specs.Texts.{texts_in}
 use Rattle.csdf_words.specs.CommandLine.{order_view}
 use Rattle.csdf_tool.specs.GraphFiles.{IsNamed}
 use Rattle.csdf_answers.specs.Faults.{fault_of}
@@ -10,6 +9,7 @@ use Rattle.csdf_answers.specs.declared.fault.ToolFault.TheVariants.{Device}
 use Rattle.csdf_tool.proofs.CauseLemmas.{err_as}
 use Rattle.csdf_tool.proofs.FaultLemmas.{gives_none}
 use Rattle.csdf_tool.proofs.RunLemmas.{both_errs, graph_ends, is_some-map, lacks_ends, kept_ends, ran_of_file, reads_asked, stops_by_feed, stops_by_graph, stops_by_run}
+use Rattle.csdf_tool.proofs.TokenLemmas.{read_as}
 use Rattle.csdf_answers.proofs.ToldLemmas.{if_err_fault}
 use Rattle.csdf_tool.proofs.run_files.ran_by.Goals as goal
 
@@ -43,25 +43,35 @@ returns-in_err-feeds-clause-stopped g c =
 pub returns-clause-stopped : goal.returns-clause-stopped
 returns-clause-stopped g c =
     let left = g.I.Intake.left c.args.reader.now in
+    let texts = c.in_ok-feeds.ensures.read.0 in
+    let all = c.in_ok-feeds.ensures.read.1 in
+    let read = read_as c.in_ok-graph.graph (map actor_view c.actors.result.now) texts c.in_ok-feeds.feeds c.actors.ensures.value c.in_ok-feeds.ensures.read.2 in
     IfErr-weaker c.ran_apart.result _ _ (λ fault both.
     stops_by_run (order_view c.args.order) left _ c.in_ok-bytes.bytes.items c.deref.result.now (sym c.deref.ensures.value) c.in_ok-bytes.ensures.named fault
     _ _ _ c.in_ok-bytes.ensures.read c.in_ok-graph.graph c.in_ok-graph.ensures (map actor_view c.actors.result.now) c.actors.ensures.value
-    (texts_in c.in_ok-feeds.feeds.items) (texts_in c.deref-2.result.now) (ap texts_in (sym c.deref-2.ensures.value)) c.in_ok-feeds.ensures.read
-    c.in_ok-feeds.ensures.each _ both.0 both.1) (both_errs c.ran_apart.result _ _ c.ran_apart.ensures.only c.ran_apart.ensures.refused)
+    texts texts refl all.asked all.each _ both.0 both.1) (both_errs c.ran_apart.result _ _ c.ran_apart.ensures.only (c.ran_apart.ensures.refused texts read))
 
 pub returns-clause-ran : goal.returns-clause-ran
 returns-clause-ran g c =
     let seen = c.deref.result.now in
     let graph = c.in_ok-graph.graph in
-    let read = c.in_ok-graph.ensures in
     let left = g.I.Intake.left c.args.reader.now in
+    let texts = c.in_ok-feeds.ensures.read.0 in
+    let all = c.in_ok-feeds.ensures.read.1 in
+    let read = read_as graph (map actor_view c.actors.result.now) texts c.in_ok-feeds.feeds c.actors.ensures.value c.in_ok-feeds.ensures.read.2 in
     let named = subst (λ bytes. IsNamed c.args.order.graph.now left bytes) (sym c.deref.ensures.value) c.in_ok-bytes.ensures.named in
     let asked = reads_asked (order_view c.args.order) graph c.in_ok-bytes.bytes.items seen (map actor_view c.actors.result.now)
-    (texts_in c.in_ok-feeds.feeds.items) (texts_in c.deref-2.result.now) _ _ _ c.in_ok-bytes.ensures.read c.in_ok-feeds.ensures.read
-    (sym c.deref.ensures.value) c.actors.ensures.value (ap texts_in (sym c.deref-2.ensures.value)) in
-    ran_of_file (order_view c.args.order) left graph seen (texts_in c.deref-2.result.now) _ _ _ _ c.ran_apart.result named read asked
-    (is_some-map c.args.order.journal) c.ran_apart.ensures.told c.ran_apart.ensures.sequential c.ran_apart.ensures.kept c.ran_apart.ensures.alike
-    c.ran_apart.ensures.apart
+    texts texts _ _ _ c.in_ok-bytes.ensures.read all.asked (sym c.deref.ensures.value) c.actors.ensures.value refl in
+    ran_of_file (order_view c.args.order) left graph seen texts _ _ _ _ c.ran_apart.result named c.in_ok-graph.ensures asked
+    (is_some-map c.args.order.journal) (c.ran_apart.ensures.told texts read) (c.ran_apart.ensures.sequential texts read) c.ran_apart.ensures.kept
+    c.ran_apart.ensures.alike c.ran_apart.ensures.apart
+
+pub ran_apart-requires-clause-read : goal.ran_apart-requires-clause-read
+ran_apart-requires-clause-read g c = λ κs within. (
+  c.in_ok-feeds.ensures.read.0,
+  read_as c.in_ok-graph.graph (map actor_view c.actors.result.now) c.in_ok-feeds.ensures.read.0 c.in_ok-feeds.feeds c.actors.ensures.value
+      c.in_ok-feeds.ensures.read.2,
+)
 
 pub returns-in_err-bytes-clause-ran : goal.returns-in_err-bytes-clause-ran
 returns-in_err-bytes-clause-ran g c = gives_none c.from_residual.result c.in_err-bytes.field-0.0 _ c.from_residual.ensures.1
@@ -103,5 +113,7 @@ returns-clause-input g c = λ is failed.
 
 pub returns-clause-other : goal.returns-clause-other
 returns-clause-other g c =
-    IfErr-weaker c.ran_apart.result _ _
-    (λ fault kept. kept_ends (order_view c.args.order) c.in_ok-graph.graph (texts_in c.deref-2.result.now) _ _ fault kept) c.ran_apart.ensures.refused
+    let texts = c.in_ok-feeds.ensures.read.0 in
+    let read = read_as c.in_ok-graph.graph (map actor_view c.actors.result.now) texts c.in_ok-feeds.feeds c.actors.ensures.value c.in_ok-feeds.ensures.read.2 in
+    IfErr-weaker c.ran_apart.result _ _ (λ fault kept. kept_ends (order_view c.args.order) c.in_ok-graph.graph texts _ _ fault kept)
+    (c.ran_apart.ensures.refused texts read)

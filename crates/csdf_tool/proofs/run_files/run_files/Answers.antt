@@ -34,13 +34,13 @@ returns-in_err-put_sinks-clause-ended g c =
       bytes = ran.1;
       feeds = ran.2;
       looks = ran.5;
-      texts = c.in_ok-ran.ran.texts;
+      outcome = c.in_ok-ran.ran.outcome;
       puts = cut.0;
       apart = ran.6;
       runs = ran.3;
       files = asks_more _ _ _ _ _ ran.7 cut.1;
       cut = subst (λ (files : List Written). IsCutShort files cut.0 c.in_err-put_sinks.field-0.0)
-          (files_alike (order_view c.args.order) ran.0 c.in_ok-ran.ran.graph c.in_ok-ran.ran.texts ran.4) cut.2;
+          (files_alike (order_view c.args.order) ran.0 c.in_ok-ran.ran.graph c.in_ok-ran.ran.outcome ran.4) cut.2;
     })))
 
 pub returns-in-Ok-clause-written : goal.returns-in-Ok-clause-written
@@ -51,12 +51,12 @@ returns-in-Ok-clause-written g c =
       bytes = ran.1;
       feeds = ran.2;
       looks = ran.5;
-      texts = c.in_ok-ran.ran.texts;
+      outcome = c.in_ok-ran.ran.outcome;
       apart = ran.6;
       runs = ran.3;
-      files = puts_alike _ _ _ (order_view c.args.order) ran.0 c.in_ok-ran.ran.graph ran.1 ran.2 ran.5 c.in_ok-ran.ran.texts ran.4 ran.7 c.in_ok-put_sinks.ensures.put;
+      files = puts_alike _ _ _ (order_view c.args.order) ran.0 c.in_ok-ran.ran.graph ran.1 ran.2 ran.5 c.in_ok-ran.ran.outcome ran.4 ran.7 c.in_ok-put_sinks.ensures.put;
       report = c.in_ok-report.report.items;
-      tells = report_alike c.args.order.form ran.0 c.in_ok-ran.ran.graph c.in_ok-ran.ran.texts c.in_ok-report.report.items ran.4 c.in_ok-report.ensures;
+      tells = report_alike c.args.order.form ran.0 c.in_ok-ran.ran.graph c.in_ok-ran.ran.outcome c.in_ok-report.report.items ran.4 c.in_ok-report.ensures;
       written = subst (Appends _ _) c.deref.ensures.value c.in-Ok.ensures.written;
     }
 
@@ -71,10 +71,10 @@ returns-clause-ended g c =
         bytes = ran.1;
         feeds = ran.2;
         looks = ran.5;
-        texts = c.in_ok-ran.ran.texts;
+        outcome = c.in_ok-ran.ran.outcome;
         apart = ran.6;
         runs = ran.3;
-        files = puts_alike _ _ _ (order_view c.args.order) ran.0 c.in_ok-ran.ran.graph ran.1 ran.2 ran.5 c.in_ok-ran.ran.texts ran.4 ran.7
+        files = puts_alike _ _ _ (order_view c.args.order) ran.0 c.in_ok-ran.ran.graph ran.1 ran.2 ran.5 c.in_ok-ran.ran.outcome ran.4 ran.7
             c.in_ok-put_sinks.ensures.put;
       },
     ))
