@@ -25,7 +25,6 @@ mod same;
 mod settling;
 mod work;
 
-pub use csdf_model::channel_name;
 pub use draft::Draft;
 pub use ending::Ending;
 pub use exact::are_exact;
