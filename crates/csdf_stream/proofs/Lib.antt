@@ -1,0 +1,9 @@
+pub mod EndLemmas
+pub mod Examples
+pub mod FeedLemmas
+pub mod FlowLemmas
+pub mod LengthLemmas
+pub mod PortLemmas
+pub mod ReadLemmas
+pub mod StandLemmas
+pub mod WriteLemmas

@@ -1,0 +1,5 @@
+//! Streams from devices to devices, in memory.
+#![tactic(auto)]
+
+#[cfg(test)]
+mod flow_tests;
