@@ -37,7 +37,7 @@ use Rattle.csdf_stream.specs.Lengths.{IsUsualLength}
 use Rattle.csdf_stream.specs.Ports.{sinks_in, sources_in}
 use Rattle.csdf_stream.specs.Reading.{Reads, fresh}
 use Rattle.csdf_stream.specs.Writing.{bytes_in, clipped_in, of_sink}
-use Rattle.csdf_stream.proofs.FlowLemmas.{alike_all, begun_on, bytes_more, capped_sum, clipped_more, fed_more, no_bytes, none_clipped, sunk_more}
+use Rattle.csdf_stream.proofs.FlowLemmas.{alike_all, begun_on, bytes_more, capped_sum, clipped_more, fed_more, no_bytes, none_clipped, sunk_more, one_run}
 use Rattle.csdf_stream.proofs.ReadLemmas.{reads_add, reads_none}
 use Rattle.csdf_stream.proofs.StandLemmas.{IsLeft, Stands, alike_now, feeds_back, left_done, on_sinks, on_sources, sink_list}
 
@@ -165,6 +165,7 @@ module _ (a : Accepted) (p : Plan) (asked : Option ℕ) (d now : Devices) (past 
     readers = new.buffers.readers.items;
     whole = stands.stream.whole;
     played = told.played;
+    one = one_run a past g stands.stream.whole told.played;
     run = λ actors sequential. subst (λ (e : Ending). IsAsLongRun a past g e actors) (sym ending) (on.stretch.run a past actors stands.stream sequential);
     read = subst (λ (f : TokenFormat). HaveRead f (sources_in a.graph) (past ++ g ∷ []) new.buffers.readers.items (onward d now)) same
         (subst (λ (xs : List ℕ). HaveRead p.format xs (past ++ g ∷ []) new.buffers.readers.items (onward d now)) ready.sources read_on);

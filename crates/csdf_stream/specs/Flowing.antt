@@ -6,7 +6,7 @@ use Rattle.csdf_analysis.specs.Acceptance.{Accepted}
 use Rattle.csdf_core.specs.State.{present}
 use Rattle.csdf_floor.specs.declared.ending.Ending.{Ending}
 use Rattle.csdf_floor.specs.declared.ending.Ending.TheVariants.{Complete}
-use Rattle.csdf_floor.specs.Continuing.{AreExact, AreWhole, IsPlayed, Segment, at_last, beyond, end_of, long_run, periods_of, program_of, sink_in}
+use Rattle.csdf_floor.specs.Continuing.{AreExact, AreWhole, IsPlayed, Segment, at_last, beyond, end_of, feeds_of, long_run, periods_of, program_of, sink_in, sink_in_all}
 use Rattle.csdf_floor.specs.Endings.{IsEnding}
 use Rattle.csdf_floor.specs.Outcome.{report_on}
 use Rattle.csdf_floor.specs.Sequential.{IsSequential}
@@ -86,6 +86,11 @@ pub record IsBegun (before after : Option (List ℕ)) (whole more : List ℕ) : 
 abbrev pub AreAllPeriods : Option ℕ → ℕ → Type 0
 AreAllPeriods asked n = asked ≡ Some n
 
+-- put end to end, the tokens of all segments are those of the long run, and what a sink took in each is what it took in all
+pub record AreOneRun (a : Accepted) (past : List Segment) (last : Segment) : Type 0 where
+  pub fed_alike : (i : ℕ) → fed (past ++ last ∷ []) i ≡ feed_of (feeds_of past last) i
+  pub sunk_alike : (t : ℕ) → sunk a (past ++ last ∷ []) t ≡ sink_in_all a t past last
+
 -- why no firing follows: all the periods that are asked for were run; or a source's device has no more tokens; or the segment ended otherwise
 pub record IsOver (asked : Option ℕ) (a : Accepted) (past : List Segment) (last : Segment) (ending : Ending) (readers : List Reader) (d : Devices) : Type 0 where
   pub ends : IsEnding (program_of (at_last a past) last).plan (present (end_of (at_last a past) last)) ending
@@ -100,6 +105,7 @@ pub record IsStreamed (a : Accepted) (format : TokenFormat) (asked : Option ℕ)
   pub readers : List Reader
   pub whole : AreWhole a past
   pub played : IsPlayed (at_last a past) last
+  pub one : AreOneRun a past last
   pub run : (actors : List ℕ) → IsSequential (long_run a past last) actors → IsAsLongRun a past last end.ending actors
   pub read : HaveRead format (sources_in a.graph) (past ++ last ∷ []) readers d
   pub written : HaveWritten format a (sinks_in a.graph) (past ++ last ∷ []) d
