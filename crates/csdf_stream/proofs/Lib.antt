@@ -3,6 +3,7 @@ pub mod Examples
 pub mod FeedLemmas
 pub mod FlowLemmas
 pub mod LengthLemmas
+pub mod MarkLemmas
 pub mod PortLemmas
 pub mod ReadLemmas
 pub mod StandLemmas

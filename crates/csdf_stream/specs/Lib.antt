@@ -2,6 +2,7 @@ pub mod Feeding
 pub mod Flowing
 pub mod Formats
 pub mod Lengths
+pub mod Marks
 pub mod Ports
 pub mod Printed
 pub mod Reading

@@ -4,6 +4,7 @@ ghost use Rattle.std.specs.Prelude.{◌≡◌, ◌⊎◌, ◌++◌, ◌*◌, ◌
 ghost use Rattle.csdf_floor.specs.Continuing.{given_in};
 ghost use Rattle.csdf_floor.specs.Work.{AreFeeds, HasFewFirings, feed_of, feeds_in};
 ghost use Rattle.csdf_stream.specs.Feeding.{AreFull, AreRead, IsFullFor, IsUnfed};
+ghost use Rattle.csdf_stream.specs.Marks.{IsReadMarked};
 ghost use Rattle.csdf_stream.specs.Ports.{sources_in};
 ghost use Rattle.csdf_stream.specs.Reading.{HasEnded, Reads};
 
@@ -51,6 +52,7 @@ pub(crate) fn fill_feeds<R: Wait, I: Intake>(
     ensures fed { AreFeeds accepted.now.graph (feeds_in feeds.new) }
     ensures full { OnOk result (AreFull accepted.now periods sources.now readers.new (map I.left devices.new) (feeds_in feeds.new)) }
     ensures unfed { IfErr result (IsUnfed accepted.now periods sources.now readers.new (map I.left devices.new)) }
+    ensures marked { IfErr result (IsReadMarked sources.now (map I.failed devices.new)) }
 {
     let firings = accepted.vector().q.as_slice();
     for k in 0..sources.len() {

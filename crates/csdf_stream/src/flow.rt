@@ -7,6 +7,7 @@ ghost use Rattle.csdf_run.specs.Streaming.{StandsAfter};
 ghost use Rattle.csdf_stream.specs.Feeding.{AreFull, AreRead, IsUnfed};
 ghost use Rattle.csdf_stream.specs.Flowing.{AreBuffersFor, GoesOnTo, IsAlike, IsNoneFed, IsPlanOf, IsReady, IsSegmentOf, IsStopped, IsStreamed, IsUnfedBy, StopsAt, devices};
 ghost use Rattle.csdf_stream.specs.Lengths.{left_after, shortest};
+ghost use Rattle.csdf_stream.specs.Marks.{IsMarked, IsReadMarked};
 ghost use Rattle.csdf_stream.specs.Ports.{sinks_in, sources_in};
 ghost use Rattle.csdf_stream.specs.Reading.{fresh};
 
@@ -159,6 +160,7 @@ fn read_segment<R: Wait, I: Intake>(
     ensures segment { IfOk result (IsSegmentOf accepted.now plan.now left) }
     ensures full { IfOk result (λ periods. AreFull accepted.now periods plan.now.sources.items readers.new (map I.left intakes.new) (feeds_in feeds.new)) }
     ensures unfed { IfErr result (IsUnfedBy accepted.now plan.now readers.new (map I.left intakes.new)) }
+    ensures marked { IfErr result (IsReadMarked plan.now.sources.items (map I.failed intakes.new)) }
 {
     let usual = at_most(plan.usual, left);
     fill_feeds(rt, accepted, usual, &plan.sources, readers, intakes, feeds)?;
@@ -219,6 +221,7 @@ fn advance<R: Threads + Wait + Sync, I: Intake, O: Outlet, G: Gate>(
         (map O.written outlets.old) (map O.written outlets.new))) }
     ensures stops { IfErr result.1 (StopsAt plan.now flow result.0 (devices (map I.left intakes.old) (map I.left intakes.new)
         (map O.written outlets.old) (map O.written outlets.new))) }
+    ensures marked { IfErr result.1 (IsMarked plan.now.sources.items plan.now.sinks.items (map I.failed intakes.new) (map O.failed outlets.new)) }
 {
     let Flow {
         stream,
@@ -345,6 +348,8 @@ fn run_new<R: Threads + Wait + Sync, I: Intake, O: Outlet, G: Gate>(
         (devices (map I.left intakes.old) (map I.left intakes.new) (map O.written outlets.old) (map O.written outlets.new))) }
     ensures stopped { IfErr result.end (IsStopped stream.accepted options.format options.workers
         (devices (map I.left intakes.old) (map I.left intakes.new) (map O.written outlets.old) (map O.written outlets.new))) }
+    ensures marked { IfErr result.end (IsMarked (sources_in stream.accepted.graph) (sinks_in stream.accepted.graph)
+        (map I.failed intakes.new) (map O.failed outlets.new)) }
     ensures alike { IsAlike stream.accepted result.stream.accepted }
 {
     let plan = match plan_of(alloc, stream.accepted(), options) {
@@ -414,6 +419,8 @@ pub fn run_stream<R: Threads + Wait + Sync, I: Intake, O: Outlet, G: Gate>(
         (devices (map I.left intakes.old) (map I.left intakes.new) (map O.written outlets.old) (map O.written outlets.new)))) }
     ensures stopped { IfOk result (λ run. IfErr run.end (IsStopped accepted options.format options.workers
         (devices (map I.left intakes.old) (map I.left intakes.new) (map O.written outlets.old) (map O.written outlets.new)))) }
+    ensures marked { IfOk result (λ run. IfErr run.end (IsMarked (sources_in accepted.graph) (sinks_in accepted.graph)
+        (map I.failed intakes.new) (map O.failed outlets.new))) }
     ensures alike { IfOk result (λ run. IsAlike accepted run.stream.accepted) }
     ensures unread { OnErr result ((intakes.new ≡ intakes.old) × (outlets.new ≡ outlets.old)) }
 {

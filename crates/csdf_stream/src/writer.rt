@@ -4,6 +4,7 @@ ghost use Rattle.std.specs.Prelude.{◌≡◌, ◌<◌, ℕ, [], true, length, m
 ghost use Rattle.std.specs.Io.KnownBytes.{Appends};
 ghost use Rattle.csdf_bytes.specs.Device.{EmitsSome};
 ghost use Rattle.csdf_floor.specs.Work.{feeds_in};
+ghost use Rattle.csdf_stream.specs.Marks.{HasFailed};
 ghost use Rattle.csdf_stream.specs.Writing.{AreBegun, AreClipped, AreWritten, bytes_in, clipped_in};
 
 use crate::options::TokenFormat;
@@ -55,6 +56,7 @@ pub(crate) fn write_sinks<O: Outlet>(
     ensures many { (length devices.new ≡ length devices.old) × (length clipped.new ≡ length clipped.old) }
     ensures begun { OnErr result (AreBegun format sinks.now (feeds_in lists.now) (map O.written devices.old) (map O.written devices.new)) }
     ensures failed { IfErr result (λ t. (k : ℕ) × (k < length sinks.now) × (slice_index_or sinks.now k t ≡ t)) }
+    ensures marked { IfErr result (HasFailed sinks.now (map O.failed devices.new)) }
 {
     for k in 0..sinks.len() {
         let tokens = list_at(lists, sinks[k]);

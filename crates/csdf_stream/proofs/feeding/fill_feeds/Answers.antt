@@ -2,6 +2,9 @@ use Rattle.std.proofs.Common.{◌*◌, ℕ, List, length, get_or, ap, refl, ◌�
 use Rattle.std.proofs.lemmas.List.{length-map, length-set}
 use Rattle.csdf_floor.specs.Continuing.{given_in}
 use Rattle.csdf_stream.proofs.FeedLemmas.{feeds_filled, few_filled, full_filled, read_filled, source_within, unfed_filled}
+use Rattle.std.specs.Prelude.{Err}
+use Rattle.csdf_stream.specs.declared.reader.ReaderFault.{ReaderFault}
+use Rattle.csdf_stream.proofs.MarkLemmas.{marked_at}
 use Rattle.csdf_stream.proofs.feeding.fill_feeds.Goals as goal
 
 pub bounds-firings-actor : goal.bounds-firings-actor
@@ -42,6 +45,12 @@ returns-in-Err-clause-unfed g c =
     (omega (arith, c.loop-k-test.true, c.requires.readers, c.loop-k.invariant.readers)) (omega (arith, c.loop-k-test.true, c.requires.devices, c.loop-k.invariant.devices))
     c.loop-k.invariant.fed c.fill.new.self c.index-readers-k.result c.fill.new.device c.index-devices-k.result c.fill.new.tokens c.index-feeds-actor.result
     c.fill.ensures.given.0 c.fill.ensures.given.1 c.fill.ensures.given.2 c.args.periods _ c.in-Err.fault refl c.in-Err.ensures.fault
+
+pub returns-in-Err-clause-marked : goal.returns-in-Err-clause-marked
+returns-in-Err-clause-marked g c =
+    marked_at g.I.Intake.failed c.args.sources.now c.loop-k.devices c.loop-k.k c.fill.new.device c.loop-k-test.true
+    (omega (arith, c.loop-k-test.true, c.requires.devices, c.loop-k.invariant.devices)) c.in-Err.fault
+    (λ e. c.in-Err.ensures.marked (ap (λ (why : ReaderFault). Err why) e))
 
 pub loop-k-preserved : goal.loop-k-preserved
 loop-k-preserved g c =

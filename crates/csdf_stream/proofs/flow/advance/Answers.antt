@@ -12,7 +12,9 @@ use Rattle.csdf_run.specs.Streaming.{IsStretch}
 use Rattle.csdf_stream.specs.Feeding.{AreFull, source_at}
 use Rattle.csdf_stream.specs.Flowing.{IsNoneFed, IsSegmentOf, IsUnfedBy}
 use Rattle.csdf_stream.specs.Writing.{AreBegun, AreClipped, AreWritten}
+use Rattle.csdf_stream.specs.Marks.{HasFailed}
 use Rattle.csdf_stream.proofs.EndLemmas.{fed_none, read_clear, sink_found, stops_unfed}
+use Rattle.csdf_stream.proofs.MarkLemmas.{marked_read}
 use Rattle.csdf_stream.proofs.flow.advance.Goals as goal
 
 pub read_segment-requires-clause-fed : goal.read_segment-requires-clause-fed
@@ -42,6 +44,12 @@ returns-in-Err-clause-stops g c =
     (subst (λ (xs : List Reader). IsUnfedBy c.args.flow.stream.accepted c.args.plan.now xs (map g.I.Intake.left c.read_segment.new.intakes) c.in-Err.fault) (sym rs)
     (subst (λ (a : Accepted). IsUnfedBy a c.args.plan.now c.read_segment.new.readers (map g.I.Intake.left c.read_segment.new.intakes) c.in-Err.fault) c.accepted.ensures
     c.in-Err.ensures.unfed))
+
+pub returns-in-Err-clause-marked : goal.returns-in-Err-clause-marked
+returns-in-Err-clause-marked g c =
+    marked_read c.accepted.result.now c.args.plan.now c.read_segment.new.readers (map g.I.Intake.left c.read_segment.new.intakes)
+    c.args.plan.now.sources.items c.args.plan.now.sinks.items (map g.I.Intake.failed c.read_segment.new.intakes) (map g.O.Outlet.failed c.args.outlets.now)
+    c.in-Err.fault c.in-Err.ensures.unfed c.in-Err.ensures.marked
 
 pub segment-stream-requires-clause-few_firings : goal.segment-stream-requires-clause-few_firings
 segment-stream-requires-clause-few_firings g c κs within =
@@ -144,3 +152,8 @@ returns-in-Err-written-clause-stops g c =
           c.in-Err-written.ensures.begun);
       sink = sink_found c.deref.result.now c.args.plan.now.sinks.items _ c.deref.ensures.value c.in-Err-written.ensures.failed;
     }
+
+pub returns-in-Err-written-clause-marked : goal.returns-in-Err-written-clause-marked
+returns-in-Err-written-clause-marked g c =
+    subst (λ (xs : List ℕ). HasFailed xs (map g.O.Outlet.failed c.write_sinks-written.new.devices) c.in-Err-written.sink) c.deref.ensures.value
+    c.in-Err-written.ensures.marked

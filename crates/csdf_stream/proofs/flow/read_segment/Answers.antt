@@ -2,6 +2,7 @@ use Rattle.std.proofs.Common.{◌≤◌, ℕ, List, inr, map, subst, sym}
 use Rattle.csdf_floor.specs.Work.{HasFewFirings, feeds_in}
 use Rattle.csdf_stream.specs.Feeding.{AreFull, AreRead}
 use Rattle.csdf_stream.specs.Flowing.{IsUnfedBy}
+use Rattle.csdf_stream.specs.Marks.{IsReadMarked}
 use Rattle.csdf_stream.proofs.FeedLemmas.{if_unfed, read_twice, unfed_by}
 use Rattle.csdf_stream.proofs.LengthLemmas.{few_shortest, some_shortest}
 use Rattle.csdf_stream.proofs.flow.read_segment.Goals as goal
@@ -24,6 +25,13 @@ returns-in_err-fill_feeds-2-clause-unfed g c =
     c.from_residual-in_err-fill_feeds-2.ensures.1
     (unfed_by c.args.accepted.now c.args.plan.now c.at_most-last.result c.deref-2.result.now c.fill_feeds-2.new.readers (map g.I.Intake.left c.fill_feeds-2.new.devices)
     c.in_err-fill_feeds-2.field-0.0 c.deref-2.ensures.value c.in_err-fill_feeds-2.ensures.unfed)
+
+pub returns-in_err-fill_feeds-2-clause-marked : goal.returns-in_err-fill_feeds-2-clause-marked
+returns-in_err-fill_feeds-2-clause-marked g c =
+    if_unfed _ c.in_err-fill_feeds-2.field-0.0 (IsReadMarked c.args.plan.now.sources.items (map g.I.Intake.failed c.fill_feeds-2.new.devices))
+    c.from_residual-in_err-fill_feeds-2.ensures.1
+    (subst (λ (xs : List ℕ). IsReadMarked xs (map g.I.Intake.failed c.fill_feeds-2.new.devices) c.in_err-fill_feeds-2.field-0.0) c.deref-2.ensures.value
+    c.in_err-fill_feeds-2.ensures.marked)
 
 pub returns-clause-read : goal.returns-clause-read
 returns-clause-read g c =

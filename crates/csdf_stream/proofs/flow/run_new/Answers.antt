@@ -6,6 +6,8 @@ use Rattle.csdf_analysis.specs.Acceptance.{Accepted}
 use Rattle.csdf_run.specs.Streaming.{StandsAfter, StreamView}
 use Rattle.csdf_stream.specs.declared.reader.Reader.{Reader}
 use Rattle.csdf_stream.specs.Flowing.{GoesOnTo, IsAlike, IsPlanOf, IsStreamed, StopsAt, devices}
+use Rattle.csdf_stream.specs.Marks.{IsMarked}
+use Rattle.csdf_stream.specs.Ports.{sinks_in}
 use Rattle.csdf_stream.specs.Reading.{fresh}
 use Rattle.csdf_stream.proofs.EndLemmas.{alike_on, alike_stopped, fed_none, not_last, not_over, onward, plan_ready, stands_first, stands_next, stopped_first, stopped_of, streamed_of}
 use Rattle.csdf_stream.proofs.StandLemmas.{IsLeft, buffers_now, left_first, left_next, left_some, ready_now}
@@ -81,3 +83,12 @@ pub returns-in-Err-answer-clause-alike : goal.returns-in-Err-answer-clause-alike
 returns-in-Err-answer-clause-alike g c =
     alike_stopped c.args.stream.accepted c.in-Ok.plan c.args.options.periods (devices (map g.I.Intake.left c.args.intakes.now) (map g.I.Intake.left c.loop.intakes) (map g.O.Outlet.written c.args.outlets.now) (map g.O.Outlet.written c.loop.outlets)) c.loop.invariant.past c.loop.flow c.requires.new.accepted (plan_ready c.args.stream.accepted c.args.options c.in-Ok.plan (subst (λ (a : Accepted). IsPlanOf a c.args.options c.in-Ok.plan) c.accepted.ensures c.in-Ok.ensures)) c.loop.invariant.stands c.advance-next.result.0 (devices (map g.I.Intake.left c.loop.intakes) (map g.I.Intake.left c.advance-next.new.intakes) (map g.O.Outlet.written c.loop.outlets) (map g.O.Outlet.written c.advance-next.new.outlets))
     c.in-Err-answer.fault (IfErr-at_err (StopsAt c.in-Ok.plan c.loop.flow c.advance-next.result.0 (devices (map g.I.Intake.left c.loop.intakes) (map g.I.Intake.left c.advance-next.new.intakes) (map g.O.Outlet.written c.loop.outlets) (map g.O.Outlet.written c.advance-next.new.outlets))) c.in-Err-answer.is c.advance-next.ensures.stops)
+
+pub returns-in-Err-answer-clause-marked : goal.returns-in-Err-answer-clause-marked
+returns-in-Err-answer-clause-marked g c =
+    let ins = map g.I.Intake.failed c.advance-next.new.intakes in
+    let outs = map g.O.Outlet.failed c.advance-next.new.outlets in
+    let is = subst (λ (a : Accepted). IsPlanOf a c.args.options c.in-Ok.plan) c.accepted.ensures c.in-Ok.ensures in
+    subst (λ (xs : List ℕ). IsMarked xs (sinks_in c.args.stream.accepted.graph) ins outs c.in-Err-answer.fault) is.sources
+    (subst (λ (xs : List ℕ). IsMarked c.in-Ok.plan.sources.items xs ins outs c.in-Err-answer.fault) is.sinks
+    (IfErr-at_err (IsMarked c.in-Ok.plan.sources.items c.in-Ok.plan.sinks.items ins outs) c.in-Err-answer.is c.advance-next.ensures.marked))

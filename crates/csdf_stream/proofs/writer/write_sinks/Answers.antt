@@ -4,6 +4,7 @@ use Rattle.csdf_floor.specs.Work.{feeds_in}
 use Rattle.csdf_run.specs.Totals.{capped}
 use Rattle.csdf_stream.specs.Writing.{clipped_in}
 use Rattle.csdf_stream.proofs.WriteLemmas.{begun_put, clipped_next, written_put}
+use Rattle.csdf_stream.proofs.MarkLemmas.{failed_at}
 use Rattle.csdf_stream.proofs.writer.write_sinks.Goals as goal
 
 pub returns-in-Err-clause-begun : goal.returns-in-Err-clause-begun
@@ -11,6 +12,11 @@ returns-in-Err-clause-begun g c =
     begun_put g.O.Outlet.written c.args.format c.args.sinks.now (feeds_in c.args.lists.now) _ c.loop-k.devices c.loop-k.k
     c.write_in.new.device c.index-devices-k.result (omega (arith, c.loop-k-test.true, c.requires.devices, c.loop-k.invariant.devices)) c.loop-k.invariant.written
     c.list_at-tokens.result.now c.list_at-tokens.ensures c.in-Err.ensures.begun
+
+pub returns-in-Err-clause-marked : goal.returns-in-Err-clause-marked
+returns-in-Err-clause-marked g c =
+    failed_at g.O.Outlet.failed c.args.sinks.now c.loop-k.devices c.loop-k.k c.write_in.new.device c.loop-k-test.true
+    (omega (arith, c.loop-k-test.true, c.requires.devices, c.loop-k.invariant.devices)) c.in-Err.ensures.marked
 
 pub loop-k-preserved : goal.loop-k-preserved
 loop-k-preserved g c = record {
