@@ -8,6 +8,8 @@ use Rattle.csdf_bytes.specs.declared.intake.InputFault.{InputFault}
 use Rattle.csdf_bytes.specs.declared.intake.InputFault.TheVariants as input
 use Rattle.csdf_analysis.specs.declared.fault.AcceptFault.{AcceptFault}
 use Rattle.csdf_analysis.specs.declared.fault.AcceptFault.TheVariants as accept
+use Rattle.csdf_answers.specs.declared.fault.Lack.{Lack}
+use Rattle.csdf_answers.specs.declared.fault.Lack.TheVariants as lacks
 use Rattle.csdf_answers.specs.declared.fault.LineEnd.{LineEnd}
 use Rattle.csdf_answers.specs.declared.fault.LineEnd.TheVariants as end
 use Rattle.csdf_answers.specs.declared.fault.Stream.{Stream}
@@ -15,7 +17,7 @@ use Rattle.csdf_answers.specs.declared.fault.Stream.TheVariants.{Input, Output, 
 use Rattle.csdf_answers.specs.Printed.{name_at}
 use Rattle.csdf_answers.specs.declared.fault.ToolFault.{ToolFault}
 use Rattle.csdf_answers.specs.declared.fault.ToolFault.TheVariants.{Graph, Line, Unbalanced, TooLarge, Deadlock, TooTight, TooLong}
-use Rattle.csdf_answers.specs.declared.fault.ToolFault.TheVariants.{TokenSyntax, TokenRange, TooManyTokens, InUse, Mixed, Worker, Device, Memory}
+use Rattle.csdf_answers.specs.declared.fault.ToolFault.TheVariants.{TokenSyntax, TokenRange, TokenCutOff, TooManyTokens, InUse, Lacks, Mixed, Worker, Device, Memory}
 
 -- ---- texts
 
@@ -38,10 +40,18 @@ graph_text (graph.KernelPorts a) = codes "kernel ports at actor " ++ decimal a
 graph_text graph.NotConnected = codes "not connected"
 graph_text graph.Memory = codes "out of memory"
 
--- what a fault of a line of a token file ends with
+-- what a fault of a line or a sample of a token file ends with
 abbrev pub end_text : LineEnd → List ℕ
 end_text (end.Syntax line) = codes ": syntax at line " ++ decimal line
 end_text (end.Range line) = codes ": range at line " ++ decimal line
+end_text (end.CutOff sample) = codes ": cut off at sample " ++ decimal sample
+
+-- what the words that ask for a stream lack
+abbrev pub lack_text : Lack → List ℕ
+lack_text lacks.SourcesFolder = codes "DIR is needed: the graph has several sources"
+lack_text lacks.SinksFolder = codes "DIR is needed: the graph has several sinks"
+lack_text lacks.Periods = codes "--periods is needed: the graph has no source"
+lack_text lacks.GraphFile = codes "a graph file is needed: standard input has the tokens"
 
 -- the reason of a fault
 abbrev pub reason_text : ToolFault → List ℕ
@@ -54,8 +64,10 @@ reason_text TooTight = codes "graph: too tight"
 reason_text TooLong = codes "input too long"
 reason_text (TokenSyntax name line) = codes "tokens " ++ name ++ end_text (end.Syntax line)
 reason_text (TokenRange name line) = codes "tokens " ++ name ++ end_text (end.Range line)
+reason_text (TokenCutOff name sample) = codes "tokens " ++ name ++ end_text (end.CutOff sample)
 reason_text (TooManyTokens name) = codes "tokens " ++ name ++ codes ": too many"
 reason_text (InUse name) = codes "file in use: " ++ name
+reason_text (Lacks lack) = codes "stream: " ++ lack_text lack
 reason_text Mixed = codes "run: mixed"
 reason_text Worker = codes "run: worker"
 reason_text (Device stream) = codes "device: " ++ stream_text stream
@@ -109,7 +121,7 @@ abbrev pub Tells : {X Y : Type 0} → (X → Y) → Result X ToolFault → (Resu
 Tells view (Ok x) Allows = Allows (Ok (view x))
 Tells view (Err fault) Allows = fault ≢ Memory → Allows (Err fault)
 
--- the exit status: 1 where an input was refused, 2 where the files of the command line are, 3 where a device, memory or a run failed
+-- the exit status: 1 where an input was refused, 2 where the files or the words of the command line are, 3 where a device, memory or a run failed
 abbrev pub status_of : ToolFault → ℕ
 status_of (Graph fault) = 1
 status_of (Line n) = 1
@@ -120,8 +132,10 @@ status_of TooTight = 1
 status_of TooLong = 1
 status_of (TokenSyntax name line) = 1
 status_of (TokenRange name line) = 1
+status_of (TokenCutOff name sample) = 1
 status_of (TooManyTokens name) = 1
 status_of (InUse name) = 2
+status_of (Lacks lack) = 2
 status_of Mixed = 3
 status_of Worker = 3
 status_of (Device d) = 3

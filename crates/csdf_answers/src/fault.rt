@@ -1,7 +1,7 @@
 //! Why a command gave no answer.
 
 ghost use Rattle.std.specs.Prelude.{◌≡◌, ◌++◌, None, codes, IfOk, IfSome};
-ghost use Rattle.csdf_answers.specs.Faults.{graph_text, reason_text, status_of, stream_text, unread};
+ghost use Rattle.csdf_answers.specs.Faults.{graph_text, lack_text, reason_text, status_of, stream_text, unread};
 ghost use Rattle.csdf_answers.specs.FaultParts.{detail_text};
 ghost use Rattle.csdf_graph.specs.FaultPlace.{place_text};
 ghost use Rattle.csdf_answers.specs.declared.fault.ToolFault.TheVariants.{Memory};
@@ -134,11 +134,12 @@ impl fmt::Display for InWords {
     }
 }
 
-/// What a fault of a line of a token file ends with.
+/// What a fault of a line or a sample of a token file ends with.
 #[derive(Clone, Copy)]
 enum LineEnd {
-    Syntax(u32),
-    Range(u32),
+    Syntax(u64),
+    Range(u64),
+    CutOff(u64),
 }
 
 impl fmt::Display for LineEnd {
@@ -151,6 +152,34 @@ impl fmt::Display for LineEnd {
         match self {
             LineEnd::Syntax(line) => write!(f, ": syntax at line {line}"),
             LineEnd::Range(line) => write!(f, ": range at line {line}"),
+            LineEnd::CutOff(sample) => write!(f, ": cut off at sample {sample}"),
+        }
+    }
+}
+
+/// What the words that ask for a stream lack, though the graph needs it.
+#[derive(Clone, Copy, Debug, PartialEq, Eq)]
+pub enum Lack {
+    /// A folder of the files of its several sources.
+    SourcesFolder,
+    /// A folder of the files of its several sinks.
+    SinksFolder,
+    /// How many periods there are: no source of it runs dry.
+    Periods,
+    /// A file of the graph, since standard input has the tokens of its source.
+    GraphFile,
+}
+
+impl Lack {
+    /// Its text.
+    fn as_str(self) -> &'static str
+        ensures { result.now ≡ lack_text self }
+    {
+        match self {
+            Lack::SourcesFolder => "DIR is needed: the graph has several sources",
+            Lack::SinksFolder => "DIR is needed: the graph has several sinks",
+            Lack::Periods => "--periods is needed: the graph has no source",
+            Lack::GraphFile => "a graph file is needed: standard input has the tokens",
         }
     }
 }
@@ -172,14 +201,18 @@ pub enum ToolFault {
     TooTight,
     /// The input has more than 16,777,216 bytes.
     TooLong,
-    /// This line of the source's token file, counted from 1, is no number.
-    TokenSyntax(Name, u32),
-    /// The number in this line of the source's token file is no token.
-    TokenRange(Name, u32),
+    /// This line of the source's tokens, counted from 1, is no number.
+    TokenSyntax(Name, u64),
+    /// The number in this line of the source's tokens is no token.
+    TokenRange(Name, u64),
+    /// The source's tokens end within this sample, counted from 1.
+    TokenCutOff(Name, u64),
     /// The source's token file has more than 1,000,000 tokens or 16,777,216 bytes.
     TooManyTokens(Name),
     /// The file of this name, which a run is to write, is another of its files too.
     InUse(Name),
+    /// The words that ask for a stream lack this.
+    Lacks(Lack),
     /// What came out of a run does not belong together.
     Mixed,
     /// A worker could not be started or taken in.
@@ -271,8 +304,12 @@ fn parts_of<'a>(fault: &'a ToolFault) -> Parts<'a>
         ToolFault::TooLong => named("input too long", ""),
         ToolFault::TokenSyntax(name, line) => of_tokens(name, Detail::End(LineEnd::Syntax(*line))),
         ToolFault::TokenRange(name, line) => of_tokens(name, Detail::End(LineEnd::Range(*line))),
+        ToolFault::TokenCutOff(name, sample) => {
+            of_tokens(name, Detail::End(LineEnd::CutOff(*sample)))
+        }
         ToolFault::TooManyTokens(name) => of_tokens(name, Detail::Words(": too many")),
         ToolFault::InUse(name) => named("file in use: ", name.as_str()),
+        ToolFault::Lacks(lack) => named("stream: ", lack.as_str()),
         ToolFault::Mixed => named("run: mixed", ""),
         ToolFault::Worker => named("run: worker", ""),
         ToolFault::Device(stream) => named("device: ", stream.as_str()),
@@ -312,8 +349,8 @@ impl fmt::Display for ToolFault {
 }
 
 impl ToolFault {
-    /// The exit status: 1 where an input was refused, 2 where the files of the command line are, 3 where a
-    /// device, memory or a run failed.
+    /// The exit status: 1 where an input was refused, 2 where the files or the words of the command line are,
+    /// 3 where a device, memory or a run failed.
     pub fn status(&self) -> u8
         ensures { result ≡ status_of self.now }
     {
@@ -327,8 +364,9 @@ impl ToolFault {
             | ToolFault::TooLong
             | ToolFault::TokenSyntax(_, _)
             | ToolFault::TokenRange(_, _)
+            | ToolFault::TokenCutOff(_, _)
             | ToolFault::TooManyTokens(_) => 1,
-            ToolFault::InUse(_) => 2,
+            ToolFault::InUse(_) | ToolFault::Lacks(_) => 2,
             ToolFault::Mixed | ToolFault::Worker | ToolFault::Device(_) | ToolFault::Memory => 3,
         }
     }

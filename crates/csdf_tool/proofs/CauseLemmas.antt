@@ -1,5 +1,5 @@
 -- Why there is no answer, by what the devices gave.
-use Rattle.std.proofs.Common.{◌≡◌, ◌≢◌, ◌∙◌, ℕ, List, [], ◌∷◌, length, map, codes, Bool, true, false, cond, Option, Result, Ok, Err, refl, sym, ap, subst, inl, inr}
+use Rattle.std.proofs.Common.{◌≡◌, ◌≢◌, ◌∙◌, ℕ, List, [], ◌∷◌, length, map, codes, Bool, true, false, cond, Option, Some, None, Result, Ok, Err, refl, sym, ap, subst, inl, inr}
 use Rattle.std.specs.Prelude.{◌⊎◌, ◌<◌, IfErr, IfOk, IfSome, IsErrAnd, OnOk}
 use Rattle.std.specs.Global.{Vec}
 use Rattle.std.specs.Io.KnownBytes.{Appends}
@@ -10,9 +10,10 @@ use Rattle.csdf_answers.specs.Faults.{unread}
 use Rattle.csdf_answers.specs.declared.fault.Stream.TheVariants as stream
 use Rattle.csdf_answers.specs.declared.fault.ToolFault.{ToolFault}
 use Rattle.csdf_answers.specs.declared.fault.ToolFault.TheVariants as fault
-use Rattle.csdf_words.specs.CommandLine.{Asked, Input, Moves, Ask, Explain, Run}
+use Rattle.csdf_words.specs.CommandLine.{Asked, Input, Moves, Ask, Explain, Run, Flow, FolderNames}
 use Rattle.csdf_tool.specs.Acts.{Act, Asks, Devices, Marks, Read, devices}
 use Rattle.csdf_tool.specs.Carried.{IsCauseOf, LacksAnswer, PutsOut}
+use Rattle.csdf_tool.specs.Flows.{StopsOver, Through}
 use Rattle.csdf_tool.specs.GraphFiles.{IsGivenBy, IsInputFault, IsNamed, IsNotGiven, graph_reads, is_input}
 use Rattle.csdf_tool.proofs.DiskLemmas.{only_none}
 
@@ -33,8 +34,10 @@ which fault.TooTight = inr (inr (λ e. cc, λ e. cc))
 which fault.TooLong = inr (inr (λ e. cc, λ e. cc))
 which (fault.TokenSyntax name line) = inr (inr (λ e. cc, λ e. cc))
 which (fault.TokenRange name line) = inr (inr (λ e. cc, λ e. cc))
+which (fault.TokenCutOff name number) = inr (inr (λ e. cc, λ e. cc))
 which (fault.TooManyTokens name) = inr (inr (λ e. cc, λ e. cc))
 which (fault.InUse name) = inr (inr (λ e. cc, λ e. cc))
+which (fault.Lacks lack) = inr (inr (λ e. cc, λ e. cc))
 which fault.Mixed = inr (inr (λ e. cc, λ e. cc))
 which fault.Worker = inr (inr (λ e. cc, λ e. cc))
 which (fault.Device stream.Input) = inr (inr (λ e. cc, λ e. cc))
@@ -168,15 +171,21 @@ module _ (IsAnswerTo : List ℕ → Result (List ℕ) ToolFault → Type 0) (wor
 -- ---- what is asked for by another name
 
 module _ (d : Devices) (answer : Result (Unit {0}) ToolFault) {asked : Asked} (other : Asked) (same : asked ≡ other) where
-  pub caused_as : (m : Marks) → IfErr answer (IsCauseOf asked d m) → IfErr answer (IsCauseOf other d m)
-  caused_as m h = subst (λ a. IfErr answer (IsCauseOf a d m)) same h
+  pub caused_as : (t : Through) (m : Marks) → IfErr answer (IsCauseOf asked d t m) → IfErr answer (IsCauseOf other d t m)
+  caused_as t m h = subst (λ a. IfErr answer (IsCauseOf a d t m)) same h
 
 -- ---- want of memory
 
 -- want of memory may stand for any answer, where nothing was asked of files
-pub memory_causes : (asks : Asked) (left : Option (List ℕ)) (acts : Option (List Act)) (m : Marks) → IsCauseOf asks (devices left acts acts) m fault.Memory
-memory_causes Input left acts m = inl (inl refl)
-memory_causes (Moves path) left acts m = inl (inl refl)
-memory_causes (Ask question form room path) left acts m = inl (inl refl)
-memory_causes (Explain path folder) left acts m = inl (inl refl)
-memory_causes (Run order) left acts m = inl (record { only = only_none acts; why = inl (inl refl) })
+pub memory_causes : (asks : Asked) (left : Option (List ℕ)) (acts : Option (List Act)) (t : Through) (m : Marks)
+    → IsCauseOf asks (devices left acts acts) t m fault.Memory
+memory_causes Input left acts t m = inl (inl refl)
+memory_causes (Moves path) left acts t m = inl (inl refl)
+memory_causes (Ask question form room path) left acts t m = inl (inl refl)
+memory_causes (Explain path folder) left acts t m = inl (inl refl)
+memory_causes (Run order) left acts t m = inl (record { only = only_none acts; why = inl (inl refl) })
+memory_causes (Flow order) left acts t m = by order.folders
+  where
+    by : (folders : Option FolderNames) → StopsOver folders order (devices left acts acts) t m fault.Memory
+    by None = inr (inl (inl refl))
+    by (Some folders) = inl (inl refl)

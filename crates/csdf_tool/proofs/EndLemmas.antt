@@ -1,7 +1,8 @@
 -- How the program ends, by the answer of its command.
 use Rattle.std.proofs.Common.{◌≡◌, ◌≢◌, ℕ, List, [], Bool, true, Option, Some, None, arith, refl, sym, ap, subst, ◌∙◌, inl, inr}
-use Rattle.std.specs.Prelude.{◌⊎◌, Result, Ok, Err, IfErr, OnOk}
-use Rattle.csdf_tool.specs.Carried.{IsCarriedOut}
+use Rattle.std.specs.Prelude.{◌⊎◌, Result, Ok, Err, IfErr, OnErr, OnOk}
+use Rattle.csdf_tool.specs.Carried.{IsCarriedOut, IsStreamedOut}
+use Rattle.csdf_tool.specs.Flows.{Standard}
 use Rattle.clap.specs.Words.{Kinds, HasKind, Text, fault_of, kind_of}
 use Rattle.clap.specs.declared.error.Error.{Error}
 use Rattle.clap.specs.declared.error.kind.ErrorKind.{ErrorKind}
@@ -10,8 +11,9 @@ use Rattle.csdf_words.specs.declared.command.Unread.{Unread}
 use Rattle.csdf_words.specs.declared.command.Unread.TheVariants as unread
 use Rattle.csdf_words.specs.CommandLine.{Asked, IsUnread, program, words_ask}
 use Rattle.csdf_tool.specs.Acts.{Devices}
-use Rattle.csdf_tool.specs.Ends.{AreTaken, Ended, Ending, EndsAs, EndsBy, EndsFor, EndsForOneOf, EndsHelp, EndsInForm, EndsInUse, EndsTelling, EndsTold, EndsUnread, TellsLine, told_in}
+use Rattle.csdf_tool.specs.Ends.{AreTaken, Ended, Ending, EndsAs, EndsBy, EndsFor, EndsForOneOf, EndsHelp, EndsInForm, EndsTelling, EndsTold, EndsUnread, TellsLine, told_in}
 use Rattle.std.specs.Io.KnownBytes.{Appends}
+use Rattle.csdf_answers.specs.declared.fault.Lack.{Lack}
 use Rattle.csdf_answers.specs.declared.fault.Stream.TheVariants.{Output}
 use Rattle.csdf_answers.specs.declared.question.Form.{Form}
 use Rattle.csdf_answers.specs.declared.question.Form.TheVariants as forms
@@ -34,8 +36,10 @@ one_to_three fault.TooTight = inl refl
 one_to_three fault.TooLong = inl refl
 one_to_three (fault.TokenSyntax name line) = inl refl
 one_to_three (fault.TokenRange name line) = inl refl
+one_to_three (fault.TokenCutOff name number) = inl refl
 one_to_three (fault.TooManyTokens name) = inl refl
 one_to_three (fault.InUse name) = inr (inl refl)
+one_to_three (fault.Lacks lack) = inr (inl refl)
 one_to_three fault.Mixed = inr (inr refl)
 one_to_three fault.Worker = inr (inr refl)
 one_to_three (fault.Device d) = inr (inr refl)
@@ -46,9 +50,13 @@ not_zero n status is (inl one) zero = omega (arith, is, one, zero)
 not_zero n status is (inr (inl two)) zero = omega (arith, is, two, zero)
 not_zero n status is (inr (inr three)) zero = omega (arith, is, three, zero)
 
--- status 2 is that of a file in use
-use_at : (f : ToolFault) → status_of f ≡ 2 → (name : List ℕ) × (f ≡ fault.InUse name)
-use_at (fault.InUse name) two = (name, refl)
+-- status 2 is that of a file in use, or of words that lack something for the graph
+abbrev pub IsOfWords : (ToolFault → Type 0) → Type 0
+IsOfWords P = ((name : List ℕ) × P (fault.InUse name)) ⊎ ((lack : Lack) × P (fault.Lacks lack))
+
+use_at : (f : ToolFault) → status_of f ≡ 2 → IsOfWords (λ g. f ≡ g)
+use_at (fault.InUse name) two = inl (name, refl)
+use_at (fault.Lacks lack) two = inr (lack, refl)
 use_at (fault.Graph g) two = absurd (cc)
 use_at (fault.Line n) two = absurd (cc)
 use_at (fault.Unbalanced name) two = absurd (cc)
@@ -58,6 +66,7 @@ use_at fault.TooTight two = absurd (cc)
 use_at fault.TooLong two = absurd (cc)
 use_at (fault.TokenSyntax name line) two = absurd (cc)
 use_at (fault.TokenRange name line) two = absurd (cc)
+use_at (fault.TokenCutOff name number) two = absurd (cc)
 use_at (fault.TooManyTokens name) two = absurd (cc)
 use_at fault.Mixed two = absurd (cc)
 use_at fault.Worker two = absurd (cc)
@@ -76,6 +85,18 @@ tells_line form f line before after failed told (inr gone) = inr gone
 pub ended_in : (answer : Result (Unit {0}) ToolFault) (status : ℕ) (before after : Option (List ℕ)) (failed : Bool) {form other : Form} → form ≡ other
     → Ended form answer status before after failed → Ended other answer status before after failed
 ended_in answer status before after failed same h = subst (λ (form : Form). Ended form answer status before after failed) same h
+
+pub on_ok_both : {X E A B C : Type 0} (r : Result X E) → (A → B → C) → OnOk r A → OnOk r B → OnOk r C
+on_ok_both (Ok x) f a b = f a b
+on_ok_both (Err e) f a b = tt
+
+-- nothing was told on a device before a fault was
+pub ended_from : {D : Type 0} (written : D → Option (List ℕ)) (form : Form) (answer : Result (Unit {0}) ToolFault) (status : ℕ) (old now : D)
+    (after : Option (List ℕ)) (failed : Bool) → OnErr answer (now ≡ old) → Ended form answer status (written now) after failed
+    → Ended form answer status (written old) after failed
+ended_from written form (Ok u) status old now after failed same h = record { zero = h.zero; by = tt }
+ended_from written form (Err f) status old now after failed same h =
+    subst (λ d. Ended form (Err f) status (written d) after failed) same h
 
 module _ {form : Form} {status : ℕ} {before after : Option (List ℕ)} {failed : Bool} where
   pub ends_as : (f : ToolFault) → EndsBy form f status before after failed → (g : ToolFault) × EndsAs form g status before after failed
@@ -112,24 +133,18 @@ module _ {form : Form} {status : ℕ} {before after : Option (List ℕ)} {failed
       by (inl output) = inr (q (ap Err output))
       by (inr other) = inl (p other)
 
-  -- where it is 2, a file is in use
-  of_two : (f : ToolFault) → EndsAs form f status before after failed → status ≡ 2 → EndsInUse form status before after failed
-  of_two f h two =
-      let file = use_at f (sym h.ends ∙ two) in
-      (file.0, subst (λ (g : ToolFault). EndsAs form g status before after failed) file.1 h)
-
-  pub in_use : (answer : Result (Unit {0}) ToolFault) → Ended form answer status before after failed → status ≡ 2 → EndsInUse form status before after failed
-  in_use (Ok u) h two = absurd (let no : 2 ≡ 0 = sym two ∙ h.zero in cc)
-  in_use (Err f) h two = let told = ends_as f h.by in of_two told.0 told.1 two
-
-  -- what holds of the answer's fault holds of a file in use
+  -- where it is 2, what holds of the answer's fault holds of a file in use, or of words that lack something, and that is told
   pub use_of : (answer : Result (Unit {0}) ToolFault) (P : ToolFault → Type 0) → Ended form answer status before after failed → status ≡ 2
-      → IfErr answer P → (name : List ℕ) × P (fault.InUse name)
+      → IfErr answer P → IsOfWords (λ f. P f × EndsAs form f status before after failed)
   use_of (Ok u) P h two p = absurd (let no : 2 ≡ 0 = sym two ∙ h.zero in cc)
   use_of (Err f) P h two p = by h.by
     where
-      by : EndsBy form f status before after failed → (name : List ℕ) × P (fault.InUse name)
-      by (inl ends) = let told = use_at f (sym ends.ends ∙ two) in (told.0, subst P told.1 p)
+      told : EndsAs form f status before after failed → IsOfWords (λ g. f ≡ g) → IsOfWords (λ f. P f × EndsAs form f status before after failed)
+      told ends (inl (name, same)) = inl (name, (subst P same p, subst (λ (g : ToolFault). EndsAs form g status before after failed) same ends))
+      told ends (inr (lack, same)) = inr (lack, (subst P same p, subst (λ (g : ToolFault). EndsAs form g status before after failed) same ends))
+
+      by : EndsBy form f status before after failed → IsOfWords (λ f. P f × EndsAs form f status before after failed)
+      by (inl ends) = told ends (use_at f (sym ends.ends ∙ two))
       by (inr ends) = absurd (let no : 2 ≡ 3 = sym two ∙ ends.ends in cc)
 
   -- where it is 1 or 3, a fault is told
@@ -161,6 +176,9 @@ module _ {form : Form} {status : ℕ} {before after : Option (List ℕ)} {failed
 module _ (d : Devices) (answer : Result (Unit {0}) ToolFault) {asked : Asked} (other : Asked) (same : asked ≡ other) where
   pub carried_as : (before after : Option (List ℕ)) → OnOk answer (IsCarriedOut asked d before after) → OnOk answer (IsCarriedOut other d before after)
   carried_as before after h = subst (λ a. OnOk answer (IsCarriedOut a d before after)) same h
+
+  pub streamed_as : (s : Standard) → OnOk answer (IsStreamedOut asked d s) → OnOk answer (IsStreamedOut other d s)
+  streamed_as s h = subst (λ a. OnOk answer (IsStreamedOut a d s)) same h
 
 pub one_asked : {asks : Option Asked} {a b : Asked} → asks ≡ Some a → asks ≡ Some b → a ≡ b
 one_asked first second = cc
@@ -205,16 +223,19 @@ module _ (words : List Text) (e : Ending) where
   unread_ends (unread.Parse error) why ends some = by_kind error e (fault_of program words) why.0 ends
   unread_ends (unread.Room text) why ends some = absurd (some why.taken)
   unread_ends unread.Lengths why ends some = absurd (some why.taken)
+  unread_ends unread.OutAlone why ends some = absurd (some why.taken)
 
   pub taken_ends : (u : Unread) → IsUnread words u → EndsUnread u e → AreTaken words → words_ask words ≢ None → EndsTold e fault.Memory
   taken_ends (unread.Parse error) why ends taken asks = memory_ends error e (of_taken words error why taken) ends
   taken_ends (unread.Room text) why ends taken asks = absurd (asks why.nothing)
   taken_ends unread.Lengths why ends taken asks = absurd (asks why.nothing)
+  taken_ends unread.OutAlone why ends taken asks = absurd (asks why.nothing)
 
   pub nothing_ends : (u : Unread) → IsUnread words u → EndsUnread u e → AreTaken words → (e.status ≡ 2) ⊎ EndsTold e fault.Memory
   nothing_ends (unread.Parse error) why ends taken = inr (memory_ends error e (of_taken words error why taken) ends)
   nothing_ends (unread.Room text) why ends taken = inl ends.status
   nothing_ends unread.Lengths why ends taken = inl ends.status
+  nothing_ends unread.OutAlone why ends taken = inl ends.status
 
 -- a status that is told of want of memory is 3
 pub memory_is_three : (e : Ending) → EndsTold e fault.Memory → e.status ≡ 3

@@ -5,9 +5,12 @@ pub mod EndLemmas
 pub mod ExplainingLemmas
 pub mod FaultLemmas
 pub mod FeedLemmas
+pub mod FlowLemmas
 pub mod InputExamples
+pub mod MakeLemmas
 pub mod PutLemmas
 pub mod ReportLemmas
 pub mod RunLemmas
+pub mod StreamLemmas
 pub mod TokenLemmas
 pub mod UseLemmas

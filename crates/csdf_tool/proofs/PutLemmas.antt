@@ -5,7 +5,7 @@ use Rattle.std.specs.Fs.{permissions_mode}
 use Rattle.std.specs.declared.fs.permissions.Permissions.{Permissions}
 use Rattle.std.specs.declared.io.Error.{Error}
 use Rattle.std.proofs.lemmas.List.{append-nil, map-append}
-use Rattle.csdf_tool.specs.SystemCalls.{Call, Called, IsCut, Permit, PutsBeside, Remove, Step, Steps, part_of, permits, steps_beside, well}
+use Rattle.csdf_tool.specs.SystemCalls.{Call, Called, IsCut, Permit, Remove, Step, Steps, StepsWith, part_of, permits, well}
 use Rattle.csdf_tool.specs.declared.put_fault.PutFault.{PutFault}
 use Rattle.csdf_tool.specs.declared.put_fault.PutFault.TheVariants.{Device, Memory}
 
@@ -24,15 +24,14 @@ well_more xs ys = map-append (λ (step : Step). step true) xs ys
 
 -- ---- one step
 
+pub one_failed : (step : Step) (a b : Option (List Call)) (why : PutFault) → why ≡ Device → Called a b (step false ∷ []) → Steps (step ∷ []) a b (Err why)
+one_failed step a b why device called =
+    (device, step false ∷ [], called, record { front = []; failed = step; rest = []; split = refl; called = refl })
+
 module _ (step : Step) (a b : Option (List Call)) (call : Result (Unit {0}) Error) (called : Called a b (step (is_ok call) ∷ [])) where
   pub one_step : (r : Result (Unit {0}) PutFault) → OnOk r (is_ok call ≡ true) → IfErr r (λ why. (why ≡ Device) × (is_ok call ≡ false)) → Steps (step ∷ []) a b r
   one_step (Ok u) went failed = subst (λ w. Called a b (step w ∷ [])) went called
-  one_step (Err why) went failed = (
-    failed.0,
-    step false ∷ [],
-    subst (λ w. Called a b (step w ∷ [])) failed.1 called,
-    record { front = []; failed = step; rest = []; split = refl; called = refl },
-  )
+  one_step (Err why) went failed = one_failed step a b why failed.0 (subst (λ w. Called a b (step w ∷ [])) failed.1 called)
 
   pub one_call : (r : Result (Unit {0}) PutFault) → OnOk r (is_ok call ≡ true) → IfErr r (λ why. (why ≡ Device) × (is_ok call ≡ false))
       → Called a b (step (is_ok r) ∷ [])
@@ -50,6 +49,12 @@ permit_given part permissions given a b r is h =
 
 pub step_as : (step other : Step) (a b : Option (List Call)) (r : Result (Unit {0}) PutFault) → step ≡ other → Steps (other ∷ []) a b r → Steps (step ∷ []) a b r
 step_as step other a b r same h = subst (λ (s : Step). Steps (s ∷ []) a b r) (sym same) h
+
+-- what came of a call is handed on as it is
+pub steps_same : (xs : List Step) (a b : Option (List Call)) (why : PutFault) (r : Result (Unit {0}) PutFault) → IsErrAnd r (λ e. e ≡ why) → Steps xs a b (Err why)
+    → Steps xs a b r
+steps_same xs a b why (Ok u) same h = absurd same
+steps_same xs a b why (Err e) same h = (same ∙ h.0, h.1, h.2, h.3)
 
 -- ---- several
 
@@ -87,13 +92,13 @@ steps_cut xs ys a b why (Err e) same h = (same ∙ h.0, h.1, h.2, cut_before xs 
 
 -- ---- a part that is taken away
 
-pub taken_away : (mode : Option ℕ) (path text : List ℕ) (part same : List ℕ) (why : PutFault) (a b c : Option (List Call)) (removed : Bool) → part ≡ part_of path
-    → same ≡ part_of path → Steps (steps_beside part mode path text) a b (Err why) → Called b c (Remove same removed ∷ [])
-    → (calls : List Call) × Called a c calls × PutsBeside mode path text calls (Err why)
-taken_away mode path text part same why a b c removed is too h last =
-    let cut : IsCut (steps_beside (part_of path) mode path text) h.1 = subst (λ (p : List ℕ). IsCut (steps_beside p mode path text) h.1) is h.3 in
+pub taken_away : (steps : List ℕ → List Step) (path part same : List ℕ) (why : PutFault) (a b c : Option (List Call)) (removed : Bool) → part ≡ part_of path
+    → same ≡ part_of path → Steps (steps part) a b (Err why) → Called b c (Remove same removed ∷ [])
+    → (calls : List Call) × Called a c calls × StepsWith (part_of path) (steps (part_of path)) calls (Err why)
+taken_away steps path part same why a b c removed is too h last =
+    let cut : IsCut (steps (part_of path)) h.1 = subst (λ (p : List ℕ). IsCut (steps p) h.1) is h.3 in
     let gone : Called b c (Remove (part_of path) removed ∷ []) = subst (λ (p : List ℕ). Called b c (Remove p removed ∷ [])) too last in
-    subst (λ (w : PutFault). (calls : List Call) × Called a c calls × PutsBeside mode path text calls (Err w)) (sym h.0) (
+    subst (λ (w : PutFault). (calls : List Call) × Called a c calls × StepsWith (part_of path) (steps (part_of path)) calls (Err w)) (sym h.0) (
       h.1 ++ Remove (part_of path) removed ∷ [],
       called_more a b c h.1 (Remove (part_of path) removed ∷ []) h.2 gone,
       (h.1, removed, cut, refl),

@@ -9,13 +9,28 @@ use Rattle.csdf_json.proofs.LineLemmas.{items_by-depth}
 use Rattle.csdf_floor.specs.declared.ending.Ending.{Ending}
 use Rattle.csdf_floor.specs.declared.outcome.ChannelReport.{ChannelReport}
 use Rattle.csdf_floor.specs.Report.{name_at}
-use Rattle.csdf_tool.specs.Reports.{channel_items, channel_object, report_object}
+use Rattle.csdf_model.specs.Graph.{Graph}
+use Rattle.csdf_run.specs.declared.totals.ChannelTotal.{ChannelTotal}
+use Rattle.csdf_stream.specs.declared.end.StreamEnd.{StreamEnd}
+use Rattle.csdf_stream.specs.Ports.{sinks_in}
+use Rattle.csdf_stream.specs.Printed.{actor_names, clipped_at, names_of, total_at}
+use Rattle.csdf_tool.specs.Reports.{channel_items, channel_object, clipped_object, flow_channel_object, report_object, stream_object}
 
 pub report_shallow : (names : List (List ℕ)) (ending : Ending) (reports : List ChannelReport) → depth (report_object names ending reports) ≤ max_depth
 report_shallow names ending reports =
     omega (
       arith,
       items_by-depth (λ (row : ℕ × ChannelReport). channel_object (name_at names row.0) row.1) 1 (λ row. omega arith) (enumerate_from 0 reports),
+    )
+
+pub stream_shallow : (g : Graph) (totals : List ChannelTotal) (end : StreamEnd) → depth (stream_object g totals end) ≤ max_depth
+stream_shallow g totals end =
+    omega (
+      arith,
+      items_by-depth (λ (row : ℕ × ChannelReport). flow_channel_object (name_at (names_of g.channels) row.0) (total_at totals row.0) row.1) 1
+          (λ row. omega arith) (enumerate_from 0 end.report.items),
+      items_by-depth (λ (row : ℕ × ℕ). clipped_object (name_at (actor_names g.actors) row.1) (clipped_at end.clipped.items row.0)) 1
+          (λ row. omega arith) (enumerate_from 0 (sinks_in g)),
     )
 
 -- what was written in three steps

@@ -1,5 +1,5 @@
 -- The files of a run, and the faults that are told of them.
-use Rattle.std.proofs.Common.{◌≡◌, ◌≢◌, ℕ, suc, zero, ◌+◌, ◌<◌, Bool, true, false, cond, List, [], ◌∷◌, ◌++◌, length, map, take, drop, get_or, refl, ap, sym}
+use Rattle.std.proofs.Common.{◌≡◌, ◌≢◌, ℕ, suc, ◌+◌, ◌<◌, Bool, true, false, cond, List, [], ◌∷◌, ◌++◌, length, map, take, get_or, refl, ap, sym}
 use Rattle.std.proofs.Common.{subst, ◌∙◌, arith, append_assoc, inl, inr, Ok, Err, Option, Some, None, Bor, option_map}
 use Rattle.std.specs.Prelude.{ℤ, ◌⊎◌, IfErr, IfOk, IsErrAnd, OnErr, OnOk, Result, codes, is_some}
 use Rattle.std.proofs.lemmas.List.{map-append, take_more}
@@ -81,7 +81,7 @@ roomy_alike q m g h same = record {
 same_alike : (g h : Graph) → h ≡ g → AreNamedAlike g h
 same_alike g h same = record { actors = ap (λ (x : Graph). x.actors) same; names = ap (λ (x : Graph). names_of x.channels) same }
 
-alike_with : (room : Room) (q : List ℕ) (g h : Graph) → IsWithRoom room q g h → AreNamedAlike g h
+pub alike_with : (room : Room) (q : List ℕ) (g h : Graph) → IsWithRoom room q g h → AreNamedAlike g h
 alike_with rooms.Least q g h same = same_alike g h same
 alike_with (rooms.Periods n) q g h same = roomy_alike q n g h same
 alike_with rooms.Auto q g h auto = roomy_alike q auto.0 g h auto.2

@@ -1,11 +1,10 @@
 -- Token files that are read one source after the other, and what was read of them.
-use Rattle.std.proofs.Common.{◌≡◌, ℕ, ◌+◌, ◌<◌, Bool, true, false, cond, List, [], ◌∷◌, ◌++◌, length, map, take, get_or, refl, ap, sym, subst, ◌∙◌, arith, Ok, Err, Option, Result}
+use Rattle.std.proofs.Common.{◌≡◌, ℕ, ◌+◌, ◌<◌, Bool, true, false, cond, List, [], ◌∷◌, ◌++◌, length, take, get_or, refl, ap, sym, subst, ◌∙◌, arith, Ok, Option, Result}
 use Rattle.std.specs.Prelude.{ℤ}
 use Rattle.std.specs.Global.{Vec}
 use Rattle.std.specs.Path.{path_join}
 use Rattle.std.proofs.lemmas.List.{append-nil, length-map, length-take, take_more}
 use Rattle.std.proofs.lemmas.List.Sums.{length-filter}
-use Rattle.csdf_bytes.specs.TokenText.{tokens_in}
 use Rattle.csdf_bytes.specs.declared.tokens.TokenFault.{TokenFault}
 use Rattle.csdf_model.specs.Graph.{Actor, Graph}
 use Rattle.csdf_core.specs.Planned.{is_source_kernel}

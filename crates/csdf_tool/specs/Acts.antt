@@ -11,12 +11,17 @@ use Rattle.csdf_tool.specs.declared.place.Place.{Place}
 use Rattle.csdf_tool.specs.declared.put_fault.PutFault.{PutFault}
 
 -- a file was asked for, by its path, and these bytes came or none for this reason; it was looked at, and this was found, where memory sufficed; it was looked for which file a path stands
--- for, and this place was found, where memory sufficed; or a text was to be put in the place of a file, and was or not
+-- for, and this place was found, where memory sufficed; or a text was to be put in the place of a file, and was or not; a file was to be opened to be read, and was or not; one that is to be
+-- written was to be made for this path, and was or not; one that was made for it, of which this is what it had taken, was to be put in its place, and was or not; or it was given up
 pub data Act : Type 0 where
   Read : Text → Result (List ℕ) InputFault → Act
   Look : Text → Option TokenFile → Act
   Locate : Text → Option Place → Act
   Put : Text → List ℕ → Result (Unit {0}) PutFault → Act
+  Open : Text → Bool → Act
+  Make : Text → Result (Unit {0}) PutFault → Act
+  Keep : Text → Option (List ℕ) → Result (Unit {0}) PutFault → Act
+  Leave : Text → Act
 
 -- the bytes that came
 abbrev pub given : Result (Vec ℕ) InputFault → Result (List ℕ) InputFault
@@ -37,14 +42,23 @@ abbrev pub placed : Result Place AllocError → Option Place
 placed (Ok place) = Some place
 placed (Err why) = None
 
--- no file was to be put
+-- whether a file was made, and why not
+abbrev pub made_as : {F : Type 0} → Result F PutFault → Result (Unit {0}) PutFault
+made_as (Ok file) = Ok tt
+made_as (Err why) = Err why
+
+-- no file was to be written
 abbrev pub IsRead : Act → Type 0
 IsRead (Read path came) = Unit {0}
 IsRead (Look path found) = Unit {0}
 IsRead (Locate path found) = Unit {0}
 IsRead (Put path text came) = ⊥
+IsRead (Open path opened) = Unit {0}
+IsRead (Make path made) = ⊥
+IsRead (Keep path written came) = ⊥
+IsRead (Leave path) = ⊥
 
--- files were asked for or looked at, and none was to be put
+-- files were asked for, opened or looked at, and none was to be written
 abbrev pub OnlyReads : Option (List Act) → Option (List Act) → Type 0
 OnlyReads before after = (acts : List Act) × AllByRecursion IsRead acts × Asks before after acts
 

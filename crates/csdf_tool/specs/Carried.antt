@@ -1,5 +1,5 @@
 -- What comes of what is asked for.
-use Rattle.std.specs.Prelude.{◌≡◌, ◌⊎◌, ℕ, List, Option, Bool, true, false, Result, Ok, Err, codes, ◌++◌}
+use Rattle.std.specs.Prelude.{◌≡◌, ◌⊎◌, ℕ, List, Option, Some, None, Bool, true, false, Result, Ok, Err, codes, ◌++◌, is_none}
 use Rattle.std.specs.Io.KnownBytes.{Appends}
 use Rattle.clap.specs.Words.{Text}
 use Rattle.csdf_answers.specs.Objects.{IsDescriptionAs}
@@ -7,10 +7,11 @@ use Rattle.csdf_answers.specs.Session.{IsAnswer}
 use Rattle.csdf_answers.specs.declared.fault.ToolFault.{ToolFault}
 use Rattle.csdf_answers.specs.declared.fault.ToolFault.TheVariants.{Device}
 use Rattle.csdf_answers.specs.declared.fault.Stream.TheVariants.{Output}
-use Rattle.csdf_words.specs.CommandLine.{Asked, Input, Moves, Ask, Explain, Run}
+use Rattle.csdf_words.specs.CommandLine.{Asked, Input, Moves, Ask, Explain, Run, Flow}
 use Rattle.csdf_tool.specs.Acts.{Act, Asks, Devices, Marks}
 use Rattle.csdf_tool.specs.Explaining.{ExplainsFiles, IsExplanation}
 use Rattle.csdf_tool.specs.GraphFiles.{IsGivenBy, IsNamed, IsNotGiven, graph_reads, is_input}
+use Rattle.csdf_tool.specs.Flows.{Standard, StopsStream, Streams, Through, reads_graph}
 use Rattle.csdf_tool.specs.Running.{EndsOnFiles, RunsOnFiles}
 
 -- bytes that a word names have an answer by a command, and it was put at the end of what a device has taken, where that is known
@@ -18,13 +19,19 @@ abbrev pub PutsOut : (List ℕ → Result (List ℕ) ToolFault → Type 0) → T
 PutsOut IsAnswerTo word d before after =
     (bytes : List ℕ) × (text : List ℕ) × IsGivenBy word d bytes × IsAnswerTo bytes (Ok text) × Appends before after text
 
--- what is asked for is put out: of standard input, or of what a word names
+-- what is asked for is put out: of standard input, or of what a word names; what a stream puts out is told below
 abbrev pub IsCarriedOut : Asked → Devices → Option (List ℕ) → Option (List ℕ) → Type 0
 IsCarriedOut Input d before after = PutsOut IsAnswer (codes "-") d before after
 IsCarriedOut (Moves path) d before after = PutsOut IsAnswer path d before after
 IsCarriedOut (Ask question form room path) d before after = PutsOut (IsDescriptionAs form question room) path d before after
 IsCarriedOut (Explain path folder) d before after = ExplainsFiles path folder d before after
 IsCarriedOut (Run order) d before after = RunsOnFiles order d before after
+IsCarriedOut (Flow order) d before after = Unit {0}
+
+-- a stream that is asked for is put out
+abbrev pub IsStreamedOut : Asked → Devices → Standard → Type 0
+IsStreamedOut (Flow order) d s = Streams order d s
+IsStreamedOut _ d s = Unit {0}
 
 -- ---- why it is not
 
@@ -54,12 +61,13 @@ abbrev pub LacksExplanation : Text → Option Text → Devices → Marks → Too
 LacksExplanation word folder d m fault = IsNotGiven word d m.input fault ⊎ IsUnexplained word folder d m fault
 
 -- why what is asked for is not put out, as the fault tells it
-abbrev pub IsCauseOf : Asked → Devices → Marks → ToolFault → Type 0
-IsCauseOf Input d m fault = LacksAnswer IsAnswer (codes "-") d m fault
-IsCauseOf (Moves path) d m fault = LacksAnswer IsAnswer path d m fault
-IsCauseOf (Ask question form room path) d m fault = LacksAnswer (IsDescriptionAs form question room) path d m fault
-IsCauseOf (Explain path folder) d m fault = LacksExplanation path folder d m fault
-IsCauseOf (Run order) d m fault = EndsOnFiles order d m fault
+abbrev pub IsCauseOf : Asked → Devices → Through → Marks → ToolFault → Type 0
+IsCauseOf Input d t m fault = LacksAnswer IsAnswer (codes "-") d m fault
+IsCauseOf (Moves path) d t m fault = LacksAnswer IsAnswer path d m fault
+IsCauseOf (Ask question form room path) d t m fault = LacksAnswer (IsDescriptionAs form question room) path d m fault
+IsCauseOf (Explain path folder) d t m fault = LacksExplanation path folder d m fault
+IsCauseOf (Run order) d t m fault = EndsOnFiles order d m fault
+IsCauseOf (Flow order) d t m fault = StopsStream order d t m fault
 
 -- whether what is asked for is asked of standard input
 abbrev pub reads_input : Asked → Bool
@@ -68,8 +76,23 @@ reads_input (Moves path) = is_input path
 reads_input (Ask question form room path) = is_input path
 reads_input (Explain path folder) = is_input path
 reads_input (Run order) = is_input order.graph
+reads_input (Flow order) = reads_graph order
 
--- whether it is a run
-abbrev pub asks_run : Asked → Bool
-asks_run (Run order) = true
-asks_run _ = false
+-- whether it is a stream
+abbrev pub asks_stream : Asked → Bool
+asks_stream (Flow order) = true
+asks_stream _ = false
+
+-- whether it is a run or a stream
+abbrev pub asks_files : Asked → Bool
+asks_files (Run order) = true
+asks_files asks = asks_stream asks
+
+-- whether it writes to standard output as it goes: a stream over no folders
+abbrev pub flows_out : Asked → Bool
+flows_out (Flow order) = is_none order.folders
+flows_out _ = false
+
+abbrev pub flows_asked : Option Asked → Bool
+flows_asked None = false
+flows_asked (Some asks) = flows_out asks

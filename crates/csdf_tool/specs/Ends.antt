@@ -5,20 +5,22 @@ use Rattle.clap.specs.Words.{Kinds, Text, IsAmong, fault_of, kind_of, takes}
 use Rattle.clap.specs.declared.error.kind.ErrorKind.{ErrorKind}
 use Rattle.clap.specs.declared.error.kind.ErrorKind.TheVariants.{DisplayHelp, DisplayVersion, OutOfMemory}
 use Rattle.csdf_answers.specs.declared.fault.ToolFault.{ToolFault}
-use Rattle.csdf_answers.specs.declared.fault.ToolFault.TheVariants.{Device, InUse, Memory}
+use Rattle.csdf_answers.specs.declared.fault.Lack.{Lack}
+use Rattle.csdf_answers.specs.declared.fault.ToolFault.TheVariants.{Device, InUse, Lacks, Memory}
 use Rattle.csdf_answers.specs.declared.fault.Stream.TheVariants.{Output}
 use Rattle.csdf_answers.specs.declared.question.Form.{Form}
 use Rattle.csdf_answers.specs.declared.question.Form.TheVariants as forms
 use Rattle.csdf_answers.specs.Faults.{status_of}
 use Rattle.csdf_answers.specs.Objects.{TellsFault}
 use Rattle.csdf_words.specs.CommandLine.{program, IsUnread}
-use Rattle.csdf_tool.specs.Refused.{lengths_refusal, room_refusal}
+use Rattle.csdf_tool.specs.Refused.{lengths_refusal, out_refusal, room_refusal}
 use Rattle.csdf_words.specs.declared.command.Unread.{Unread}
 use Rattle.csdf_words.specs.declared.command.Unread.TheVariants as unread
 
 -- the form in which a fault is told: one of the command line in words
 abbrev pub told_in : Form → ToolFault → Form
 told_in form (InUse name) = forms.Text
+told_in form (Lacks lack) = forms.Text
 told_in form _ = form
 
 -- a text that tells the fault in a form was put at the end of what a device has taken, where that is known, or the device failed
@@ -52,6 +54,10 @@ EndsTelling form fault status before after failed =
 -- a file that was to be written is in use
 abbrev pub EndsInUse : Form → ℕ → Option (List ℕ) → Option (List ℕ) → Bool → Type 0
 EndsInUse form status before after failed = (name : List ℕ) × EndsAs form (InUse name) status before after failed
+
+-- the words lack something for the graph
+abbrev pub EndsLacking : Form → ℕ → Option (List ℕ) → Option (List ℕ) → Bool → Type 0
+EndsLacking form status before after failed = (lack : Lack) × EndsAs form (Lacks lack) status before after failed
 
 -- ---- words that are refused
 
@@ -96,6 +102,7 @@ abbrev pub EndsUnread : Unread → Ending → Type 0
 EndsUnread (unread.Parse error) e = EndsFor (kind_of error) e
 EndsUnread (unread.Room text) e = EndsRefused (room_refusal text.now) e
 EndsUnread unread.Lengths e = EndsRefused lengths_refusal e
+EndsUnread unread.OutAlone e = EndsRefused out_refusal e
 
 -- how words that ask for nothing end: there is a reason why they are no request, and it is told
 pub record EndsUnasked (words : List Text) (e : Ending) : Type 0 where

@@ -3,6 +3,7 @@ pub mod Carried
 pub mod Contents
 pub mod Ends
 pub mod Explaining
+pub mod Flows
 pub mod GraphFiles
 pub mod Places
 pub mod Refused

@@ -75,10 +75,13 @@ files_of_moves order actors None = []
 files_of_moves order actors (Some path) =
     listed [] (graph_path order.graph) false ∷ files_on side.Sources order.folder actors ++ listed [] path true ∷ []
 
+-- standard output, and the files of the sinks of a folder
+abbrev pub sink_places : List ℕ → List Actor → List Listed
+sink_places folder actors = listed [] (codes "/dev/stdout") false ∷ files_on side.Sinks folder actors
+
 -- standard output, the files of the sinks, and those of the moves
 abbrev pub listed_files : Order → List Actor → List Listed
-listed_files order actors =
-    listed [] (codes "/dev/stdout") false ∷ files_on side.Sinks order.sink_folder actors ++ files_of_moves order actors order.journal
+listed_files order actors = sink_places order.sink_folder actors ++ files_of_moves order actors order.journal
 
 -- ---- a file in use
 

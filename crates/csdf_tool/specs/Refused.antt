@@ -10,3 +10,7 @@ room_refusal text =
 -- of two lengths of a run
 abbrev pub lengths_refusal : List ℕ
 lengths_refusal = codes "error: '--until-dry' and '--periods <K>' exclude each other\n\nFor more information, try '--help'.\n"
+
+-- of a folder for the sinks of a stream alone
+abbrev pub out_refusal : List ℕ
+out_refusal = codes "error: '--out <FOLDER>' needs DIR\n\nFor more information, try '--help'.\n"

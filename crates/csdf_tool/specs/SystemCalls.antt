@@ -1,5 +1,5 @@
--- What is called of the system's files to read a file and to put one in its place, and how the calls end.
-use Rattle.std.specs.Prelude.{◌≡◌, ◌≢◌, ◌++◌, ℕ, Bool, true, false, List, [], ◌∷◌, Option, Some, None, Result, Ok, Err, IfSome, codes, is_ok, map}
+-- What is called of the system's files to read a file, to put one in its place and to write one piece by piece, and how the calls end.
+use Rattle.std.specs.Prelude.{◌≡◌, ◌≢◌, ◌++◌, ℕ, Bool, true, false, List, [], ◌∷◌, Option, Some, None, Result, Ok, Err, IfOk, IfSome, codes, is_ok, map, option_map, string_bytes}
 use Rattle.std.specs.Fs.{IsFile, file_type, metadata_mode, permissions_mode}
 use Rattle.std.specs.declared.fs.attrs.Metadata.{Metadata}
 use Rattle.std.specs.Path.{path_buf_bytes}
@@ -8,7 +8,9 @@ use Rattle.std.specs.declared.io.Error.{Error}
 use Rattle.std.specs.declared.io.ErrorKind.{ErrorKind}
 use Rattle.std.specs.declared.io.ErrorKind.TheVariants.{NotFound}
 use Rattle.std.specs.IoError.{error_kind}
+use Rattle.csdf_tool.specs.Acts.{made_as}
 use Rattle.csdf_tool.specs.Contents.{content_text}
+use Rattle.csdf_tool.specs.declared.making.MadeFile.{MadeFile}
 use Rattle.csdf_tool.specs.declared.put_fault.PutFault.{PutFault}
 use Rattle.csdf_tool.specs.declared.put_fault.PutFault.TheVariants.{Device, Memory}
 use Rattle.csdf_tool.specs.declared.putting.Stage.{Stage}
@@ -17,13 +19,14 @@ use Rattle.csdf_tool.specs.declared.putting.There.{There}
 use Rattle.csdf_tool.specs.declared.putting.There.TheVariants.{Free, Plain, Other}
 
 -- a call by its paths, and how it ended: what was told of a file, links followed or not; the text of a link, where there is
--- one; of what kind the error was where a file was not opened; that bytes
--- were written to a file that was made or emptied, that one was given permissions, another path, or was taken away, and whether that went well
+-- one; of what kind the error was where a file was not opened; that a file
+-- was made or emptied to be written, that bytes were written to one that was made or emptied, that one was given permissions, another path, or was taken away, and whether that went well
 pub data Call : Type 0 where
   Follow : List ℕ → Result Metadata Error → Call
   See : List ℕ → Result Metadata Error → Call
   Link : List ℕ → Option (List ℕ) → Call
   Open : List ℕ → Option ErrorKind → Call
+  Create : List ℕ → Bool → Call
   Write : List ℕ → List ℕ → Bool → Call
   Permit : List ℕ → ℕ → Bool → Call
   Rename : List ℕ → List ℕ → Bool → Call
@@ -97,12 +100,15 @@ Says (Err error) (Ok (Plain permissions)) = ⊥
 Says (Err error) (Ok Other) = ⊥
 Says (Err error) (Err why) = (error_kind error ≢ NotFound) × (why ≡ Device)
 
--- a text is put beside its place and then there: all steps go well; or one fails and the part is taken away; or memory runs out before the first
+-- steps are taken with a part: all go well; or one fails and the part is taken away; or memory runs out before the first
+abbrev pub StepsWith : List ℕ → List Step → List Call → Result (Unit {0}) PutFault → Type 0
+StepsWith part steps calls (Ok done) = calls ≡ well steps
+StepsWith part steps calls (Err Device) = (cut : List Call) × (removed : Bool) × IsCut steps cut × (calls ≡ cut ++ Remove part removed ∷ [])
+StepsWith part steps calls (Err Memory) = calls ≡ []
+
+-- a text is put beside its place and then there
 abbrev pub PutsBeside : Option ℕ → List ℕ → List ℕ → List Call → Result (Unit {0}) PutFault → Type 0
-PutsBeside mode path text calls (Ok done) = calls ≡ well (steps_beside (part_of path) mode path text)
-PutsBeside mode path text calls (Err Device) =
-    (cut : List Call) × (removed : Bool) × IsCut (steps_beside (part_of path) mode path text) cut × (calls ≡ cut ++ Remove (part_of path) removed ∷ [])
-PutsBeside mode path text calls (Err Memory) = calls ≡ []
+PutsBeside mode path text calls result = StepsWith (part_of path) (steps_beside (part_of path) mode path text) calls result
 
 -- a text is put where that stands: beside a file or at a free place, and straight to what is no plain file
 abbrev pub PutsAt : Result There PutFault → List ℕ → List ℕ → List Call → Result (Unit {0}) PutFault → Type 0
@@ -119,3 +125,59 @@ pub record Puts (path text : List ℕ) (before after : Option (List Call)) (resu
   pub says : Says told there
   pub puts : PutsAt there path text calls result
   pub called : Called before after (See path told ∷ calls)
+
+-- ---- a file that is written piece by piece
+
+-- the path of the part that a file is which was made, where it is one
+abbrev pub part_path : {F : Type 0} → MadeFile F → Option (List ℕ)
+part_path made = option_map string_bytes made.part
+
+-- the same, where a file was made
+abbrev pub part_made : {F : Type 0} → Result (MadeFile F) PutFault → Result (Option (List ℕ)) PutFault
+part_made (Ok made) = Ok (part_path made)
+part_made (Err why) = Err why
+
+-- a part is created and given the permissions
+abbrev pub steps_made : List ℕ → Option ℕ → List Step
+steps_made part mode = Create part ∷ permits part mode
+
+-- a file is made beside its place
+abbrev pub MakesBeside : Option ℕ → List ℕ → List Call → Result (Option (List ℕ)) PutFault → Type 0
+MakesBeside mode path calls made =
+    StepsWith (part_of path) (steps_made (part_of path) mode) calls (made_as made) × IfOk made (λ part. part ≡ Some (part_of path))
+
+-- what is no plain file is opened itself
+abbrev pub MakesItself : List ℕ → List Call → Result (Option (List ℕ)) PutFault → Type 0
+MakesItself path calls (Ok part) = (calls ≡ Create path true ∷ []) × (part ≡ None)
+MakesItself path calls (Err why) = (calls ≡ Create path false ∷ []) × (why ≡ Device)
+
+-- a file is made where that stands: beside a file or at a free place, and what is no plain file is opened itself
+abbrev pub MakesAt : Result There PutFault → List ℕ → List Call → Result (Option (List ℕ)) PutFault → Type 0
+MakesAt (Ok Free) path calls made = MakesBeside None path calls made
+MakesAt (Ok (Plain permissions)) path calls made = MakesBeside (Some (permissions_mode permissions)) path calls made
+MakesAt (Ok Other) path calls made = MakesItself path calls made
+MakesAt (Err why) path calls made = (calls ≡ []) × (made ≡ Err why)
+
+-- what stands at the path is looked at, and the file is made there
+pub record Makes (path : List ℕ) (before after : Option (List Call)) (made : Result (Option (List ℕ)) PutFault) : Type 0 where
+  pub told : Result Metadata Error
+  pub there : Result There PutFault
+  pub calls : List Call
+  pub says : Says told there
+  pub makes : MakesAt there path calls made
+  pub called : Called before after (See path told ∷ calls)
+
+-- a part is put in the place of the path; or that fails, and it is taken away
+abbrev pub KeepsPart : List ℕ → List ℕ → Option (List Call) → Option (List Call) → Result (Unit {0}) PutFault → Type 0
+KeepsPart part path before after (Ok done) = Called before after (Rename part path true ∷ [])
+KeepsPart part path before after (Err why) = (why ≡ Device) × (removed : Bool) × Called before after (Rename part path false ∷ Remove part removed ∷ [])
+
+-- a file that was made is put in the place of the path: its part is, and what has none stands there
+abbrev pub KeepsMade : Option (List ℕ) → List ℕ → Option (List Call) → Option (List Call) → Result (Unit {0}) PutFault → Type 0
+KeepsMade None path before after result = (after ≡ before) × (result ≡ Ok tt)
+KeepsMade (Some part) path before after result = KeepsPart part path before after result
+
+-- a file that was made is given up: its part is taken away
+abbrev pub LeavesMade : Option (List ℕ) → Option (List Call) → Option (List Call) → Type 0
+LeavesMade None before after = after ≡ before
+LeavesMade (Some part) before after = (removed : Bool) × Called before after (Remove part removed ∷ [])

@@ -4,7 +4,7 @@ ghost use Rattle.std.specs.Prelude.{◌≡◌, ◌⊎◌, ◌++◌, [], ◌∷�
 ghost use Rattle.csdf_model.specs.Graph.{actor_view};
 ghost use Rattle.csdf_words.specs.CommandLine.{order_view};
 ghost use Rattle.csdf_tool.specs.Acts.{Act, Asks, OnlyReads};
-ghost use Rattle.csdf_tool.specs.Places.{Apart, IsInUse, file_on, files_of_moves, files_on, graph_path, is_among, is_in_use, listed, listed_view, located, listed_files};
+ghost use Rattle.csdf_tool.specs.Places.{Apart, IsInUse, file_on, files_of_moves, files_on, graph_path, is_among, is_in_use, listed, listed_view, located, listed_files, sink_places};
 
 use crate::disk::Disk;
 use crate::files::path_in;
@@ -159,6 +159,20 @@ fn push_files_of_moves<'a>(
     push_path(alloc, path, true, files)
 }
 
+/// Standard output and then the files of the sinks of a folder, as they are looked for.
+fn files_of_sinks<'a>(
+    alloc: Global,
+    folder: &'a str,
+    actors: &[Actor],
+) -> Result<Vec<RunFile<'a>>, AllocError>
+    ensures { IfOk result (λ files. map listed_view files.items ≡ sink_places folder.entry.now (map actor_view actors.now)) }
+{
+    let mut files = Vec::new(alloc);
+    push_path(alloc, "/dev/stdout", false, &mut files)?;
+    push_files(alloc, Side::Sinks, folder, actors, &mut files)?;
+    Ok(files)
+}
+
 /// The files of a run in the order in which they are looked for: a file that is written stands behind
 /// those that it must not be.
 fn files_of_run<'a>(
@@ -168,9 +182,7 @@ fn files_of_run<'a>(
 ) -> Result<Vec<RunFile<'a>>, AllocError>
     ensures { IfOk result (λ files. map listed_view files.items ≡ listed_files (order_view order.entry) (map actor_view actors.now)) }
 {
-    let mut files = Vec::new(alloc);
-    push_path(alloc, "/dev/stdout", false, &mut files)?;
-    push_files(alloc, Side::Sinks, order.sink_folder, actors, &mut files)?;
+    let mut files = files_of_sinks(alloc, order.sink_folder, actors)?;
     push_files_of_moves(alloc, order, actors, &mut files)?;
     Ok(files)
 }
@@ -250,5 +262,23 @@ pub(crate) fn keep_apart<D: Disk>(
     ensures only { OnErr result (OnlyReads (D.acts disk.old) (D.acts disk.new)) }
 {
     let files = files_of_run(alloc, order, actors)?;
+    look_for_all(alloc, disk, &files)
+}
+
+/// Sees that no file of a folder that sinks are to be written to is in use: that it is not the file that
+/// standard output is, nor that of another sink.
+pub(crate) fn keep_sinks_apart<D: Disk>(
+    alloc: Global,
+    disk: &mut D,
+    folder: &str,
+    actors: &[Actor],
+) -> Result<(), ToolFault>
+    ensures apart { OnOk result ((acts : List Act) × Asks (D.acts disk.old) (D.acts disk.new) acts
+        × Apart (sink_places folder.now (map actor_view actors.now)) acts) }
+    ensures in_use { IfErr result (λ fault. (fault ≡ ToolFault.Memory) ⊎ ((acts : List Act) × Asks (D.acts disk.old) (D.acts disk.new) acts
+        × IsInUse (sink_places folder.now (map actor_view actors.now)) acts fault)) }
+    ensures only { OnErr result (OnlyReads (D.acts disk.old) (D.acts disk.new)) }
+{
+    let files = files_of_sinks(alloc, folder, actors)?;
     look_for_all(alloc, disk, &files)
 }

@@ -1,23 +1,30 @@
 //! Files, as the program asks for them.
 
-ghost use Rattle.std.specs.Prelude.{◌≡◌, ℕ, [], ◌∷◌, List, Option, None, Ok, Err, IfErr, IfOk};
-ghost use Rattle.csdf_tool.specs.Acts.{Act, Asks, Locate, Look, Read, Put, found, given, placed};
+ghost use Rattle.std.specs.Prelude.{◌≡◌, ℕ, [], ◌∷◌, List, Option, None, Ok, Err, IfErr, IfOk, is_ok};
+ghost use Rattle.csdf_tool.specs.Acts.{Act, Asks, Keep, Leave, Locate, Look, Make, Open, Read, Put, found, given, made_as, placed};
 ghost use Rattle.csdf_tool.specs.Contents.{AreTokensOf, content_text};
 
 use crate::content::Content;
 use crate::locate::place_at;
-use crate::look::{bytes_at, token_file_at, tokens_at};
+use crate::look::{bytes_at, source_at, token_file_at, tokens_at};
+use crate::making::{MadeFile, keep_at, leave_at, make_at};
 use crate::place::Place;
 use crate::put_fault::PutFault;
 use crate::putting::put_at;
 use crate::system::HostSystem;
 use csdf_answers::{TokenFile, ToolFault};
-use csdf_bytes::{InputFault, TokenFault};
+use csdf_bytes::{DeviceFailed, FromReader, InputFault, Intake, Outlet, TokenFault};
 use std::alloc::AllocError;
 use std::rt::Files;
 
 /// Files by their paths.
 pub trait Disk {
+    /// A file that is open to be read.
+    type Source: Intake + Drop;
+
+    /// A file that is being written.
+    type Sink: Outlet + Drop;
+
     /// What was asked for so far and what came of it, in order, where that is known.
     ghost acts: { Self → Option (List Act) };
 
@@ -43,6 +50,23 @@ pub trait Disk {
     /// Puts a file with this content in its place, in that of a file that is there.
     fn put(&mut self, path: &str, content: Content<'_>) -> Result<(), PutFault>
         ensures { Asks (acts self.old) (acts self.new) (Put path.now (content_text content.entry) result ∷ []) };
+
+    /// Opens a file to be read. Of a pipe it waits for the other end.
+    fn open(&mut self, path: &str) -> Result<Self::Source, DeviceFailed>
+        ensures { Asks (acts self.old) (acts self.new) (Open path.now (is_ok result) ∷ []) };
+
+    /// Makes a file that is to be written: a plain one beside its place, and what is no plain file itself.
+    fn make(&mut self, path: &str) -> Result<Self::Sink, PutFault>
+        ensures { Asks (acts self.old) (acts self.new) (Make path.now (made_as result) ∷ []) };
+
+    /// Puts a file that was made for this path in its place.
+    fn keep(&mut self, path: &str, sink: &Self::Sink) -> Result<(), PutFault>
+        ensures { Asks (acts self.old) (acts self.new) (Keep path.now (Self.Sink.written sink.now) result ∷ []) };
+
+    /// Gives a file up that was made for this path: what stood in its place stands there still, and what
+    /// is no plain file has what was written.
+    fn leave(&mut self, path: &str, sink: &Self::Sink)
+        ensures { Asks (acts self.old) (acts self.new) (Leave path.now ∷ []) };
 }
 
 /// The files of the system. What is asked of them is known to no contract here: what each call comes to is
@@ -60,6 +84,10 @@ impl<'a, R: Files + AllocGlobal> HostDisk<'a, R> {
 }
 
 impl<R: Files + AllocGlobal> Disk for HostDisk<'_, R> {
+    type Source = FromReader<R::File>;
+
+    type Sink = MadeFile<R::File>;
+
     ghost acts = { λ _. None };
 
     fn read(&mut self, path: &str) -> Result<Vec<u8>, InputFault> {
@@ -80,5 +108,21 @@ impl<R: Files + AllocGlobal> Disk for HostDisk<'_, R> {
 
     fn put(&mut self, path: &str, content: Content<'_>) -> Result<(), PutFault> {
         put_at(self.rt.alloc(), &mut HostSystem(self.rt), path, content)
+    }
+
+    fn open(&mut self, path: &str) -> Result<FromReader<R::File>, DeviceFailed> {
+        source_at(&mut HostSystem(self.rt), path)
+    }
+
+    fn make(&mut self, path: &str) -> Result<MadeFile<R::File>, PutFault> {
+        make_at(self.rt.alloc(), &mut HostSystem(self.rt), path)
+    }
+
+    fn keep(&mut self, path: &str, sink: &MadeFile<R::File>) -> Result<(), PutFault> {
+        keep_at(&mut HostSystem(self.rt), path, sink)
+    }
+
+    fn leave(&mut self, _path: &str, sink: &MadeFile<R::File>) {
+        leave_at(&mut HostSystem(self.rt), sink);
     }
 }

@@ -1,6 +1,6 @@
 //! What is found at the path of a file that is to be read.
 
-ghost use Rattle.std.specs.Prelude.{◌≡◌, ◌↔◌, ℕ, List, [], ◌∷◌, true, None, Ok, IfErr, IfOk, IfSome, OnErr, Option};
+ghost use Rattle.std.specs.Prelude.{◌≡◌, ◌↔◌, ℕ, List, [], ◌∷◌, true, false, None, Ok, IfErr, IfOk, IfSome, OnErr, Option, is_none, is_ok};
 ghost use Rattle.std.specs.Fs.{IsDir, IsFile};
 ghost use Rattle.std.specs.IoError.{error_kind};
 ghost use Rattle.std.specs.declared.io.ErrorKind.{ErrorKind};
@@ -10,7 +10,9 @@ ghost use Rattle.csdf_tool.specs.TokenFiles.{IsOpenedAs, IsReadOf, Looks, unopen
 
 use crate::system::System;
 use csdf_answers::{TokenFile, ToolFault};
-use csdf_bytes::{FromReader, InputFault, Intake, TokenFault, read_bytes, read_token_file};
+use csdf_bytes::{
+    DeviceFailed, FromReader, InputFault, Intake, TokenFault, read_bytes, read_token_file,
+};
 use std::alloc::Global;
 use std::fs::FileType;
 use std::io::{self, ErrorKind, Read};
@@ -138,4 +140,19 @@ pub(crate) fn tokens_at<S: System>(
     ensures came { IfOk result (λ told. (text : List ℕ) × AreTokensOf text told) }
 {
     opened_tokens(alloc, system.open(path))
+}
+
+/// The file at a path, opened to be read.
+pub(crate) fn source_at<S: System>(
+    system: &mut S,
+    path: &str,
+) -> Result<FromReader<S::File>, DeviceFailed>
+    ensures opened { (why : Option ErrorKind) × Called (S.calls system.old) (S.calls system.new) (Open path.now why ∷ [])
+        × (is_ok result ≡ is_none why) }
+    ensures unmarked { IfOk result (λ source. source.failed ≡ false) }
+{
+    match system.open(path) {
+        Ok(file) => Ok(FromReader::new(file)),
+        Err(_) => Err(DeviceFailed),
+    }
 }

@@ -1,18 +1,20 @@
 //! The program, from its words to its exit status.
 
-ghost use Rattle.std.specs.Prelude.{◌≡◌, ◌≢◌, ◌≤◌, ◌⊎◌, map, string_bytes, ℕ, List, Option, [], true, Ok, Err, IfErr, OnOk};
+ghost use Rattle.std.specs.Prelude.{◌≡◌, ◌≢◌, ◌≤◌, ◌⊎◌, map, string_bytes, ℕ, List, Option, [], Some, None, true, false, Ok, Err, IfErr, OnErr, OnOk};
 ghost use Rattle.std.specs.Io.KnownBytes.{Appends};
 ghost use Rattle.clap.specs.Words.{fault_of, kind_of};
 ghost use Rattle.csdf_words.specs.CommandLine.{program, asked_view, form_asked, form_of, words_ask, Asked};
-ghost use Rattle.csdf_tool.specs.Carried.{IsCarriedOut, IsCauseOf, asks_run, reads_input};
-ghost use Rattle.csdf_tool.specs.Ends.{AreTaken, Ended, EndsAs, EndsBy, EndsFor, EndsForOneOf, EndsInForm, EndsInUse, EndsTelling, EndsTold, EndsUnasked, EndsUnread, ending, told_in};
+ghost use Rattle.csdf_tool.specs.Carried.{IsCarriedOut, IsCauseOf, IsStreamedOut, asks_files, asks_stream, flows_asked, flows_out, reads_input};
+ghost use Rattle.csdf_tool.specs.Ends.{AreTaken, Ended, EndsAs, EndsBy, EndsFor, EndsForOneOf, EndsInForm, EndsInUse, EndsLacking, EndsTelling, EndsTold, EndsUnasked, EndsUnread, ending, told_in};
+ghost use Rattle.csdf_tool.specs.Flows.{standard, through};
 ghost use Rattle.csdf_tool.specs.Acts.{devices, marks};
 
 use crate::answer_files::{ask_file, play_file};
 use crate::disk::Disk;
 use crate::explain_files::explain_files;
-use crate::refused::{refuse_lengths, refuse_room};
+use crate::refused::{refuse_lengths, refuse_out, refuse_room};
 use crate::run_files::run_files;
+use crate::stream_files::stream_files;
 use clap::Error;
 use clap::error::ErrorKind;
 use csdf_answers::{Form, Stream, ToolFault, fault_line, memory_line};
@@ -24,20 +26,31 @@ use std::fmt::Write;
 use std::sync::Wait;
 use std::thread::Threads;
 
-/// Carries a request out.
-fn carry_out<R: AllocGlobal + Eprint + Threads + Wait + Sync, D: Disk, I: Intake, O: Outlet>(
+/// Carries a request out. What is told on standard error beside a fault is told here.
+fn carry_out<
+    R: AllocGlobal + Eprint + Threads + Wait + Sync,
+    D: Disk,
+    I: Intake,
+    O: Outlet,
+    E: Outlet,
+>(
     rt: &R,
     disk: &mut D,
     request: Request<'_>,
     reader: &mut I,
     out: &mut O,
+    err: &mut E,
 ) -> Result<(), ToolFault>
-    ensures unwritten { IfErr result (λ fault. fault ≢ ToolFault.Device Stream.Output → out.new ≡ out.old) }
+    ensures unwritten { flows_out (asked_view request.entry) ≡ false → IfErr result (λ fault. fault ≢ ToolFault.Device Stream.Output → out.new ≡ out.old) }
+    ensures silent { OnErr result (err.new ≡ err.old) }
+    ensures unspoken { flows_out (asked_view request.entry) ≡ false → err.new ≡ err.old }
     ensures failed { result ≡ Err (ToolFault.Device Stream.Output) → O.failed out.new ≡ true }
     ensures carried { OnOk result (IsCarriedOut (asked_view request.entry) (devices (I.left reader.old) (D.acts disk.old) (D.acts disk.new))
         (O.written out.old) (O.written out.new)) }
+    ensures streamed { OnOk result (IsStreamedOut (asked_view request.entry) (devices (I.left reader.old) (D.acts disk.old) (D.acts disk.new))
+        (standard (I.left reader.old) (I.left reader.new) (O.written out.old) (O.written out.new) (E.written err.old) (E.written err.new) (E.failed err.new))) }
     ensures caused { IfErr result (IsCauseOf (asked_view request.entry) (devices (I.left reader.old) (D.acts disk.old) (D.acts disk.new))
-        (marks (I.failed reader.new) (O.failed out.new))) }
+        (through (I.left reader.old) (I.left reader.new) (O.written out.old) (O.written out.new)) (marks (I.failed reader.new) (O.failed out.new))) }
     ensures input { reads_input (asked_view request.entry) ≡ true → I.failed reader.new ≡ true → result ≡ Err (ToolFault.Device Stream.Input) }
 {
     let alloc = rt.alloc();
@@ -47,6 +60,7 @@ fn carry_out<R: AllocGlobal + Eprint + Threads + Wait + Sync, D: Disk, I: Intake
         Request::Ask(inquiry) => ask_file(alloc, disk, inquiry, reader, out),
         Request::Explain(path, folder) => explain_files(alloc, disk, path, folder, reader, out),
         Request::Run(order) => run_files(rt, disk, order, reader, out),
+        Request::Stream(order) => stream_files(rt, disk, order, reader, out, err),
     }
 }
 
@@ -74,7 +88,7 @@ fn told_in(form: Form, fault: &ToolFault) -> Form
     ensures { result ≡ told_in form fault.now }
 {
     match fault {
-        ToolFault::InUse(_) => Form::Text,
+        ToolFault::InUse(_) | ToolFault::Lacks(_) => Form::Text,
         _ => form,
     }
 }
@@ -166,6 +180,7 @@ fn status_of_words<O: Outlet, E: Outlet>(
         Unread::Parse(error) => status_of_error(alloc, error, out, err),
         Unread::Room(text) => refuse_room(text, err),
         Unread::Lengths => refuse_lengths(err),
+        Unread::OutAlone => refuse_out(err),
     }
 }
 
@@ -174,8 +189,8 @@ fn status_of_words<O: Outlet, E: Outlet>(
 /// they name is in use, 3 where a device or memory failed.
 ///
 /// A fault of status 1 or 3 is told on `err` by its text and a newline, or where the words ask for
-/// JSON by its object, and nothing is written to `out` but for a fault of `out` itself. A failure of
-/// `err` changes no status.
+/// JSON by its object, and nothing is written to `out` but for a fault of `out` itself. A stream from
+/// `reader` to `out` writes as it goes, and its report goes to `err`. A failure of `err` changes no status.
 pub fn run_words<
     R: AllocGlobal + Eprint + Threads + Wait + Sync,
     D: Disk,
@@ -184,15 +199,16 @@ pub fn run_words<
     E: Outlet,
 >(rt: &R, disk: &mut D, words: &[String], reader: &mut I, out: &mut O, err: &mut E) -> u8
     ensures known { result ≤ 3 }
-    ensures refused { (result ≡ 1) ⊎ (result ≡ 2) → out.new ≡ out.old }
-    ensures device { result ≡ 3 → (out.new ≡ out.old) ⊎ (O.failed out.new ≡ true) }
-    ensures answered { result ≡ 0 → err.new ≡ err.old }
+    ensures refused { flows_asked (words_ask (map string_bytes words.now)) ≡ false → (result ≡ 1) ⊎ (result ≡ 2) → out.new ≡ out.old }
+    ensures device { flows_asked (words_ask (map string_bytes words.now)) ≡ false → result ≡ 3 → (out.new ≡ out.old) ⊎ (O.failed out.new ≡ true) }
+    ensures answered { flows_asked (words_ask (map string_bytes words.now)) ≡ false → result ≡ 0 → err.new ≡ err.old }
     ensures lined { (result ≡ 1) ⊎ (result ≡ 3) → (fault : ToolFault) × EndsInForm (form_asked (words_ask (map string_bytes words.now))) fault result
         (E.written err.old) (E.written err.new) (E.failed err.new) }
-    ensures taken { AreTaken (map string_bytes words.now) → words_ask (map string_bytes words.now) ≢ None → result ≡ 2
-        → EndsInUse (form_asked (words_ask (map string_bytes words.now))) result (E.written err.old) (E.written err.new) (E.failed err.new) }
+    ensures taken { (asks : Asked) → AreTaken (map string_bytes words.now) → words_ask (map string_bytes words.now) ≡ Some asks → result ≡ 2
+        → EndsInUse (form_of asks) result (E.written err.old) (E.written err.new) (E.failed err.new)
+        ⊎ ((asks_stream asks ≡ true) × EndsLacking (form_of asks) result (E.written err.old) (E.written err.new) (E.failed err.new)) }
     ensures run { (asks : Asked) → AreTaken (map string_bytes words.now) → words_ask (map string_bytes words.now) ≡ Some asks → result ≡ 2
-        → asks_run asks ≡ true }
+        → asks_files asks ≡ true }
     ensures nothing { AreTaken (map string_bytes words.now) → words_ask (map string_bytes words.now) ≡ None
         → (result ≡ 2) ⊎ EndsTold (ending result (E.written err.old) (E.written err.new) (E.failed err.new) (O.failed out.new)) ToolFault.Memory }
     ensures reason { words_ask (map string_bytes words.now) ≡ None → EndsUnasked (map string_bytes words.now)
@@ -203,9 +219,12 @@ pub fn run_words<
         → (disk.new ≡ disk.old) × (reader.new ≡ reader.old) }
     ensures carried { (asks : Asked) → AreTaken (map string_bytes words.now) → words_ask (map string_bytes words.now) ≡ Some asks → result ≡ 0
         → IsCarriedOut asks (devices (I.left reader.old) (D.acts disk.old) (D.acts disk.new)) (O.written out.old) (O.written out.new) }
+    ensures streamed { (asks : Asked) → AreTaken (map string_bytes words.now) → words_ask (map string_bytes words.now) ≡ Some asks → result ≡ 0
+        → IsStreamedOut asks (devices (I.left reader.old) (D.acts disk.old) (D.acts disk.new))
+        (standard (I.left reader.old) (I.left reader.new) (O.written out.old) (O.written out.new) (E.written err.old) (E.written err.new) (E.failed err.new)) }
     ensures caused { (asks : Asked) → AreTaken (map string_bytes words.now) → words_ask (map string_bytes words.now) ≡ Some asks → result ≢ 0
         → (fault : ToolFault) × IsCauseOf asks (devices (I.left reader.old) (D.acts disk.old) (D.acts disk.new))
-        (marks (I.failed reader.new) (O.failed out.new)) fault
+        (through (I.left reader.old) (I.left reader.new) (O.written out.old) (O.written out.new)) (marks (I.failed reader.new) (O.failed out.new)) fault
         × EndsTelling (form_of asks) fault result (E.written err.old) (E.written err.new) (E.failed err.new) }
     ensures input { (asks : Asked) → AreTaken (map string_bytes words.now) → words_ask (map string_bytes words.now) ≡ Some asks
         → reads_input asks ≡ true → I.failed reader.new ≡ true
@@ -214,12 +233,8 @@ pub fn run_words<
     match request_of(rt.alloc(), words) {
         Ok(request) => {
             let form = form_of(&request);
-            status_after(
-                rt.alloc(),
-                form,
-                carry_out(rt, disk, request, reader, out),
-                err,
-            )
+            let answer = carry_out(rt, disk, request, reader, out, err);
+            status_after(rt.alloc(), form, answer, err)
         }
         Err(unread) => status_of_words(rt.alloc(), &unread, out, err),
     }

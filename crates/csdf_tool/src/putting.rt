@@ -14,7 +14,7 @@ use std::io::{self, ErrorKind};
 
 /// What stands at a path.
 #[derive(Drop)]
-enum There {
+pub(crate) enum There {
     /// Nothing.
     Free,
     /// A plain file with these permissions.
@@ -24,7 +24,7 @@ enum There {
 }
 
 /// What stands at a path, by what the system tells.
-fn there_of(told: io::Result<Metadata>) -> Result<There, PutFault>
+pub(crate) fn there_of(told: io::Result<Metadata>) -> Result<There, PutFault>
     ensures { Says told result }
 {
     match told {
@@ -36,7 +36,7 @@ fn there_of(told: io::Result<Metadata>) -> Result<There, PutFault>
 }
 
 /// The path beside it at which a file is made before it is put in its place.
-fn part_of(alloc: Global, path: &str) -> Result<String, AllocError>
+pub(crate) fn part_of(alloc: Global, path: &str) -> Result<String, AllocError>
     ensures { IfOk result (λ part. string_bytes part ≡ part_of path.now) }
 {
     let mut part = String::from_str(alloc, path)?;
@@ -45,7 +45,7 @@ fn part_of(alloc: Global, path: &str) -> Result<String, AllocError>
 }
 
 /// What the end of a call is for a put.
-fn ended(call: io::Result<()>) -> Result<(), PutFault>
+pub(crate) fn ended(call: io::Result<()>) -> Result<(), PutFault>
     ensures well { OnOk result (is_ok call ≡ true) }
     ensures failed { IfErr result (λ why. (why ≡ PutFault.Device) × (is_ok call ≡ false)) }
 {
@@ -75,7 +75,7 @@ fn advance<S: System>(system: &mut S, stage: Stage<'_>) -> Result<(), PutFault>
 }
 
 /// Gives a part the permissions of the file that it is to replace, where there is one.
-fn permit<S: System>(
+pub(crate) fn permit<S: System>(
     system: &mut S,
     part: &str,
     permissions: Option<Permissions>,

@@ -2,7 +2,7 @@
 
 ghost use Rattle.std.specs.Prelude.{◌≡◌, ◌⊎◌, ◌++◌, true, OnErr, OnOk};
 ghost use Rattle.std.specs.Io.KnownBytes.{Appends};
-ghost use Rattle.csdf_tool.specs.Refused.{lengths_refusal, room_refusal};
+ghost use Rattle.csdf_tool.specs.Refused.{lengths_refusal, out_refusal, room_refusal};
 
 use csdf_bytes::{Outlet, WriteFault, write_bytes};
 
@@ -50,6 +50,21 @@ pub(crate) fn refuse_lengths<E: Outlet>(err: &mut E) -> u8
     tell_between(
         "",
         "error: '--until-dry' and '--periods <K>' exclude each other\n\nFor more information, try '--help'.\n",
+        "",
+        err,
+    );
+    2
+}
+
+/// Tells that a stream has a folder for its sinks and none for its sources, and answers the exit status of
+/// refused words.
+pub(crate) fn refuse_out<E: Outlet>(err: &mut E) -> u8
+    ensures status { result ≡ 2 }
+    ensures told { Appends (E.written err.old) (E.written err.new) out_refusal ⊎ (E.failed err.new ≡ true) }
+{
+    tell_between(
+        "",
+        "error: '--out <FOLDER>' needs DIR\n\nFor more information, try '--help'.\n",
         "",
         err,
     );

@@ -101,8 +101,8 @@ fn token_fault(alloc: Global, source: &str, fault: TokenFault) -> Result<ToolFau
 {
     let name = Name::new(alloc, source)?;
     match fault {
-        TokenFault::Syntax(line) => Ok(ToolFault::TokenSyntax(name, line)),
-        TokenFault::Range(line) => Ok(ToolFault::TokenRange(name, line)),
+        TokenFault::Syntax(line) => Ok(ToolFault::TokenSyntax(name, u64::from(line))),
+        TokenFault::Range(line) => Ok(ToolFault::TokenRange(name, u64::from(line))),
         TokenFault::TooMany => Ok(ToolFault::TooManyTokens(name)),
         TokenFault::Memory => Ok(ToolFault::Memory),
         TokenFault::Read => {
@@ -113,7 +113,7 @@ fn token_fault(alloc: Global, source: &str, fault: TokenFault) -> Result<ToolFau
 }
 
 /// Why a run failed, as the program tells it.
-fn run_fault(fault: RunFault) -> ToolFault
+pub(crate) fn run_fault(fault: RunFault) -> ToolFault
     ensures { result ≡ run_fault fault }
 {
     match fault {

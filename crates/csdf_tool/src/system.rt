@@ -3,7 +3,7 @@
 ghost use Rattle.std.specs.Prelude.{[], ◌∷◌, List, None, Option, is_ok};
 ghost use Rattle.std.specs.Fs.{permissions_mode};
 ghost use Rattle.csdf_tool.specs.Contents.{content_text};
-ghost use Rattle.csdf_tool.specs.SystemCalls.{Call, Called, Follow, Link, Open, Permit, Remove, Rename, See, Write, text_of, unopened_as};
+ghost use Rattle.csdf_tool.specs.SystemCalls.{Call, Called, Create, Follow, Link, Open, Permit, Remove, Rename, See, Write, text_of, unopened_as};
 
 use crate::content::Content;
 use csdf_bytes::{ToWriter, write_tokens};
@@ -14,8 +14,8 @@ use std::rt::Files;
 
 /// The calls of the system on files, each as std has it.
 pub(crate) trait System {
-    /// A file that is open to be read.
-    type File: Read + Drop;
+    /// A file that is open, to be read or to be written.
+    type File: Read + Write + Drop;
 
     /// What was called so far and how it ended, in order, where that is known.
     ghost calls: { Self → Option (List Call) };
@@ -35,6 +35,10 @@ pub(crate) trait System {
     /// Opens a file to be read.
     fn open(&mut self, path: &str) -> io::Result<Self::File>
         ensures { Called (calls self.old) (calls self.new) (Open path.now (unopened_as result) ∷ []) };
+
+    /// Makes a file, or empties the one that is there, and opens it to be written.
+    fn create(&mut self, path: &str) -> io::Result<Self::File>
+        ensures { Called (calls self.old) (calls self.new) (Create path.now (is_ok result) ∷ []) };
 
     /// Makes a file, or empties the one that is there, and writes this content to it.
     fn write(&mut self, path: &str, content: Content<'_>) -> io::Result<()>
@@ -77,6 +81,10 @@ impl<R: Files + AllocGlobal> System for HostSystem<'_, R> {
 
     fn open(&mut self, path: &str) -> io::Result<R::File> {
         fs::open(self.0, path)
+    }
+
+    fn create(&mut self, path: &str) -> io::Result<R::File> {
+        fs::create(self.0, path)
     }
 
     fn write(&mut self, path: &str, content: Content<'_>) -> io::Result<()> {

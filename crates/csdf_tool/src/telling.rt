@@ -10,12 +10,12 @@ use std::fmt;
 /// After how many firings the line is told again: what half a second makes where they are made one by one.
 const STEP: u64 = 2_000_000;
 
-/// A line that tells how many firings were made, of how many at most. Each is written over the one before,
-/// and the last one ends with a newline.
+/// A line that tells how many firings were made, and of how many at most where that is known. Each is written
+/// over the one before, and the last one ends with a newline.
 #[derive(Clone, Copy)]
 pub(crate) struct Line {
     made: u64,
-    most: u64,
+    most: Option<u64>,
     is_last: bool,
 }
 
@@ -27,11 +27,11 @@ impl fmt::Display for Line {
 
     fn fmt<W: fmt::Write>(&self, f: &mut fmt::Formatter<W>) -> fmt::Result {
         let made = self.made;
-        let most = self.most;
-        if self.is_last {
-            write!(f, "\rcsdf: {made} of at most {most} firings\n")
-        } else {
-            write!(f, "\rcsdf: {made} of at most {most} firings")
+        match (self.most, self.is_last) {
+            (Some(most), true) => write!(f, "\rcsdf: {made} of at most {most} firings\n"),
+            (Some(most), false) => write!(f, "\rcsdf: {made} of at most {most} firings"),
+            (None, true) => write!(f, "\rcsdf: {made} firings\n"),
+            (None, false) => write!(f, "\rcsdf: {made} firings"),
         }
     }
 }
@@ -46,11 +46,11 @@ pub(crate) trait Telling {
         ensures { OnOk result (Appends (told self.old) (told self.new) (line_text line)) };
 }
 
-/// Tells that a run of at most so many firings begins, where that is asked for.
+/// Tells that a run begins, of at most so many firings where that is known, where it is asked for.
 pub(crate) fn tell_begin<T: Telling>(
     place: &mut T,
     is_asked: bool,
-    most: u64,
+    most: Option<u64>,
 ) -> Result<(), DeviceFailed>
     ensures told { is_asked ≡ true → OnOk result (Appends (T.told place.old) (T.told place.new) (line_text (line 0 most false))) }
     ensures silent { is_asked ≡ false → place.new ≡ place.old }
@@ -78,7 +78,7 @@ pub(crate) fn tell_made<T: Telling>(
     is_asked: bool,
     before: u64,
     firings: u32,
-    most: u64,
+    most: Option<u64>,
 ) -> Result<(), DeviceFailed>
     ensures told { is_asked ≡ true → is_due before (made_after before firings) ≡ true
         → OnOk result (Appends (T.told place.old) (T.told place.new) (line_text (line (made_after before firings) most false))) }
@@ -100,7 +100,7 @@ pub(crate) fn tell_end<T: Telling>(
     place: &mut T,
     is_asked: bool,
     made: u64,
-    most: u64,
+    most: Option<u64>,
 ) -> Result<(), DeviceFailed>
     ensures told { is_asked ≡ true → OnOk result (Appends (T.told place.old) (T.told place.new) (line_text (line made most true))) }
     ensures silent { is_asked ≡ false → place.new ≡ place.old }

@@ -2,7 +2,7 @@
 
 use crate::core_tests::LOOP;
 use crate::shared::{CHAIN, DISAGREEING, STUCK_CYCLE, expect_eq, line_of, written_or_line};
-use csdf_answers::{Name, Stream, ToolFault, play_script};
+use csdf_answers::{Lack, Name, Stream, ToolFault, play_script};
 use csdf_bytes::{Fused, ToWriter};
 use csdf_graph::{At, GraphFault};
 use std::process::Abort;
@@ -416,7 +416,7 @@ fn faults_of_graphs_have_a_line(rt: HostRuntime) -> Result<(), Fail> {
 }
 
 /// Faults that name nothing, their lines, and their statuses.
-const FAULTS: [(ToolFault, &str, u8); 9] = [
+const FAULTS: [(ToolFault, &str, u8); 13] = [
     (ToolFault::Deadlock, "csdf: graph: deadlock", 1),
     (ToolFault::TooTight, "csdf: graph: too tight", 1),
     (ToolFault::Line(99_999), "csdf: script: line 99999", 1),
@@ -433,6 +433,26 @@ const FAULTS: [(ToolFault, &str, u8); 9] = [
         ToolFault::Device(Stream::Output),
         "csdf: device: standard output",
         3,
+    ),
+    (
+        ToolFault::Lacks(Lack::SourcesFolder),
+        "csdf: stream: DIR is needed: the graph has several sources",
+        2,
+    ),
+    (
+        ToolFault::Lacks(Lack::SinksFolder),
+        "csdf: stream: DIR is needed: the graph has several sinks",
+        2,
+    ),
+    (
+        ToolFault::Lacks(Lack::Periods),
+        "csdf: stream: --periods is needed: the graph has no source",
+        2,
+    ),
+    (
+        ToolFault::Lacks(Lack::GraphFile),
+        "csdf: stream: a graph file is needed: standard input has the tokens",
+        2,
     ),
 ];
 
@@ -454,6 +474,19 @@ fn a_channel_that_is_refused_is_named(rt: HostRuntime) -> Result<(), Fail> {
 fn a_channel_that_is_too_large_is_named(rt: HostRuntime) -> Result<(), Fail> {
     let fault = ToolFault::TooLarge(Name::new(rt.alloc(), "y")?);
     expect_told_once(&rt, fault, "csdf: graph: too large at channel y", 1)
+}
+
+#[test]
+fn a_sample_that_is_cut_off_is_told_by_its_source(rt: HostRuntime) -> Result<(), Fail> {
+    let fault = ToolFault::TokenCutOff(Name::new(rt.alloc(), "src")?, 3);
+    expect_told_once(&rt, fault, "csdf: tokens src: cut off at sample 3", 1)
+}
+
+#[test]
+fn a_line_beyond_32_bits_is_told_whole(rt: HostRuntime) -> Result<(), Fail> {
+    let fault = ToolFault::TokenSyntax(Name::new(rt.alloc(), "src")?, 4_294_967_297);
+    let line = "csdf: tokens src: syntax at line 4294967297";
+    expect_told_once(&rt, fault, line, 1)
 }
 
 #[test]

@@ -9,7 +9,10 @@ use Rattle.csdf_analysis.specs.declared.room.Room.{Room}
 use Rattle.csdf_analysis.specs.declared.room.Room.TheVariants.{Least, Periods, Auto}
 use Rattle.csdf_analysis.specs.declared.length.Length.{Length}
 use Rattle.csdf_analysis.specs.declared.length.Length.TheVariants as lengths
-use Rattle.csdf_words.specs.CommandLine.{program, asked_by, asked_with, room_in, words_ask, Asked, Input, Moves, Ask, Explain, Run}
+use Rattle.csdf_bytes.specs.declared.sample_format.SampleFormat.TheVariants as samples
+use Rattle.csdf_stream.specs.declared.options.TokenFormat.{TokenFormat}
+use Rattle.csdf_stream.specs.declared.options.TokenFormat.TheVariants as formats
+use Rattle.csdf_words.specs.CommandLine.{program, asked_by, asked_with, room_in, token_formats, words_ask, Asked, FolderNames, Input, Moves, Ask, Explain, Run, Flow}
 
 abbrev on : Text → List Text
 on command = command ∷ codes "a.toml" ∷ []
@@ -103,6 +106,7 @@ file_of (Some (Moves path)) = path
 file_of (Some (Ask question form room path)) = path
 file_of (Some (Explain path folder)) = path
 file_of (Some (Run order)) = order.graph
+file_of (Some (Flow order)) = order.graph
 
 -- each command has its meaning: it asks for something of the file that it names
 every_command_asks : map (λ (s : Shape). file_of (words_ask (on s.name))) program.subs ≡ map (λ (s : Shape). codes "a.toml") program.subs
@@ -260,3 +264,114 @@ two_rooms_are_refused = refl
 no_folder_is_refused : takes program (codes "run" ∷ codes "a.toml" ∷ []) ≡ false
 unfolding clap_on_literals
 no_folder_is_refused = refl
+
+-- ---- streams
+
+-- the words of a stream, and what they ask for
+abbrev stream_on : List Text → List Text
+stream_on options = codes "stream" ∷ codes "a.toml" ∷ options
+
+abbrev stream_told : Form → Bool → TokenFormat → Option ℕ → Option ℕ → ℕ → Room → Option FolderNames → Option Asked
+stream_told form progress format periods segment workers room folders = Some (Flow (record {
+  graph = codes "a.toml";
+  folders = folders;
+  room = room;
+  workers = workers;
+  segment = segment;
+  periods = periods;
+  format = format;
+  progress = progress;
+  form = form;
+}))
+
+-- a stream of which nothing more is asked: one worker, the room that is chosen by the graph, tokens as text, until a source is dry
+abbrev plain_stream : Option FolderNames → Option Asked
+plain_stream = stream_told forms.Text false formats.Text None None 1 Auto
+
+abbrev stream_in : TokenFormat → Option Asked
+stream_in format = stream_told forms.Text false format None None 1 Auto None
+
+stream_asks : words_ask (stream_on []) ≡ plain_stream None
+unfolding clap_on_literals asked_with
+stream_asks = refl
+
+stream_with_folder_asks : words_ask (stream_on (codes "d" ∷ [])) ≡ plain_stream (Some (record { sources = codes "d"; sinks = codes "d" }))
+unfolding clap_on_literals asked_with
+stream_with_folder_asks = refl
+
+stream_with_other_folder_asks :
+    words_ask (stream_on (codes "--out" ∷ codes "e" ∷ codes "d" ∷ [])) ≡ plain_stream (Some (record { sources = codes "d"; sinks = codes "e" }))
+unfolding clap_on_literals asked_with
+stream_with_other_folder_asks = refl
+
+stream_options_ask :
+    words_ask (stream_on (codes "--workers" ∷ codes "8" ∷ codes "--room=3" ∷ codes "--segment" ∷ codes "5" ∷ codes "--periods=+20" ∷ []
+    ++ codes "--format" ∷ codes "s16be" ∷ codes "--progress" ∷ codes "--json" ∷ []))
+    ≡ stream_told forms.Json true (formats.Samples samples.S16Be) (Some 20) (Some 5) 8 (Periods 3) None
+unfolding clap_on_literals asked_with
+stream_options_ask = refl
+
+longest_stream_asks : words_ask (stream_on (codes "--segment" ∷ codes "4294967295" ∷ codes "--periods" ∷ codes "4294967295" ∷ []))
+    ≡ stream_told forms.Text false formats.Text (Some 4294967295) (Some 4294967295) 1 Auto None
+unfolding clap_on_literals asked_with
+longest_stream_asks = refl
+
+-- each format by its name
+every_format_asks :
+    map (λ name. words_ask (stream_on (codes "--format" ∷ name ∷ [])))
+    (codes "text" ∷ codes "u8" ∷ codes "s8" ∷ codes "s16le" ∷ codes "s16be" ∷ codes "s32le" ∷ codes "s32be" ∷ []) ≡ map stream_in token_formats
+unfolding clap_on_literals asked_with
+every_format_asks = refl
+
+out_alone_asks_nothing : words_ask (stream_on (codes "--out" ∷ codes "e" ∷ [])) ≡ None
+unfolding clap_on_literals asked_with
+out_alone_asks_nothing = refl
+
+out_alone_is_taken : takes program (stream_on (codes "--out" ∷ codes "e" ∷ [])) ≡ true
+unfolding clap_on_literals
+out_alone_is_taken = refl
+
+no_room_of_a_stream_asks_nothing : words_ask (stream_on (codes "--room" ∷ codes "0" ∷ [])) ≡ None
+unfolding clap_on_literals asked_with
+no_room_of_a_stream_asks_nothing = refl
+
+-- whether a stream with this option is taken
+abbrev is_streamed : Text → Text → Bool
+is_streamed option number = takes program (stream_on (option ∷ number ∷ []))
+
+ends_of_streams_are_taken :
+    map (is_streamed (codes "--workers")) (codes "1" ∷ codes "8" ∷ []) ++ map (is_streamed (codes "--segment")) (codes "1" ∷ codes "4294967295" ∷ [])
+    ++ map (is_streamed (codes "--periods")) (codes "1" ∷ codes "4294967295" ∷ []) ≡ true ∷ true ∷ true ∷ true ∷ true ∷ true ∷ []
+unfolding clap_on_literals
+ends_of_streams_are_taken = refl
+
+past_the_ends_of_streams_is_refused :
+    map (is_streamed (codes "--workers")) (codes "0" ∷ codes "9" ∷ []) ++ map (is_streamed (codes "--segment")) (codes "0" ∷ codes "4294967296" ∷ [])
+    ++ map (is_streamed (codes "--periods")) (codes "0" ∷ codes "4294967296" ∷ []) ≡ false ∷ false ∷ false ∷ false ∷ false ∷ false ∷ []
+unfolding clap_on_literals
+past_the_ends_of_streams_is_refused = refl
+
+unknown_formats_are_refused : map (is_streamed (codes "--format")) ([] ∷ codes "s16" ∷ codes "Text" ∷ codes "u8 " ∷ []) ≡ false ∷ false ∷ false ∷ false ∷ []
+unfolding clap_on_literals
+unknown_formats_are_refused = refl
+
+-- what only a run takes
+options_of_runs_are_refused :
+    takes program (stream_on (codes "--until-dry" ∷ [])) ∷ is_streamed (codes "--firings") (codes "9") ∷ is_streamed (codes "--journal") (codes "m") ∷ []
+    ≡ false ∷ false ∷ false ∷ []
+unfolding clap_on_literals
+options_of_runs_are_refused = refl
+
+-- and what only a stream takes
+options_of_streams_are_refused :
+    takes program (run_on (codes "--segment" ∷ codes "1" ∷ [])) ∷ takes program (run_on (codes "--format" ∷ codes "text" ∷ [])) ∷ [] ≡ false ∷ false ∷ []
+unfolding clap_on_literals
+options_of_streams_are_refused = refl
+
+no_graph_to_stream_is_refused : takes program (codes "stream" ∷ []) ≡ false
+unfolding clap_on_literals
+no_graph_to_stream_is_refused = refl
+
+two_folders_of_a_stream_are_refused : takes program (stream_on (codes "d" ∷ codes "e" ∷ [])) ≡ false
+unfolding clap_on_literals
+two_folders_of_a_stream_are_refused = refl

@@ -1,9 +1,12 @@
 -- The command that a parse met, and the words and numbers after it.
-use Rattle.std.proofs.Common.{◌≡◌, ◌≤◌, ◌||◌, ◌<◌, ◌^◌, ℕ, Bool, true, false, cond, List, Option, Some, None, codes, option_map, refl, sym, subst, ap, ap₂, ◌∙◌, Bor, arith}
-use Rattle.std.specs.Prelude.{Box, IfSome, option_and_then, unwrap_or}
+use Rattle.std.proofs.Common.{◌≡◌, ◌≢◌, ◌≤◌, ◌||◌, ◌<◌, ◌^◌, ℕ, Bool, true, false, cond, List, [], ◌∷◌, Option, Some, None, codes, option_map, refl, sym, subst, ap, ap₂, ◌∙◌, Bor, arith}
+use Rattle.std.specs.Prelude.{Box, IfNone, IfSome, find, option_and_then, unwrap_or}
 use Rattle.std.specs.Option.{option_map_or}
 use Rattle.std.specs.Box.{box_value}
+use Rattle.std.specs.Str.{bytes_eq}
 use Rattle.std.specs.Str.Parse.{IsNumeral, digits_value, without_leading_plus}
+use Rattle.std.proofs.lemmas.Bool.{false_from_ne_true}
+use Rattle.std.proofs.lemmas.Slice.Eq.{bytes_eq-Decides}
 use Rattle.clap.specs.Words.{Row, Text, first_of, subcommand_name_of, subcommand_rows, subcommand_rows_of}
 use Rattle.clap.specs.declared.parser.matches.ArgMatches.{ArgMatches}
 use Rattle.clap.specs.declared.parser.matches.ArgMatches.TheViews.{out-ArgMatches, out-SubCommand}
@@ -11,8 +14,12 @@ use Rattle.clap.specs.declared.parser.matches.SubCommand.{SubCommand}
 use Rattle.clap.specs.ValueTests.{is_unsigned_in}
 use Rattle.clap.specs.declared.builder.value_parser.ValueParser.TheVariants.{Unsigned}
 use Rattle.clap.proofs.ValueTestLemmas.{accepts-Accepts, Accepts-accepts}
-use Rattle.csdf_analysis.specs.declared.room.Room.TheVariants.{Least}
-use Rattle.csdf_words.specs.CommandLine.{asked_of, asked, number_in, number_of, room_in, room_of}
+use Rattle.csdf_analysis.specs.declared.room.Room.{Room}
+use Rattle.csdf_bytes.specs.declared.sample_format.SampleFormat.TheVariants as samples
+use Rattle.csdf_stream.specs.declared.options.TokenFormat.{TokenFormat}
+use Rattle.csdf_stream.specs.declared.options.TokenFormat.TheVariants as formats
+use Rattle.csdf_stream.specs.Formats.{format_name}
+use Rattle.csdf_words.specs.CommandLine.{asked_of, asked, format_in, number_in, number_of, room_in, room_of, token_formats}
 
 -- a text, or another where there is none
 pub text_or : (o : Option (Bor (List ℕ))) (d r : Bor (List ℕ)) → r ≡ unwrap_or o d → r.now ≡ unwrap_or (option_map (λ s. s.now) o) d.now
@@ -32,16 +39,16 @@ number_absent least most option rows o is found =
     ap (option_and_then (number_in least most)) (sym (ap (option_map (λ (s : Bor (List ℕ)). s.now)) is) ∙ found)
 
 -- the room of the option that was given
-pub room_given : (rows : List Row) (o : Option (Bor (List ℕ))) (s : Bor (List ℕ)) → o ≡ Some s
-    → option_map (λ s. s.now) o ≡ first_of (codes "room") rows → room_of rows ≡ room_in s.now
-room_given rows o s is found =
-    ap (λ q. option_map_or room_in q (Some Least)) (sym found ∙ ap (option_map (λ s. s.now)) is)
+pub room_given : (absent : Room) (rows : List Row) (o : Option (Bor (List ℕ))) (s : Bor (List ℕ)) → o ≡ Some s
+    → option_map (λ s. s.now) o ≡ first_of (codes "room") rows → room_in s.now ≡ room_of absent rows
+room_given absent rows o s is found =
+    ap (λ q. option_map_or room_in q (Some absent)) (sym (ap (option_map (λ s. s.now)) is) ∙ found)
 
 -- and of one that was not
-pub room_absent : (rows : List Row) (o : Option (Bor (List ℕ))) → o ≡ None
-    → option_map (λ s. s.now) o ≡ first_of (codes "room") rows → room_of rows ≡ Some Least
-room_absent rows o is found =
-    ap (λ q. option_map_or room_in q (Some Least)) (sym found ∙ ap (option_map (λ (s : Bor (List ℕ)). s.now)) is)
+pub room_absent : (absent : Room) (rows : List Row) (o : Option (Bor (List ℕ))) → o ≡ None
+    → option_map (λ s. s.now) o ≡ first_of (codes "room") rows → Some absent ≡ room_of absent rows
+room_absent absent rows o is found =
+    ap (λ q. option_map_or room_in q (Some absent)) (sym (ap (option_map (λ (s : Bor (List ℕ)). s.now)) is) ∙ found)
 
 -- the text is a number of 32 bits
 abbrev pub IsNumber : Text → Type 0
@@ -102,3 +109,27 @@ asked_met m name rows named given = met (subcommand_rows_of m) name rows (named 
 pub or_false : (a b : Bool) → b ≡ false → (a || b) ≡ a
 or_false true b e = refl
 or_false false b e = e
+
+-- a name of no format is none of these
+no_format : (name : Text) (some : List TokenFormat) → ((format : TokenFormat) → name ≢ format_name format)
+    → None ≡ find (λ format. bytes_eq name (format_name format)) some
+no_format name [] unknown = refl
+no_format name (format ∷ some) unknown =
+    let other : bytes_eq name (format_name format) ≡ false = false_from_ne_true _ (λ same. unknown format ((bytes_eq-Decides name (format_name format)).0 same)) in
+    rw other (no_format name some unknown)
+
+-- the format of a format's name
+own_name : (format : TokenFormat) → Some format ≡ format_in (format_name format)
+own_name formats.Text = refl
+own_name (formats.Samples samples.U8) = refl
+own_name (formats.Samples samples.S8) = refl
+own_name (formats.Samples samples.S16Le) = refl
+own_name (formats.Samples samples.S16Be) = refl
+own_name (formats.Samples samples.S32Le) = refl
+own_name (formats.Samples samples.S32Be) = refl
+
+-- the format of a name, where it is one, and none where it is not
+pub format_found : (name : Text) (o : Option TokenFormat) → IfSome o (λ format. name ≡ format_name format)
+    → IfNone o ((format : TokenFormat) → name ≢ format_name format) → o ≡ format_in name
+format_found name None named unknown = no_format name token_formats unknown
+format_found name (Some format) named unknown = own_name format ∙ ap format_in (sym named)

@@ -1,2 +1,4 @@
+pub mod AddressLemmas
 pub mod CommandExamples
 pub mod CommandLemmas
+pub mod ProgramLemmas

@@ -1,14 +1,17 @@
 -- What the words of the command line ask for, by the meaning that clap gives to a command and its words.
-use Rattle.std.specs.Prelude.{◌≡◌, ℕ, Bool, List, [], ◌∷◌, Option, Some, None, IfSome, true, false, codes, if◌then◌else◌, option_and_then, option_map, unwrap_or}
+use Rattle.std.specs.Prelude.{◌≡◌, ℕ, Bool, List, [], ◌∷◌, Option, Some, None, IfSome, true, false, codes, find, if◌then◌else◌, map, option_and_then, option_map, unwrap_or}
+use Rattle.std.specs.Borrow.{Bor}
 use Rattle.std.specs.Option.{option_map_or}
 use Rattle.std.specs.Str.{bytes_eq}
 use Rattle.std.specs.Str.Parse.{digits_value, without_leading_plus}
 use Rattle.clap.specs.Words.{App, Row, Rule, Text, HasKind, fault_of, first_of, kind_of, new_app, new_rule, subcommand_of, takes, with_rule, with_subcommand}
 use Rattle.clap.specs.Simple.{on_top}
+use Rattle.clap.specs.Walk.{texts}
 use Rattle.clap.specs.ValueTests.{is_unsigned_in}
 use Rattle.clap.specs.declared.builder.action.ArgAction.TheVariants.{SetTrue}
-use Rattle.clap.specs.declared.builder.value_parser.ValueParser.TheVariants.{Unsigned}
+use Rattle.clap.specs.declared.builder.value_parser.ValueParser.TheVariants.{Names, Unsigned}
 use Rattle.clap.specs.declared.error.kind.ErrorKind.TheVariants.{OutOfMemory}
+use Rattle.csdf_bytes.specs.declared.sample_format.SampleFormat.TheVariants as samples
 use Rattle.csdf_model.specs.declared.limits.TheConstants.{MAX_FIRINGS, MAX_PERIODS, MAX_ROOM}
 use Rattle.csdf_analysis.specs.declared.room.Room.{Room}
 use Rattle.csdf_analysis.specs.declared.room.Room.TheVariants.{Least, Periods, Auto}
@@ -18,7 +21,12 @@ use Rattle.csdf_words.specs.declared.command.Request.{Request}
 use Rattle.csdf_words.specs.declared.command.Request.TheVariants as request
 use Rattle.csdf_words.specs.declared.command.Unread.{Unread}
 use Rattle.csdf_words.specs.declared.command.Unread.TheVariants as unread
+use Rattle.csdf_stream.specs.declared.options.TokenFormat.{TokenFormat}
+use Rattle.csdf_stream.specs.declared.options.TokenFormat.TheVariants as formats
+use Rattle.csdf_stream.specs.Formats.{format_name}
+use Rattle.csdf_words.specs.declared.order.Folders.{Folders}
 use Rattle.csdf_words.specs.declared.order.RunWords.{RunWords}
+use Rattle.csdf_words.specs.declared.order.StreamWords.{StreamWords}
 use Rattle.csdf_answers.specs.declared.question.Form.{Form}
 use Rattle.csdf_answers.specs.declared.question.Form.TheVariants as forms
 use Rattle.csdf_answers.specs.declared.question.Question.{Question}
@@ -60,6 +68,38 @@ run_command =
     let six = with_rule (with_rule four (text_option (codes "out"))) (text_option (codes "journal")) in
     with_json (with_room (with_rule six (flag (codes "progress"))))
 
+-- the formats of tokens
+abbrev pub token_formats : List TokenFormat
+token_formats =
+    formats.Text
+    ∷ map formats.Samples (samples.U8 ∷ samples.S8 ∷ samples.S16Le ∷ samples.S16Be ∷ samples.S32Le ∷ samples.S32Be ∷ [])
+
+-- the option for one of them, by its name alone
+abbrev pub format_option : Bor (List (Bor Text)) → Rule
+format_option names = record (text_option (codes "format")) { parser = Some (Names names) }
+
+-- the command that runs a graph over a stream asks for a folder too, which may be left out, and takes three numbers, room, another folder, a format and two flags
+abbrev pub on_streams : App
+on_streams = with_rule (on_graph (codes "stream")) (new_rule (codes "DIR"))
+
+abbrev pub stream_taking : Bor (List (Bor Text)) → App
+stream_taking names =
+    let two = with_room (with_rule on_streams (number_option (codes "workers") 1 8)) in
+    let four = with_rule (with_rule two (number_option (codes "segment") 1 4294967295)) (number_option (codes "periods") 1 4294967295) in
+    let six = with_rule (with_rule four (text_option (codes "out"))) (format_option names) in
+    with_json (with_rule six (flag (codes "progress")))
+
+-- a value behind a reference, at an address: nothing of what follows depends on which one
+abbrev pub lent : {X : Type 0} → X → Bor X
+lent x = record { ref_ptr = (0, 0); now = x }
+
+-- the names of the formats
+abbrev pub format_names : Bor (List (Bor Text))
+format_names = lent (map (λ format. lent (format_name format)) token_formats)
+
+abbrev pub stream_command : App
+stream_command = stream_taking format_names
+
 -- a program with a version, whose own name is not among the words
 abbrev pub no_commands : App
 no_commands = on_top (λ s. record s { no_binary_name = true; has_version = true }) (new_app (codes "csdf"))
@@ -92,8 +132,16 @@ with_questions a =
     let six = with_roomy_command (with_roomy_question four (codes "capacity")) (codes "dot") in
     with_explain six
 
+-- all commands, of which the one that runs a graph over a stream is this
+abbrev pub program_with : App → App
+program_with stream = with_questions (with_subcommand (with_subcommand no_commands run_command.top) stream.top)
+
 abbrev pub program : App
-program = with_questions (with_subcommand no_commands run_command.top)
+program = program_with stream_command
+
+-- the program, wherever the names of the formats lie
+abbrev pub IsProgram : App → Type 0
+IsProgram a = (names : Bor (List (Bor Text))) × (texts names.now ≡ texts format_names.now) × (a ≡ program_with (stream_taking names))
 
 -- ---- what they ask for
 
@@ -125,12 +173,46 @@ order_view o = record {
   form = o.form;
 }
 
+-- the folder of the sources' files, and that of the sinks'
+pub record FolderNames : Type 0 where
+  pub sources : Text
+  pub sinks : Text
+
+abbrev pub folders_view : Folders → FolderNames
+folders_view f = record { sources = f.sources.now; sinks = f.sinks.now }
+
+-- a run of the graph of a file over streams, which are the files of folders, or else standard input and standard output
+pub record StreamOrder : Type 0 where
+  pub graph : Text
+  pub folders : Option FolderNames
+  pub room : Room
+  pub workers : ℕ
+  pub segment : Option ℕ
+  pub periods : Option ℕ
+  pub format : TokenFormat
+  pub progress : Bool
+  pub form : Form
+
+abbrev pub stream_view : StreamWords → StreamOrder
+stream_view s = record {
+  graph = s.graph.now;
+  folders = option_map folders_view s.folders;
+  room = s.room;
+  workers = s.options.workers;
+  segment = s.options.segment;
+  periods = s.options.periods;
+  format = s.options.format;
+  progress = s.progress;
+  form = s.form;
+}
+
 pub data Asked : Type 0 where
   Input : Asked
   Moves : Text → Asked
   Ask : Question → Form → Room → Text → Asked
   Explain : Text → Option Text → Asked
   Run : Order → Asked
+  Flow : StreamOrder → Asked
 
 abbrev pub asked_view : Request → Asked
 asked_view request.Input = Input
@@ -138,6 +220,7 @@ asked_view (request.Moves path) = Moves path.now
 asked_view (request.Ask inquiry) = Ask inquiry.question inquiry.form inquiry.room inquiry.graph.now
 asked_view (request.Explain path folder) = Explain path.now (option_map (λ f. f.now) folder)
 asked_view (request.Run order) = Run (order_view order)
+asked_view (request.Stream order) = Flow (stream_view order)
 
 -- the form in which what is asked for is told, and a fault of it
 abbrev pub form_of : Asked → Form
@@ -146,6 +229,7 @@ form_of (Moves path) = forms.Text
 form_of (Ask question form room path) = form
 form_of (Explain path folder) = forms.Text
 form_of (Run order) = order.form
+form_of (Flow order) = order.form
 
 -- the number in a text, where it is one and in the range
 abbrev pub number_in : ℕ → ℕ → Text → Option ℕ
@@ -167,9 +251,13 @@ word_of place rows = word_or place rows []
 abbrev pub room_in : Text → Option Room
 room_in text = if bytes_eq text (codes "auto") then Some Auto else option_map Periods (number_in 1 MAX_ROOM text)
 
--- the room that is asked for, the least capacities where none was given; nothing where the text names no room
-abbrev pub room_of : List Row → Option Room
-room_of rows = option_map_or room_in (first_of (codes "room") rows) (Some Least)
+-- the room that is asked for, or another where none was given; nothing where the text names no room
+abbrev pub room_of : Room → List Row → Option Room
+room_of absent rows = option_map_or room_in (first_of (codes "room") rows) (Some absent)
+
+-- the room of a command where none is given: for a stream it is chosen by the graph, and else there are the least capacities
+abbrev pub usual_room : Text → Room
+usual_room name = if bytes_eq name (codes "stream") then Auto else Least
 
 -- whether an option without a value is given
 abbrev pub is_given : Text → List Row → Bool
@@ -204,7 +292,42 @@ order_of rows room how_long = record {
   form = form_in rows;
 }
 
--- what a command but `run` and `explain` asks for in this form with this room and the file that it names; no other command has a file alone, and a drawing is text
+-- the format of a name
+abbrev pub format_in : Text → Option TokenFormat
+format_in name = find (λ format. bytes_eq name (format_name format)) token_formats
+
+-- the format that is asked for, text where none was given
+abbrev pub format_of : List Row → TokenFormat
+format_of rows = unwrap_or (format_in (word_or (codes "format") rows (codes "text"))) formats.Text
+
+-- the folders of a stream, where DIR is given: the sinks' files go to the folder of the sources' where no other is named; nothing where another is named alone
+abbrev pub folders_by : Option Text → Option Text → Option (Option FolderNames)
+folders_by (Some folder) other = Some (Some (record { sources = folder; sinks = unwrap_or other folder }))
+folders_by None None = Some None
+folders_by None (Some other) = None
+
+abbrev pub folders_of : List Row → Option (Option FolderNames)
+folders_of rows = folders_by (first_of (codes "DIR") rows) (first_of (codes "out") rows)
+
+-- the stream that the words after `stream` ask for, with this room and these folders
+abbrev pub stream_with : List Row → Room → Option FolderNames → StreamOrder
+stream_with rows room folders = record {
+  graph = word_of (codes "GRAPH") rows;
+  folders = folders;
+  room = room;
+  workers = unwrap_or (number_of 1 8 (codes "workers") rows) 1;
+  segment = number_of 1 4294967295 (codes "segment") rows;
+  periods = number_of 1 4294967295 (codes "periods") rows;
+  format = format_of rows;
+  progress = is_given (codes "progress") rows;
+  form = form_in rows;
+}
+
+-- the stream that the words after `stream` ask for, with this room; nothing where `--out` is given and DIR is not
+abbrev pub stream_order_of : List Row → Room → Option StreamOrder
+stream_order_of rows room = option_map (stream_with rows room) (folders_of rows)
+
+-- what a command but `run`, `stream` and `explain` asks for in this form with this room and the file that it names; no other command has a file alone, and a drawing is text
 unfoldable pub asked_by : Text → Form → Room → Text → Asked
 asked_by name form room path =
     if bytes_eq name (codes "check") then Ask Check form room path
@@ -215,22 +338,24 @@ asked_by name form room path =
     else if bytes_eq name (codes "moves") then Moves path
     else Input
 
--- what a command asks for with the words after it, with this room; nothing where they name two lengths
+-- what a command asks for with the words after it, with this room; nothing where they name two lengths, or `--out` alone
 unfoldable pub asked_with : Text → List Row → Room → Option Asked
 asked_with name rows room =
     if bytes_eq name (codes "run") then option_map (λ how_long. Run (order_of rows room how_long)) (how_long_of rows)
+    else if bytes_eq name (codes "stream") then option_map Flow (stream_order_of rows room)
     else if bytes_eq name (codes "explain") then Some (Explain (word_of (codes "GRAPH") rows) (first_of (codes "DIR") rows))
     else Some (asked_by name (form_in rows) room (word_of (codes "GRAPH") rows))
 
 -- what a command asks for with the words after it; nothing where they name no room
 abbrev pub asked_of : Text → List Row → Option Asked
-asked_of name rows = option_and_then (asked_with name rows) (room_of rows)
+asked_of name rows = option_and_then (asked_with name rows) (room_of (usual_room name) rows)
 
--- why words after a command ask for nothing: the text of their room is none, or they name two lengths
+-- why words after a command ask for nothing: the text of their room is none, or they name two lengths, or `--out` and no DIR
 abbrev pub AskForNothing : List Row → Unread → Type 0
 AskForNothing rows (unread.Parse error) = ⊥
-AskForNothing rows (unread.Room text) = (room_of rows ≡ None) × (first_of (codes "room") rows ≡ Some text.now)
+AskForNothing rows (unread.Room text) = (room_in text.now ≡ None) × (first_of (codes "room") rows ≡ Some text.now)
 AskForNothing rows unread.Lengths = how_long_of rows ≡ None
+AskForNothing rows unread.OutAlone = folders_of rows ≡ None
 
 -- what the command that was met asks for, and standard input where none was
 abbrev pub asked : Option (Text × List Row) → Option Asked
@@ -258,3 +383,4 @@ abbrev pub IsUnread : List Text → Unread → Type 0
 IsUnread words (unread.Parse error) = HasKind (fault_of program words) error × (takes program words ≡ true → kind_of error ≡ OutOfMemory)
 IsUnread words (unread.Room text) = AsksNothing words (unread.Room text)
 IsUnread words unread.Lengths = AsksNothing words unread.Lengths
+IsUnread words unread.OutAlone = AsksNothing words unread.OutAlone

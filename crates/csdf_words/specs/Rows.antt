@@ -2,7 +2,7 @@
 use Rattle.std.specs.Prelude.{List, [], ◌∷◌, Some, true}
 use Rattle.clap.specs.Words.{App, Rule, new_app, new_rule, with_rule, with_subcommand}
 use Rattle.clap.specs.declared.builder.action.ArgAction.TheVariants.{SetTrue}
-use Rattle.clap.specs.declared.builder.value_parser.ValueParser.TheVariants.{Unsigned}
+use Rattle.clap.specs.declared.builder.value_parser.ValueParser.TheVariants.{Names, Unsigned}
 use Rattle.csdf_words.specs.declared.rows.ArgumentRow.{ArgumentRow}
 use Rattle.csdf_words.specs.declared.rows.CommandRow.{CommandRow}
 use Rattle.csdf_words.specs.declared.rows.Given.{Given}
@@ -15,6 +15,7 @@ rule_given given.LastPlace r = r
 rule_given given.Nothing r = record r { long = Some r.id; action = Some SetTrue }
 rule_given (given.Text word) r = record r { long = Some r.id; value_names = 1 }
 rule_given (given.Number letter range) r = record r { long = Some r.id; value_names = 1; parser = Some (Unsigned range.0 range.1) }
+rule_given (given.Name word names) r = record r { long = Some r.id; value_names = 1; parser = Some (Names names) }
 
 abbrev pub rule_of_row : ArgumentRow → Rule
 rule_of_row row = rule_given row.given (new_rule row.name.now)

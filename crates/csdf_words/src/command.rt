@@ -1,22 +1,24 @@
 //! The command line.
 
-ghost use Rattle.std.specs.Prelude.{◌≡◌, ◌≤◌, [], true, false, codes, map, string_bytes, Some, None, Ok, IfErr, IfOk, IfSome, MatchResult, is_some, option_map};
+ghost use Rattle.std.specs.Prelude.{◌≡◌, ◌≤◌, [], true, false, codes, map, string_bytes, Some, None, Ok, IfErr, IfOk, IfSome, is_some, option_map};
+ghost use Rattle.std.specs.Result.{result_ok};
 ghost use Rattle.clap.specs.Words.{app_of, fault_of, first_of, found_of, kind_of, rows_of, rule_of, subcommand_of, subcommand_rows_of, takes, with_rule, FailsBy};
 ghost use Rattle.clap.specs.declared.builder.command.Command.TheViews.{out-Command as fields_of};
-ghost use Rattle.clap.specs.declared.builder.value_parser.ValueParser.TheVariants.{Unsigned};
-ghost use Rattle.csdf_words.specs.CommandLine.{no_commands, program};
+ghost use Rattle.clap.specs.declared.builder.value_parser.ValueParser.TheVariants.{Names, Unsigned};
+ghost use Rattle.csdf_words.specs.CommandLine.{no_commands, program, IsProgram};
 ghost use Rattle.csdf_words.specs.Rows.{app_of_row, rule_of_row, with_command_row, with_command_rows, with_rows};
 ghost use Rattle.csdf_analysis.specs.Room.{HasSomePeriod};
 ghost use Rattle.csdf_journal.specs.View.{is_kept};
-ghost use Rattle.csdf_words.specs.CommandLine.{Ask, Run, AskForNothing, asked_view, asked_by, asked_of, asked_with, asked, words_ask, IsUnread};
+ghost use Rattle.csdf_words.specs.CommandLine.{Ask, Run, Flow, AskForNothing, asked_view, asked_by, asked_of, asked_with, asked, words_ask, IsUnread};
 ghost use Rattle.csdf_words.specs.CommandLine.{form_in, form_of, how_long_of, is_given, number_in, number_of, order_of, order_view, room_in, room_of, word_of, word_or};
+ghost use Rattle.csdf_words.specs.CommandLine.{folders_of, folders_view, format_in, format_of, stream_order_of, stream_view, stream_with, usual_room};
 ghost use Rattle.csdf_words.specs.HowLong.{MayBeAsked};
 
 use crate::help;
-use crate::order::{Inquiry, RunWords};
+use crate::order::{Folders, Inquiry, RunWords, StreamWords};
 use crate::rows::{
-    ArgumentRow, COMMANDS, CommandRow, FIRINGS, FOLDER, GRAPH, Given, JOURNAL, JSON, OUT, PERIODS,
-    PROGRESS, ROOM, UNTIL_DRY, WORKERS,
+    ArgumentRow, COMMANDS, CommandRow, FIRINGS, FOLDER, FORMAT, GRAPH, Given, JOURNAL, JSON, OUT,
+    PERIODS, PROGRESS, ROOM, SEGMENT, UNTIL_DRY, WORKERS,
 };
 use clap::builder::ValueParser;
 use clap::error::ErrorKind;
@@ -26,6 +28,7 @@ use csdf_answers::{Form, Question};
 use csdf_journal::Keeping;
 use csdf_model::{MAX_FIRINGS, MAX_PERIODS, MAX_ROOM};
 use csdf_run::RunOptions;
+use csdf_stream::{StreamOptions, TokenFormat};
 use std::alloc::{AllocError, Global};
 
 /// What the program is asked to do.
@@ -42,6 +45,8 @@ pub enum Request<'a> {
     Explain(&'a str, Option<&'a str>),
     /// To run the graph of a file.
     Run(RunWords<'a>),
+    /// To run the graph of a file over a stream of any length.
+    Stream(StreamWords<'a>),
 }
 
 /// Why words are no request.
@@ -53,6 +58,8 @@ pub enum Unread<'a> {
     Room(&'a str),
     /// They say twice how long a run goes on.
     Lengths,
+    /// They name a folder for the sinks' files of a stream that has none for those of its sources.
+    OutAlone,
 }
 
 /// An option that takes a number in a range.
@@ -63,6 +70,16 @@ fn with_range<'a>(option: Arg<'a>, letter: &'a str, range: (u32, u32)) -> Arg<'a
     option
         .value_parser(ValueParser::unsigned(u64::from(range.0), u64::from(range.1)))
         .value_name(letter)
+}
+
+/// An option that takes one of these names.
+fn with_names<'a>(option: Arg<'a>, word: &'a str, names: &'a [&'a str]) -> Arg<'a>
+    ensures rule { rule_of result ≡ record (rule_of option.entry) { value_names = 1; parser = Some (Names names.entry) } }
+    ensures local { result.global ≡ option.entry.global }
+{
+    option
+        .value_parser(ValueParser::Names(names))
+        .value_name(word)
 }
 
 /// The argument of a row.
@@ -77,6 +94,7 @@ fn argument_of<'a>(alloc: Global, row: &ArgumentRow<'a>) -> Arg<'a>
         Given::Nothing => argument.long(row.name).action(ArgAction::SetTrue),
         Given::Text(word) => argument.long(row.name).value_name(word),
         Given::Number(letter, range) => with_range(argument.long(row.name), letter, range),
+        Given::Name(word, names) => with_names(argument.long(row.name), word, names),
     }
 }
 
@@ -155,7 +173,7 @@ fn program_of<'a>(alloc: Global, rows: &[CommandRow<'a>]) -> Result<Command<'a>,
 
 /// The program's command line.
 fn program<'a>(alloc: Global) -> Result<Command<'a>, AllocError>
-    ensures { IfOk result (λ command. app_of command ≡ program) }
+    ensures { IfOk result (λ command. IsProgram (app_of command)) }
 {
     program_of(alloc, COMMANDS)
 }
@@ -176,6 +194,7 @@ pub fn form_of(request: &Request<'_>) -> Form
     match request {
         Request::Ask(inquiry) => inquiry.form,
         Request::Run(order) => order.form,
+        Request::Stream(order) => order.form,
         Request::Input | Request::Moves(_) | Request::Explain(_, _) => Form::Text,
     }
 }
@@ -193,8 +212,8 @@ fn asking<'a>(question: Question, form: Form, room: Room, graph: &'a str) -> Req
     })
 }
 
-/// What a command but `run` and `explain` asks for in this form with this room and the file that it
-/// names. No other command has a file alone, and a drawing is text.
+/// What a command but `run`, `stream` and `explain` asks for in this form with this room and the file
+/// that it names. No other command has a file alone, and a drawing is text.
 #[tactic(auto, unfolding(crate::specs::CommandLine::asked_by))]
 fn asked_by<'a>(command: &str, form: Form, room: Room, graph: &'a str) -> Request<'a>
     requires { HasSomePeriod room }
@@ -276,12 +295,25 @@ fn room_in(text: &str) -> Option<Room>
     }
 }
 
-/// The room that is asked for, the least capacities where none was given.
+/// The room of a command where none is given.
+fn usual_room(command: &str) -> Room
+    ensures value { result ≡ usual_room command.now }
+    ensures some { HasSomePeriod result }
+{
+    if command == "stream" {
+        Room::Auto
+    } else {
+        Room::Least
+    }
+}
+
+/// The room that is asked for, or another where none was given.
 ///
 /// The error is a text that names no room.
-fn room_of<'a>(arguments: &ArgMatches<'a>) -> Result<Room, &'a str>
-    ensures value { MatchResult result (λ room. room_of (rows_of (found_of arguments.now)) ≡ Some room)
-        (λ text. (room_of (rows_of (found_of arguments.now)) ≡ None) × (first_of (codes "room") (rows_of (found_of arguments.now)) ≡ Some text.now)) }
+fn room_of<'a>(arguments: &ArgMatches<'a>, absent: Room) -> Result<Room, &'a str>
+    requires { HasSomePeriod absent }
+    ensures value { result_ok result ≡ room_of absent (rows_of (found_of arguments.now)) }
+    ensures text { IfErr result (λ text. (room_in text.now ≡ None) × (first_of (codes "room") (rows_of (found_of arguments.now)) ≡ Some text.now)) }
     ensures some { IfOk result HasSomePeriod }
 {
     match arguments.get_str(ROOM) {
@@ -289,7 +321,7 @@ fn room_of<'a>(arguments: &ArgMatches<'a>) -> Result<Room, &'a str>
             Some(room) => Ok(room),
             None => Err(text),
         },
-        None => Ok(Room::Least),
+        None => Ok(absent),
     }
 }
 
@@ -366,30 +398,115 @@ fn order_of<'a>(arguments: &ArgMatches<'a>, room: Room, how_long: Length) -> Run
     }
 }
 
-/// The run that the words after `run` ask for, with this room; nothing where they name two lengths.
-fn run_of<'a>(arguments: &ArgMatches<'a>, room: Room) -> Option<Request<'a>>
+/// The run that the words after `run` ask for, with this room.
+///
+/// The error says why that is nothing: they name two lengths.
+fn run_of<'a>(arguments: &ArgMatches<'a>, room: Room) -> Result<Request<'a>, Unread<'a>>
     requires { HasSomePeriod room }
-    ensures asked { option_map asked_view result
+    ensures asked { option_map asked_view (result_ok result)
         ≡ option_map (λ how_long. Run (order_of (rows_of (found_of arguments.now)) room how_long)) (how_long_of (rows_of (found_of arguments.now))) }
-    ensures none { result ≡ None → how_long_of (rows_of (found_of arguments.now)) ≡ None }
+    ensures why { IfErr result (AskForNothing (rows_of (found_of arguments.now))) }
 {
     match how_long_of(arguments) {
-        Some(how_long) => Some(Request::Run(order_of(arguments, room, how_long))),
-        None => None,
+        Some(how_long) => Ok(Request::Run(order_of(arguments, room, how_long))),
+        None => Err(Unread::Lengths),
     }
 }
 
-/// What a command asks for with the words after it, with this room; nothing where they name two lengths.
-#[tactic(auto, unfolding(crate::specs::CommandLine::asked_with))]
-fn asked_with<'a>(command: &str, arguments: &ArgMatches<'a>, room: Room) -> Option<Request<'a>>
+/// The format of a name.
+fn format_in(name: &str) -> Option<TokenFormat>
+    ensures { result ≡ format_in name.now }
+{
+    TokenFormat::named(name)
+}
+
+/// The format that is asked for, text where none was given.
+///
+/// The parser refuses a name of no format; where one is read all the same, it counts as absent.
+fn format_of(arguments: &ArgMatches<'_>) -> TokenFormat
+    ensures { result ≡ format_of (rows_of (found_of arguments.now)) }
+{
+    let name = word_or(arguments, FORMAT, "text");
+    format_in(name).unwrap_or(TokenFormat::Text)
+}
+
+/// The folders of a stream, where DIR is given. The sinks' files go to the folder of the sources' where
+/// no other is named.
+///
+/// The error says that another is named alone.
+fn folders_of<'a>(arguments: &ArgMatches<'a>) -> Result<Option<Folders<'a>>, Unread<'a>>
+    ensures folders { option_map (option_map folders_view) (result_ok result) ≡ folders_of (rows_of (found_of arguments.now)) }
+    ensures why { IfErr result (AskForNothing (rows_of (found_of arguments.now))) }
+{
+    let other = given_of(arguments, OUT);
+    match given_of(arguments, FOLDER) {
+        Some(sources) => {
+            let sinks = other.unwrap_or(sources);
+            Ok(Some(Folders { sources, sinks }))
+        }
+        None if other.is_some() => Err(Unread::OutAlone),
+        None => Ok(None),
+    }
+}
+
+/// The stream that the words after `stream` ask for, with this room and these folders.
+///
+/// The parser refuses a number out of its range; where one is read all the same, it counts as absent.
+fn stream_with<'a>(
+    arguments: &ArgMatches<'a>,
+    room: Room,
+    folders: Option<Folders<'a>>,
+) -> StreamWords<'a>
     requires { HasSomePeriod room }
-    ensures asked { option_map asked_view result ≡ asked_with command.now (rows_of (found_of arguments.now)) room }
-    ensures none { result ≡ None → how_long_of (rows_of (found_of arguments.now)) ≡ None }
+    ensures { stream_view result ≡ stream_with (rows_of (found_of arguments.now)) room (option_map folders_view folders.entry) }
+{
+    let progress = is_given(arguments, PROGRESS);
+    let options = StreamOptions {
+        workers: number_of(arguments, WORKERS, 1, 8).unwrap_or(1),
+        segment: number_of(arguments, SEGMENT, 1, u32::MAX),
+        periods: number_of(arguments, PERIODS, 1, u32::MAX),
+        format: format_of(arguments),
+    };
+    StreamWords {
+        graph: word_of(arguments, GRAPH),
+        folders,
+        room,
+        options,
+        progress,
+        form: form_in(arguments),
+    }
+}
+
+/// The stream that the words after `stream` ask for, with this room.
+///
+/// The error says why that is nothing: `--out` is given, and DIR is not.
+fn stream_of<'a>(arguments: &ArgMatches<'a>, room: Room) -> Result<Request<'a>, Unread<'a>>
+    requires { HasSomePeriod room }
+    ensures asked { option_map asked_view (result_ok result) ≡ option_map Flow (stream_order_of (rows_of (found_of arguments.now)) room) }
+    ensures why { IfErr result (AskForNothing (rows_of (found_of arguments.now))) }
+{
+    let folders = folders_of(arguments)?;
+    Ok(Request::Stream(stream_with(arguments, room, folders)))
+}
+
+/// What a command asks for with the words after it, with this room.
+///
+/// The error says why that is nothing.
+#[tactic(auto, unfolding(crate::specs::CommandLine::asked_with))]
+fn asked_with<'a>(
+    command: &str,
+    arguments: &ArgMatches<'a>,
+    room: Room,
+) -> Result<Request<'a>, Unread<'a>>
+    requires { HasSomePeriod room }
+    ensures asked { option_map asked_view (result_ok result) ≡ asked_with command.now (rows_of (found_of arguments.now)) room }
+    ensures why { IfErr result (AskForNothing (rows_of (found_of arguments.now))) }
 {
     match command {
         "run" => run_of(arguments, room),
-        "explain" => Some(Request::Explain(word_of(arguments, GRAPH), given_of(arguments, FOLDER))),
-        _ => Some(asked_by(command, form_in(arguments), room, word_of(arguments, GRAPH))),
+        "stream" => stream_of(arguments, room),
+        "explain" => Ok(Request::Explain(word_of(arguments, GRAPH), given_of(arguments, FOLDER))),
+        _ => Ok(asked_by(command, form_in(arguments), room, word_of(arguments, GRAPH))),
     }
 }
 
@@ -397,14 +514,11 @@ fn asked_with<'a>(command: &str, arguments: &ArgMatches<'a>, room: Room) -> Opti
 ///
 /// The error says why that is nothing.
 fn asked_of<'a>(command: &str, arguments: &ArgMatches<'a>) -> Result<Request<'a>, Unread<'a>>
-    ensures { MatchResult result (λ r. asked_of command.now (rows_of (found_of arguments.now)) ≡ Some (asked_view r))
-        (λ why. (asked_of command.now (rows_of (found_of arguments.now)) ≡ None) × AskForNothing (rows_of (found_of arguments.now)) why) }
+    ensures asked { option_map asked_view (result_ok result) ≡ asked_of command.now (rows_of (found_of arguments.now)) }
+    ensures why { IfErr result (AskForNothing (rows_of (found_of arguments.now))) }
 {
-    match room_of(arguments) {
-        Ok(room) => match asked_with(command, arguments, room) {
-            Some(request) => Ok(request),
-            None => Err(Unread::Lengths),
-        },
+    match room_of(arguments, usual_room(command)) {
+        Ok(room) => asked_with(command, arguments, room),
         Err(text) => Err(Unread::Room(text)),
     }
 }
@@ -413,8 +527,8 @@ fn asked_of<'a>(command: &str, arguments: &ArgMatches<'a>) -> Result<Request<'a>
 ///
 /// The error says why that is nothing.
 fn asked<'a>(matches: &ArgMatches<'a>) -> Result<Request<'a>, Unread<'a>>
-    ensures { MatchResult result (λ r. asked (subcommand_rows_of matches.now) ≡ Some (asked_view r))
-        (λ why. (asked (subcommand_rows_of matches.now) ≡ None) × IfSome (subcommand_rows_of matches.now) (λ met. AskForNothing met.1 why)) }
+    ensures asked { option_map asked_view (result_ok result) ≡ asked (subcommand_rows_of matches.now) }
+    ensures why { IfErr result (λ why. IfSome (subcommand_rows_of matches.now) (λ met. AskForNothing met.1 why)) }
 {
     match matches.subcommand() {
         Some((command, arguments)) => asked_of(command, arguments),

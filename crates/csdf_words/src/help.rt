@@ -8,6 +8,7 @@ ghost use Rattle.csdf_words.specs.Endings.{ending_text};
 #[derive(Clone, Copy)]
 pub(crate) enum Ending {
     Run,
+    Stream,
     Moves,
     Check,
     Repetition,
@@ -23,6 +24,7 @@ pub(crate) fn ending_text<'a>(ending: Ending) -> &'a str
 {
     match ending {
         Ending::Run => RUN,
+        Ending::Stream => STREAM,
         Ending::Moves => MOVES,
         Ending::Check => CHECK,
         Ending::Repetition => REPETITION,
@@ -76,6 +78,46 @@ Exit status: 0 the run has ended (complete, dry, stopped or starved), 1 an input
 
 Example: csdf run graph.toml tokens --workers 4 --periods 100
 reads tokens/src.in and writes tokens/snk.out, where the graph has a source src and a sink snk.";
+
+const STREAM: &str = "\
+Runs the graph over tokens that come one after another, of any length. It computes what csdf run
+computes, and memory holds the tokens of a segment alone.
+
+Without DIR the source reads standard input, and the sink writes standard output. There is one of
+each at most, and the report goes to standard error. With DIR each source NAME reads DIR/NAME.in, and
+each sink NAME writes NAME.out, in DIR or in the folder of --out: files, FIFOs or devices. The report
+goes to standard output. --out is refused without DIR.
+
+A token is a line of text, as in a token file (text, also where --format is absent), or a raw sample:
+of one byte (u8, or s8 with a sign), of two (s16le, s16be) or of four (s32le, s32be), the lowest byte
+first (le) or last (be). A number that is none of the format is written as the nearest one that is,
+and the report says how many of these a sink had.
+
+The stream is run in segments of whole periods. What the sinks take in one is written before the
+tokens of the next one are waited for. A segment has as many periods as take at most 65536 tokens of
+each source and 16384000 firings of each actor, and one at least. With --segment it has so many, or
+as many as take at most 1000000 tokens of each source. With --segment 1 the sinks have what a period
+gives before the tokens of the next one are waited for. What they get in all is the same.
+
+The stream ends where a source has no more tokens for its next firing, or after the periods of
+--periods, which a graph without sources needs. --room is as for csdf run, and auto where it is
+absent. --progress tells on standard error how many firings were made, in a line that is written
+over.
+
+A fault ends the stream too: a line that is no token, a sample that is cut off, a file that cannot be
+read or written. What the segments before it gave is written by then. The line or the sample is
+counted from 1 over the whole stream.
+
+With --json the report is an object on one line, as that of csdf run, and a fault is an object too.
+
+Exit status: 0 the stream has ended (complete, dry or starved), 1 an input was refused,
+2 these words were refused, 3 a file, memory or the run itself failed.
+
+Example: sox in.wav -t raw -e signed -b 16 -c 1 - | csdf stream gain.toml --format s16le > out.raw
+filters the samples of in.wav, where the graph has one source and one sink.
+
+Example: csdf stream graph.toml live --segment 1 --out results
+reads live/src.in and writes results/snk.out, where the graph has a source src and a sink snk.";
 
 const MOVES: &str = "\
 A graph file may have a script: lines such as 'begin src', each of which asks for one move. The

@@ -7,4 +7,4 @@ mod order;
 mod rows;
 
 pub use command::{Request, Unread, form_of, request_of};
-pub use order::{Inquiry, RunWords};
+pub use order::{Folders, Inquiry, RunWords, StreamWords};

@@ -9,6 +9,7 @@ ghost use Rattle.csdf_words.specs.HowLong.{MayBeAsked, MayBeAsked-prop};
 use csdf_analysis::Room;
 use csdf_answers::{Form, Question};
 use csdf_run::RunOptions;
+use csdf_stream::StreamOptions;
 
 /// A question about the graph of a file.
 #[derive(Clone, Copy)]
@@ -46,4 +47,33 @@ pub struct RunWords<'a> {
     ghost may_be_asked: { MayBeAsked options.how_long } by { MayBeAsked-prop options.how_long },
     ghost some_room: { HasSomePeriod options.room } by { HasSomePeriod-prop options.room },
     ghost told: { is_kept options.keeping ≡ is_some journal },
+}
+
+/// The folders of a stream's files.
+#[derive(Clone, Copy)]
+pub struct Folders<'a> {
+    /// That of the sources' files.
+    pub sources: &'a str,
+    /// That of the sinks' files.
+    pub sinks: &'a str,
+}
+
+/// The words of `csdf stream`: a run of the graph of a file over streams of any length, which are files
+/// of folders, or standard input and standard output.
+#[derive(Clone, Copy)]
+pub struct StreamWords<'a> {
+    /// The graph file.
+    pub graph: &'a str,
+    /// The folders of the files. Where they are absent, the source reads standard input, and the sink
+    /// writes standard output.
+    pub folders: Option<Folders<'a>>,
+    /// The room of the channels that have no capacity in the file.
+    pub room: Room,
+    /// How the stream is made.
+    pub options: StreamOptions,
+    /// Whether standard error is to tell how far the stream has come.
+    pub progress: bool,
+    /// The form of the report, and of a fault.
+    pub form: Form,
+    ghost some_room: { HasSomePeriod room } by { HasSomePeriod-prop room },
 }

@@ -16,6 +16,8 @@ pub(crate) enum Given<'a> {
     Text(&'a str),
     /// A number in a range after the option.
     Number(&'a str, (u32, u32)),
+    /// One of these names after the option.
+    Name(&'a str, &'a [&'a str]),
 }
 
 /// An argument of a command.
@@ -48,6 +50,10 @@ pub(crate) const UNTIL_DRY: &str = "until-dry";
 
 pub(crate) const FIRINGS: &str = "firings";
 
+pub(crate) const SEGMENT: &str = "segment";
+
+pub(crate) const FORMAT: &str = "format";
+
 pub(crate) const OUT: &str = "out";
 
 pub(crate) const JOURNAL: &str = "journal";
@@ -58,10 +64,25 @@ pub(crate) const ROOM: &str = "room";
 
 pub(crate) const JSON: &str = "json";
 
+/// The names of the formats of tokens.
+pub(crate) const FORMATS: &[&str] = &["text", "u8", "s8", "s16le", "s16be", "s32le", "s32be"];
+
 const GRAPH_ROW: ArgumentRow<'static> = ArgumentRow {
     name: GRAPH,
     given: Given::Place,
     help: "The graph file; - is standard input",
+};
+
+const WORKERS_ROW: ArgumentRow<'static> = ArgumentRow {
+    name: WORKERS,
+    given: Given::Number("N", (1, 8)),
+    help: "How many workers fire: 1 to 8, 1 where absent",
+};
+
+const PROGRESS_ROW: ArgumentRow<'static> = ArgumentRow {
+    name: PROGRESS,
+    given: Given::Nothing,
+    help: "Tell on standard error how many firings were made",
 };
 
 const ROOM_ROW: ArgumentRow<'static> = ArgumentRow {
@@ -84,11 +105,7 @@ const OF_A_RUN: &[ArgumentRow<'static>] = &[
         given: Given::Place,
         help: "The folder of the token files",
     },
-    ArgumentRow {
-        name: WORKERS,
-        given: Given::Number("N", (1, 8)),
-        help: "How many workers fire: 1 to 8, 1 where absent",
-    },
+    WORKERS_ROW,
     ArgumentRow {
         name: PERIODS,
         given: Given::Number("K", (1, MAX_PERIODS)),
@@ -114,12 +131,46 @@ const OF_A_RUN: &[ArgumentRow<'static>] = &[
         given: Given::Text("FILE"),
         help: "A file for the moves of the run, as the script of a graph file",
     },
-    ArgumentRow {
-        name: PROGRESS,
-        given: Given::Nothing,
-        help: "Tell on standard error how many firings were made",
-    },
+    PROGRESS_ROW,
     ROOM_ROW,
+    JSON_ROW,
+];
+
+/// What `stream` takes.
+const OF_A_STREAM: &[ArgumentRow<'static>] = &[
+    GRAPH_ROW,
+    ArgumentRow {
+        name: FOLDER,
+        given: Given::LastPlace,
+        help: "The folder of the files; standard input and output where absent",
+    },
+    WORKERS_ROW,
+    ArgumentRow {
+        name: ROOM,
+        given: Given::Text("M"),
+        help: "Room for so many periods: 1 to 65535, or auto; auto where absent",
+    },
+    ArgumentRow {
+        name: SEGMENT,
+        given: Given::Number("P", (1, u32::MAX)),
+        help: "How many periods a segment has: 1 to 4294967295, by the graph where absent",
+    },
+    ArgumentRow {
+        name: PERIODS,
+        given: Given::Number("K", (1, u32::MAX)),
+        help: "How many periods to run: 1 to 4294967295, until a source is dry where absent",
+    },
+    ArgumentRow {
+        name: OUT,
+        given: Given::Text("FOLDER"),
+        help: "The folder that the sinks' files are written to: DIR where absent",
+    },
+    ArgumentRow {
+        name: FORMAT,
+        given: Given::Name("F", FORMATS),
+        help: "How tokens lie in bytes, text where absent",
+    },
+    PROGRESS_ROW,
     JSON_ROW,
 ];
 
@@ -140,6 +191,12 @@ pub(crate) const COMMANDS: &[CommandRow<'static>] = &[
         about: "Run a graph on token files",
         ending: Ending::Run,
         arguments: OF_A_RUN,
+    },
+    CommandRow {
+        name: "stream",
+        about: "Run a graph on a stream of tokens of any length",
+        ending: Ending::Stream,
+        arguments: OF_A_STREAM,
     },
     CommandRow {
         name: "moves",

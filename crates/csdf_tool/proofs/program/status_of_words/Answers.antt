@@ -43,3 +43,18 @@ returns-in-Lengths-clause-device g c = grind (arith, common_steps)
 
 pub returns-in-Lengths-clause-lined : goal.returns-in-Lengths-clause-lined
 returns-in-Lengths-clause-lined g c = grind (arith, common_steps)
+
+pub returns-in-OutAlone-clause-answered : goal.returns-in-OutAlone-clause-answered
+returns-in-OutAlone-clause-answered g c = grind (arith, common_steps)
+
+pub returns-in-OutAlone-clause-ends : goal.returns-in-OutAlone-clause-ends
+returns-in-OutAlone-clause-ends g c = search rules
+
+pub returns-in-OutAlone-clause-refused : goal.returns-in-OutAlone-clause-refused
+returns-in-OutAlone-clause-refused g c = grind (arith, common_steps)
+
+pub returns-in-OutAlone-clause-device : goal.returns-in-OutAlone-clause-device
+returns-in-OutAlone-clause-device g c = grind (arith, common_steps)
+
+pub returns-in-OutAlone-clause-lined : goal.returns-in-OutAlone-clause-lined
+returns-in-OutAlone-clause-lined g c = grind (arith, common_steps)

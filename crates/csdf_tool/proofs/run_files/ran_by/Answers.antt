@@ -7,7 +7,7 @@ use Rattle.csdf_answers.specs.Faults.{fault_of}
 use Rattle.csdf_answers.specs.declared.fault.Stream.TheVariants.{Input}
 use Rattle.csdf_answers.specs.declared.fault.ToolFault.TheVariants.{Device}
 use Rattle.csdf_tool.proofs.CauseLemmas.{err_as}
-use Rattle.csdf_tool.proofs.FaultLemmas.{gives_none}
+use Rattle.csdf_tool.proofs.FaultLemmas.{gives_none, no_fault}
 use Rattle.csdf_tool.proofs.RunLemmas.{both_errs, graph_ends, is_some-map, lacks_ends, kept_ends, ran_of_file, reads_asked, stops_by_feed, stops_by_graph, stops_by_run}
 use Rattle.csdf_tool.proofs.TokenLemmas.{read_as}
 use Rattle.csdf_answers.proofs.ToldLemmas.{if_err_fault}
@@ -84,8 +84,7 @@ returns-in_err-graph-clause-ran g c = gives_none c.from_residual-in_err-graph.re
 
 pub returns-in_err-graph-clause-input : goal.returns-in_err-graph-clause-input
 returns-in_err-graph-clause-input g c = λ is failed.
-    let no = (c.in_ok-bytes.ensures.device is).1 failed in
-    absurd (cc)
+    absurd (no_fault ((c.in_ok-bytes.ensures.device is).1 failed))
 
 pub returns-in_err-graph-clause-other : goal.returns-in_err-graph-clause-other
 returns-in_err-graph-clause-other g c =
@@ -97,8 +96,7 @@ returns-in_err-feeds-clause-ran g c = gives_none c.from_residual-in_err-feeds.re
 
 pub returns-in_err-feeds-clause-input : goal.returns-in_err-feeds-clause-input
 returns-in_err-feeds-clause-input g c = λ is failed.
-    let no = (c.in_ok-bytes.ensures.device is).1 failed in
-    absurd (cc)
+    absurd (no_fault ((c.in_ok-bytes.ensures.device is).1 failed))
 
 pub returns-in_err-feeds-clause-other : goal.returns-in_err-feeds-clause-other
 returns-in_err-feeds-clause-other g c =
@@ -108,8 +106,7 @@ returns-in_err-feeds-clause-other g c =
 
 pub returns-clause-input : goal.returns-clause-input
 returns-clause-input g c = λ is failed.
-    let no = (c.in_ok-bytes.ensures.device is).1 failed in
-    absurd (cc)
+    absurd (no_fault ((c.in_ok-bytes.ensures.device is).1 failed))
 
 pub returns-clause-other : goal.returns-clause-other
 returns-clause-other g c =

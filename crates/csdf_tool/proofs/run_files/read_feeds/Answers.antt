@@ -1,12 +1,19 @@
-use Rattle.std.proofs.Common.{◌≡◌, ◌<◌, length, get_or, map, take, ap, sym, ◌∙◌, arith}
+use Rattle.std.proofs.Common.{◌≡◌, ◌<◌, List, Ok, length, subst, get_or, map, take, ap, sym, ◌∙◌, arith}
+use Rattle.std.specs.Prelude.{ℤ}
+use Rattle.csdf_floor.specs.Work.{feeds_in}
 use Rattle.std.proofs.lemmas.List.{get_or-map, length-map, take_all}
 use Rattle.csdf_model.specs.Graph.{actor_view}
 use Rattle.csdf_run.specs.Tokens.{read_in}
 use Rattle.csdf_tool.specs.Contents.{told_tokens}
 use Rattle.csdf_tool.proofs.DiskLemmas.{missing_next, on_err, only_more, only_read_to}
-use Rattle.csdf_tool.proofs.TokenLemmas.{actor_next, all_fed, only_feed}
+use Rattle.csdf_tool.proofs.TokenLemmas.{IsFedTo, actor_next, all_fed, none_fed, only_feed}
 use Rattle.csdf_answers.proofs.ToldLemmas.{if_err_fault}
 use Rattle.csdf_tool.proofs.run_files.read_feeds.Goals as goal
+
+pub loop-number-init : goal.loop-number-init
+loop-number-init g c =
+    subst (λ (feeds : List (List ℤ)). IsFedTo (g.D.Disk.acts c.args.disk.now) (g.D.Disk.acts c.args.disk.now) c.args.folder.now
+    (map actor_view c.args.actors.now) 0 (Ok feeds)) (ap feeds_in (sym c.new.ensures.items)) (none_fed _ _ _)
 
 pub returns-in_err-told-clause-missing : goal.returns-in_err-told-clause-missing
 returns-in_err-told-clause-missing g c =
