@@ -8,12 +8,12 @@ named_in() {
   local told
   {
     "$program" --help | sed -n '/^Commands:/,/^$/s/^  \([a-z]*\) .*/\1/p'
-    for command in run check; do
+    for command in run stream check; do
       "$program" "$command" --help | grep -o -- '^  *\(-h, \)\?--[a-z]*' | sed 's/.*--//'
     done
     echo version
   } | sort -u | while read -r told; do
-    if ! tr -c 'a-z\n' ' ' < "$top/$1" | grep -qw -- "$told"; then echo "$told"; fi
+    if ! tr -c 'a-z\n' ' ' < "$top/$1" | grep -w -- "$told" > /dev/null; then echo "$told"; fi
   done
 }
 
@@ -23,8 +23,8 @@ for file in completions/csdf.bash completions/_csdf completions/csdf.fish docs/c
   compare "$file names all commands and options" 0 /dev/null /dev/null 0
 done
 "$program" --help | grep -c '^  [a-z]' > "$room/out"
-echo 9 > "$room/nine"
-compare "the help has nine commands" 0 "$room/nine" /dev/null 0
+echo 10 > "$room/ten"
+compare "the help has ten commands" 0 "$room/ten" /dev/null 0
 
 # looked_over NAME SCRIPT: a script that prints what is wrong with the program, and nothing where all is well.
 looked_over() {

@@ -93,9 +93,9 @@ def readme() -> None:
     rates = TOP / "examples" / "cd_to_dat"
     shows(README, run(rates / "graph.toml", folder=rates)[0], "README: the first answer")
     small = TOP / "examples" / "decimator"
-    for command in ("check", "repetition", "capacity", "schedule", "dot", "explain", "moves", "run"):
+    for command in ("check", "repetition", "capacity", "schedule", "dot", "explain", "moves", "run", "stream"):
         row = re.search(rf"^\| `{command} GRAPH.*$", README, re.M).group(0).split("|")[3]
-        told = answer(command, small / "graph.toml", *([small, "--out", ROOM] if command == "run" else []))
+        told = answer(command, small / "graph.toml", *([small, "--out", ROOM] if command in ("run", "stream") else []))
         if command == "moves":
             told = answer(command, TOP / "examples" / "pair.toml")
             see(20, len(told.splitlines()), "README: the replies of pair.toml")
@@ -193,6 +193,26 @@ def guide_runs() -> None:
     see(whole + run(graph, "--periods", "4")[0], answer("run", graph, METER, "--periods", "4", "--out", live), "GUIDE: a link to standard output")
 
 
+def streamed(graph: Path, tokens: str, *words: str) -> tuple[str, str]:
+    """What a stream from standard input writes to standard output and to standard error."""
+    ran = subprocess.run([PROGRAM, "stream", str(graph), *words], input=tokens, capture_output=True, text=True)
+    return ran.stdout, ran.stderr
+
+
+def guide_streams() -> None:
+    told, report = streamed(METER / "graph.toml", (METER / "line.in").read_text())
+    see((lines(35, 87, 63, 31), "ending dry"), (told, report.splitlines()[0]), "GUIDE: a stream")
+    if "standard output, 35, 87, 63 and 31." not in GUIDE:
+        say("GUIDE: what the stream writes")
+    see("ending complete", streamed(METER / "graph.toml", (METER / "line.in").read_text(), "--periods", "2")[1].splitlines()[0], "GUIDE: two periods of a stream")
+    soft = TOP / "examples" / "sliding_filter"
+    filtered = (soft / "expected" / "snk.out").read_text()
+    see(filtered, streamed(soft / "graph.toml", (soft / "src.in").read_text())[0], "GUIDE: the filter")
+    heard = [int(it) for it in filtered.splitlines()]
+    kept = [sum(heard[at : at + 2]) // 2 for at in range(0, len(heard), 6)]
+    see(lines(*kept), streamed(TOP / "examples" / "decimator" / "graph.toml", filtered)[0], "GUIDE: two processes")
+
+
 def guide_costs() -> None:
     (ROOM / "cd.in").write_text(lines(*range(1, 147001)))
     told, files = run(TOP / "examples" / "cd_to_dat" / "graph.toml", "--periods", "1000", folder=ROOM)
@@ -247,6 +267,21 @@ def formats_json() -> None:
     see(run(METER / "graph.toml")[0].splitlines(), [f"ending {json.loads(told)['ending']}", *lines], "FORMATS: the report as JSON")
 
 
+def formats_streams() -> None:
+    told, report = streamed(METER / "graph.toml", (METER / "line.in").read_text(), "--json", "--segment", "1")
+    see(["ending", "channels", "clipped"], list(json.loads(report)), "FORMATS: the members of a stream's report")
+    see([{"sink": "meter", "tokens": 0}], json.loads(report)["clipped"], "FORMATS: a sink that clipped no token")
+    faults = (
+        (METER / "graph.toml", lines(1, "x"), (), "csdf: tokens line: syntax at line 2"),
+        (TOP / "examples" / "two_branches" / "graph.toml", "", (), "csdf: stream: DIR is needed: the graph has several sources"),
+        (Path("-"), "", (), "csdf: stream: a graph file is needed: standard input has the tokens"),
+    )
+    for graph, tokens, words, line in faults:
+        see(line + "\n", streamed(graph, tokens, *words)[1], "FORMATS: a fault of a stream")
+        if line.startswith("csdf: stream") and f"`{line}`" not in FORMATS:
+            say(f"FORMATS does not name {line}")
+
+
 def filter_of(weights: str, shift: int, produce: int, tokens: str) -> str:
     """What a filter that reads all of three tokens writes."""
     (ROOM / "f.toml").write_text(
@@ -287,11 +322,13 @@ def main() -> None:
     guide_patterns()
     guide_answers()
     guide_runs()
+    guide_streams()
     guide_costs()
     guide_room()
     formats_cells()
     formats_capacities()
     formats_json()
+    formats_streams()
     formats_kernels()
     formats_explanations()
     print("".join(f"{wrong}\n" for wrong in found), end="")
