@@ -162,7 +162,8 @@ fn flow_over<R: AllocGlobal + Eprint + Threads + Wait + Sync, I: Intake, O: Outl
 /// Whether a value takes fewer bytes than half of what a pointer reaches, as every value does: the prover is
 /// told of no type that it does.
 fn is_in_memory<T>(value: &T) -> bool
-    ensures { result ≡ true → type_size T.row < 2 ^ 63 }
+    ensures fits { result ≡ true → type_size T.row < 2 ^ 63 }
+    ensures large { result ≡ false → 2 ^ 63 ≤ type_size T.row }
 {
     mem::size_of_val(value) <= isize::MAX as usize
 }
