@@ -6,7 +6,8 @@
 //!     search capacity NAME    prints what `csdf capacity` prints for it
 //!     search schedule NAME    prints what `csdf schedule` prints for it
 //!
-//! NAME is `chain`, `loops` or `even`.
+//! NAME is `chain`, `loops` or `even`, or `random` with a number behind it: graphs of 20 to 64 actors, up to
+//! 128 channels, circles and ways beside each other, by the dice of that number.
 
 use std::fmt::Write;
 
@@ -28,6 +29,8 @@ struct Port {
 }
 
 struct Actor {
+    cycles: u32,
+    phases: usize,
     firings: u32,
     inputs: Vec<Port>,
     outputs: Vec<Port>,
@@ -97,18 +100,91 @@ fn graph(name: &str) -> Graph {
             channels.push(channel(a + 1, a, 128, &mut seed, even));
         }
     }
-    let actors = (0..ACTORS).map(|a| actor(a, &channels)).collect();
+    let actors = (0..ACTORS).map(|a| actor(a, cycles(a), PHASES, &channels)).collect();
     Graph { actors, channels }
 }
 
-fn actor(a: usize, channels: &[Channel]) -> Actor {
+struct Dice(u64);
+
+impl Dice {
+    fn below(&mut self, end: u32) -> u32 {
+        self.0 = self.0.wrapping_mul(6364136223846793005).wrapping_add(1442695040888963407);
+        ((self.0 >> 33) % u64::from(end)) as u32
+    }
+
+    fn among(&mut self, values: &[u32]) -> u32 {
+        values[self.below(values.len() as u32) as usize]
+    }
+
+    /// So many rates with this sum, none above 64 where that can be.
+    fn rates(&mut self, sum: u32, phases: usize) -> Vec<u32> {
+        let mut rates = vec![sum / phases as u32; phases];
+        rates[0] += sum % phases as u32;
+        for _ in 0..2 * phases {
+            let giver = self.below(phases as u32) as usize;
+            let taker = self.below(phases as u32) as usize;
+            if rates[giver] > 0 && rates[taker] < 64 {
+                rates[giver] -= 1;
+                rates[taker] += 1;
+            }
+        }
+        rates
+    }
+}
+
+fn divisor(a: u32, b: u32) -> u32 {
+    if b == 0 { a } else { divisor(b, a % b) }
+}
+
+/// A graph by the dice: each actor behind the first has a channel from one of the four before it, and there
+/// are more between any two, of which those that lead back begin with the tokens of a period.
+fn random_graph(number: u64) -> Graph {
+    let mut dice = Dice(number);
+    let count = 20 + dice.below(45) as usize;
+    let phases: Vec<usize> = (0..count).map(|_| dice.among(&[1, 1, 2, 3, 4, 8]) as usize).collect();
+    let cycles: Vec<u32> = (0..count).map(|_| dice.among(&[1, 2, 4, 8, 16, 32, 64, 128])).collect();
+    let mut channels = Vec::new();
+    let mut join = |from: usize, to: usize, leads_back: bool, dice: &mut Dice| {
+        let tokens = cycles[from] / divisor(cycles[from], cycles[to]) * cycles[to] * (1 + dice.below(2));
+        let produce = dice.rates(tokens / cycles[from], phases[from]);
+        let consume = dice.rates(tokens / cycles[to], phases[to]);
+        let fits = produce.iter().chain(&consume).all(|rate| *rate <= 64);
+        if fits && !(leads_back && tokens > 256) && channels.len() < 128 {
+            let initial = if leads_back { tokens } else { dice.below(4) };
+            channels.push(Channel { from, to, produce, consume, initial });
+            return true;
+        }
+        false
+    };
+    for to in 1..count {
+        // (one of the nearest that fits, or with one cycle for the other's many none does)
+        for _ in 0..64 {
+            let from = to - 1 - dice.below(4.min(to as u32)) as usize;
+            if join(from, to, false, &mut dice) {
+                break;
+            }
+        }
+    }
+    for _ in 0..dice.below(128) {
+        let (one, other) = (dice.below(count as u32) as usize, dice.below(count as u32) as usize);
+        if one != other {
+            join(one, other, one > other, &mut dice);
+        }
+    }
+    let actors = (0..count).map(|a| actor(a, cycles[a], phases[a], &channels)).collect();
+    Graph { actors, channels }
+}
+
+fn actor(a: usize, cycles: u32, phases: usize, channels: &[Channel]) -> Actor {
     let port = |channel, rates: &[u32]| Port {
         channel,
         own: channels[channel].from == channels[channel].to,
         rates: rates.to_vec(),
     };
     let mut actor = Actor {
-        firings: cycles(a) * PHASES as u32,
+        cycles,
+        phases,
+        firings: cycles * phases as u32,
         inputs: Vec::new(),
         outputs: Vec::new(),
         neighbours: 1 << a,
@@ -129,8 +205,13 @@ fn actor(a: usize, channels: &[Channel]) -> Actor {
 fn text(graph: &Graph) -> String {
     let mut text = String::new();
     for (a, actor) in graph.actors.iter().enumerate() {
-        let kernel = if actor.outputs.is_empty() { "sink" } else { "copy" };
-        writeln!(text, "[[actor]]\nname = \"a{a}\"\nkernel = \"{kernel}\"\nphases = {PHASES}\n").unwrap();
+        let kernel = match (actor.inputs.is_empty(), actor.outputs.is_empty()) {
+            (true, _) => "source",
+            (_, true) => "sink",
+            _ => "copy",
+        };
+        let phases = actor.phases;
+        writeln!(text, "[[actor]]\nname = \"a{a}\"\nkernel = \"{kernel}\"\nphases = {phases}\n").unwrap();
     }
     for (c, channel) in graph.channels.iter().enumerate() {
         let Channel { from, to, produce, consume, initial } = channel;
@@ -193,7 +274,7 @@ impl<'a> Run<'a> {
         for p in &actor.outputs {
             self.lengths[p.channel] += p.rates[phase];
         }
-        self.phases[a] = if phase + 1 == PHASES { 0 } else { phase + 1 };
+        self.phases[a] = if phase + 1 == actor.phases { 0 } else { phase + 1 };
         self.counts[a] += 1;
         self.firings += 1;
         self.waiting |= actor.neighbours;
@@ -248,7 +329,7 @@ fn capacities(graph: &Graph) -> Vec<u32> {
     let full: Vec<u32> = graph
         .channels
         .iter()
-        .map(|c| c.initial + cycles(c.from) * c.produce.iter().sum::<u32>())
+        .map(|c| c.initial + graph.actors[c.from].cycles * c.produce.iter().sum::<u32>())
         .collect();
     assert!(full.iter().all(|bound| *bound <= 65535));
     assert!(completes(graph, &full), "deadlock");
@@ -273,7 +354,10 @@ fn schedule(graph: &Graph, bounds: Vec<u32>) -> Vec<usize> {
 fn main() {
     let words: Vec<String> = std::env::args().skip(1).collect();
     let [command, name] = &words[..] else { panic!("search graph|capacity|schedule NAME") };
-    let graph = graph(name);
+    let graph = match name.strip_prefix("random") {
+        Some(number) => random_graph(number.parse().expect("random and a number")),
+        None => graph(name),
+    };
     let mut out = String::new();
     match command.as_str() {
         "graph" => out = text(&graph),

@@ -88,7 +88,7 @@ launch() {
 }
 
 echo "one two" > "$room/words_told"
-echo "csdf: meanwhile './csdf --unproved WORDS' in place of './csdf WORDS' answers in some minutes" \
+echo "csdf: meanwhile './csdf --unproved WORDS' in place of './csdf WORDS' answers in one to two minutes, each time" \
   > "$room/begun"
 { cat "$room/begun"; echo "csdf: built"; } > "$room/built"
 cat > "$room/no_rt" << 'EOF'
@@ -114,17 +114,23 @@ launch "all that is missing" 3 0 /dev/null "$room/lacking" lacking
 printf '%s\n' run "$launched/of_here" --workers 2 --room auto --out "$launched/there" /of/anywhere \
   "--out=$launched/here" > "$room/unproved_words"
 cat > "$room/unproved" << 'EOF'
-csdf: nothing is proved yet: this answer is the program's as it is read, without a build, in some minutes
+csdf: running unproved, by the kit's interpreter: each command takes one to two minutes
 csdf: device: crates/csdf/../../of_here
 EOF
 launch "unproved" 5 0 "$room/unproved_words" "$room/unproved" with_rt \
   --unproved run of_here --workers 2 --room auto --out there /of/anywhere --out=here
 printf '%s\n' run - "$launched/of_here" > "$room/unproved_words"
 launch "unproved, of standard input" 5 0 "$room/unproved_words" "$room/unproved" with_rt --unproved run - of_here
-printf '%s\n' help check > "$room/unproved_words"
-launch "unproved help" 5 0 "$room/unproved_words" "$room/unproved" with_rt --unproved help check
+mkdir -p "$launched/tests/cli"
+cp -r "$here/cases" "$launched/tests/cli"
+launch "unproved help" 0 0 "$here/cases/help_of_check/stdout" /dev/null without_rt --unproved help check
+launch "unproved help of a command" 0 0 "$here/cases/help_of_run/stdout" /dev/null without_rt --unproved run --help
+launch "unproved help of all" 0 0 "$here/cases/help/stdout" /dev/null without_rt --unproved --help
+launch "unproved version" 0 0 "$here/cases/version/stdout" /dev/null without_rt --unproved --version
+printf '%s\n' help one > "$room/unproved_words"
+launch "unproved help of no command" 5 0 "$room/unproved_words" "$room/unproved" with_rt --unproved help one
 cat > "$room/no_place" << EOF
-csdf: nothing is proved yet: this answer is the program's as it is read, without a build, in some minutes
+csdf: running unproved, by the kit's interpreter: each command takes one to two minutes
 csdf: no file can be made in $room/missing: name another folder by TMPDIR
 EOF
 launch_in="$room/missing"
@@ -241,7 +247,7 @@ printf '%s\n' one two 12 > "$room/wanted_launch"
 compare "the launcher: two calls at once" 0 "$room/wanted_launch" /dev/null 0
 mkdir -p "$launched/completions" "$launched/docs"
 cp "$top"/completions/* "$launched/completions/"
-cp "$top/docs/csdf.1" "$launched/docs/"
+cp "$top/docs/csdf.1" "$top/docs/GUIDE.md" "$top/docs/FORMATS.md" "$launched/docs/"
 echo "csdf: installed under $room/prefix" > "$room/installed"
 launch "install" 0 12 /dev/null "$room/installed" with_rt --install "$room/prefix"
 echo "csdf: usage: ./csdf --install PREFIX" > "$room/usage"
@@ -253,6 +259,8 @@ status="$?"
 cat > "$room/wanted_launch" << 'EOF'
 ./bin/csdf
 ./share/bash-completion/completions/csdf
+./share/doc/csdf/FORMATS.md
+./share/doc/csdf/GUIDE.md
 ./share/fish/vendor_completions.d/csdf.fish
 ./share/man/man1/csdf.1
 ./share/zsh/site-functions/_csdf

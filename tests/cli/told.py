@@ -91,7 +91,8 @@ def see(wanted: object, given: object, what: str) -> None:
 
 def readme() -> None:
     rates = TOP / "examples" / "cd_to_dat"
-    shows(README, run(rates / "graph.toml", folder=rates)[0], "README: the first answer")
+    first = re.search(r"^    \./csdf run examples/cd_to_dat/graph\.toml examples/cd_to_dat(.*)$", README, re.M)
+    shows(README, run(rates / "graph.toml", *first.group(1).split(), folder=rates)[0], "README: the first answer")
     small = TOP / "examples" / "decimator"
     for command in ("check", "repetition", "capacity", "schedule", "dot", "explain", "moves", "run", "stream"):
         row = re.search(rf"^\| `{command} GRAPH.*$", README, re.M).group(0).split("|")[3]
@@ -119,9 +120,11 @@ def examples() -> None:
 
 
 def guide_excerpts() -> None:
-    """The tables that GUIDE shows stand in graph files of examples/."""
+    """The tables that GUIDE shows stand in graph files of examples/. A whole graph file is run by itself."""
     whole = [file.read_text() for file in TOP.glob("examples/*/graph.toml")]
     for text in re.findall(r"```toml\n(.*?)```", GUIDE, re.S):
+        if "actor = [" in text:
+            continue
         tables = text.split("\n\n") if text.startswith("[[") else re.findall(r"^  \{.*\n", text, re.M)
         for table in tables:
             if not any(table.rstrip("\n") + "\n" in graph for graph in whole):
@@ -139,6 +142,55 @@ def guide_patterns() -> None:
         '  { name = "y", from = "all", to = "snk", produce = [1], consume = [1] }]\n'
     )
     see(run(alone, "--periods", "6", folder=folder)[1], run(folder / "graph.toml", "--periods", "3", folder=folder)[1], "GUIDE: two copies")
+
+
+def filtered(h: list[int], x: list[int], shift: int, half: int = 0) -> list[int]:
+    """np.convolve(x, h)[: len(x)] >> shift, with this added before."""
+    return [(sum(w * x[at - k] for k, w in enumerate(h) if k <= at) + half) >> shift for at in range(len(x))]
+
+
+def sunk(graph: Path, tokens: list[int]) -> list[int]:
+    """What the sink `snk` gets of the tokens of `src`, until these end."""
+    (ROOM / "src.in").write_text(lines(*tokens))
+    told, files = run(graph, "--until-dry", "--room", "auto", folder=ROOM)
+    see("ending dry", told.split("\n", 1)[0], f"GUIDE: {graph.name}")
+    return [int(it) for it in files.get("snk.out", "").split()]
+
+
+# Samples of 16 bits, the ends of their range among them.
+SAMPLES = [0, 1, -1, 2, -2, 3, -3, 5, -5, 10, -10, 32767, -32768, *((at * 7919) % 65536 - 32768 for at in range(60))]
+
+
+def guide_filters() -> None:
+    """Weights in numpy's order, zeros between samples, a gain, rounding, and many taps."""
+    soft = TOP / "examples" / "sliding_filter"
+    x = [int(it) for it in (soft / "src.in").read_text().split()]
+    see(filtered([2, 3, 2, 1], x, 3), [int(it) for it in (soft / "expected" / "snk.out").read_text().split()], "GUIDE: the order of numpy")
+    if "as [2, 3, 2, 1] here" not in GUIDE:
+        say("GUIDE: the weights in the order of numpy")
+    folder = TOP / "examples" / "resampler"
+    weights = json.loads(re.search(r"weights = (\[.*?\])", (folder / "graph.toml").read_text()).group(1))
+    stuffed = [it for sample in SAMPLES for it in (sample, 0, 0)]
+    see(filtered(weights[::-1], stuffed, 15)[::2], sunk(folder / "graph.toml", SAMPLES), "GUIDE: three samples of two")
+    see([22938 * it >> 15 for it in SAMPLES], sunk(graph_in(GUIDE, "**A gain of 0.7.**"), SAMPLES), "GUIDE: a gain")
+    see(filtered([22938], SAMPLES, 15, 16384), sunk(graph_in(GUIDE, "**Rounding to nearest.**"), SAMPLES), "GUIDE: rounding")
+    program = re.search(r"```python\n(.*?)```", GUIDE, re.S).group(1)
+    for count in (1, 16, 17, 32, 40, 118):
+        taps = [((at * 37) % 101 - 50) / (26 * count + 100) for at in range(count)]
+        made = subprocess.run([sys.executable, "-c", program], input=lines(*taps), capture_output=True, text=True)
+        (ROOM / "taps.toml").write_text(made.stdout)
+        wanted = filtered([round(it * 2**15) for it in taps], SAMPLES, 15)
+        see(wanted, sunk(ROOM / "taps.toml", SAMPLES), f"GUIDE: {count} taps by a program {made.stderr}")
+
+
+def guide_sound() -> None:
+    """Samples made lines by od are the tokens of these samples."""
+    command = re.search(r"\| (od .*) > tokens/src\.in$", GUIDE, re.M).group(1)
+    raw = b"".join(it.to_bytes(2, sys.byteorder, signed=True) for it in SAMPLES)
+    made = subprocess.run(command.split(), input=raw, capture_output=True).stdout
+    see(SAMPLES, [int(it) for it in made.split()], "GUIDE: samples as lines")
+    graph = graph_in(GUIDE, "**A gain of 0.7.**")
+    see(lines(*(22938 * it >> 15 for it in SAMPLES)), streamed(graph, made.decode())[0], "GUIDE: the tokens of samples")
 
 
 def guide_answers() -> None:
@@ -191,6 +243,9 @@ def guide_runs() -> None:
     live.mkdir()
     (live / "meter.out").symlink_to("/dev/stdout")
     see(whole + run(graph, "--periods", "4")[0], answer("run", graph, METER, "--periods", "4", "--out", live), "GUIDE: a link to standard output")
+    with open(ROOM / "report", "w") as report:
+        ran = subprocess.run([PROGRAM, "run", graph, METER, "--out", live], stdout=report, stderr=subprocess.PIPE, text=True)
+    names(GUIDE, "csdf: file in use: meter.out", ran.stderr, "GUIDE: a link to standard output, which is a file")
 
 
 def streamed(graph: Path, tokens: str, *words: str) -> tuple[str, str]:
@@ -234,28 +289,28 @@ def guide_room() -> None:
         see(ending, run(few, "--periods", "6", *words, folder=branches)[0].split()[1], f"GUIDE: five cells {words}")
 
 
-def formats_cells() -> None:
-    graph = graph_in(FORMATS, "### Cells")
+def guide_cells() -> None:
+    graph = graph_in(GUIDE, "How too few cells stop a run")
     told = answer("moves", graph).splitlines()
-    shows(FORMATS, "\n".join(told[-5:]), "FORMATS: fewer cells")
-    see(16, sum(line.endswith(": ok") or ": ok " in line for line in told[:-5]), "FORMATS: the moves before")
-    see(["p", "p", "p", "p", "q"], answer("schedule", graph).splitlines()[:5], "FORMATS: the schedule")
+    shows(GUIDE, "\n".join(told[-5:]), "GUIDE: fewer cells")
+    see(16, sum(line.endswith(": ok") or ": ok " in line for line in told[:-5]), "GUIDE: the moves before")
+    see(["p", "p", "p", "p", "q"], answer("schedule", graph).splitlines()[:5], "GUIDE: the schedule")
     turn = [f'"{verb} {actor}{" 1" if verb == "write" and actor != "snk" else ""}"' for actor in ("p", "q", "add", "snk") for verb in ("begin", "read", "write", "finish")]
     moves = f"moves = [{', '.join(turn * 4)}]"
     played = edited(graph, ("cells = 4", "cells = 2"), (re.search(r"moves = \[.*?\n\]", graph.read_text(), re.S).group(0), moves))
-    see([], [line for line in answer("moves", played).splitlines() if ": ok" not in line], "FORMATS: two cells in turn")
+    see([], [line for line in answer("moves", played).splitlines() if ": ok" not in line], "GUIDE: two cells in turn")
 
 
-def formats_capacities() -> None:
-    graph = graph_in(FORMATS, "### Least capacities")
-    shows(FORMATS, answer("capacity", graph), "FORMATS: least capacities")
+def guide_capacities() -> None:
+    graph = graph_in(GUIDE, "as in this circle of two")
+    shows(GUIDE, answer("capacity", graph), "GUIDE: least capacities")
     x, y = re.findall(r"^  \{ name = \"[xy]\".*\n", graph.read_text(), re.M)
-    shows(FORMATS, answer("capacity", edited(graph, (x + y, y + x))), "FORMATS: in the other order")
-    see(lines("x 2", "y 2", "cells 4"), answer("capacity", edited(graph, ("initial = [5]", "initial = [5], capacity = 2"))), "FORMATS: with a capacity")
+    shows(GUIDE, answer("capacity", edited(graph, (x + y, y + x))), "GUIDE: in the other order")
+    see(lines("x 2", "y 2", "cells 4"), answer("capacity", edited(graph, ("initial = [5]", "initial = [5], capacity = 2"))), "GUIDE: with a capacity")
 
 
 def formats_json() -> None:
-    graph = graph_in(FORMATS, "### Least capacities")
+    graph = graph_in(GUIDE, "as in this circle of two")
     shows(FORMATS, answer("capacity", graph, "--json"), "FORMATS: capacities as JSON")
     loop = TOP / "tests" / "cli" / "cases" / "capacity_deadlock" / "graph.toml"
     shows(FORMATS, answer("capacity", loop, "--json"), "FORMATS: a deadlock as JSON")
@@ -299,6 +354,67 @@ def formats_kernels() -> None:
     see(lines(2147483647, -2147483648), filter_of("[32767]", 0, 2, "2147483647\n-2147483648\n0\n"), "FORMATS: what is outside")
 
 
+def formats_files() -> None:
+    """A file called -, a part that is there already, links that lead nowhere, and a file for two sinks."""
+    graph, whole = METER / "graph.toml", lines(35)
+    here = ROOM / "files"
+    here.mkdir()
+    answer("run", graph, METER, "--out", here, "--journal", "-", at=here)
+    see(["-", "meter.out"], sorted(it.name for it in here.iterdir()), "FORMATS: moves to a file called -")
+    part = here / "meter.out.part"
+    part.write_text("x" * 1000)
+    answer("run", graph, METER, "--out", here)
+    see((False, whole), (part.exists(), (here / "meter.out").read_text()), "FORMATS: a part that is there already")
+    part.mkdir()
+    for command in ("run", "stream"):
+        see("csdf: device: meter.out\n", answer(command, graph, METER, "--out", here), f"FORMATS: a folder in the place of a part, {command}")
+    see((True, whole), (part.is_dir(), (here / "meter.out").read_text()), "FORMATS: a folder in the place of a part")
+    part.rmdir()
+    for command in ("run", "stream"):
+        (here / "meter.out").unlink()
+        (here / "meter.out").symlink_to(f"led_to_by_{command}")
+        answer(command, graph, METER, "--out", here)
+        see(True, (here / f"led_to_by_{command}").read_text().startswith(whole), f"FORMATS: a link to nowhere, {command}")
+        (here / "meter.out").unlink()
+        (here / "meter.out").symlink_to("no_such_folder/file")
+        see("csdf: device: meter.out\n", answer(command, graph, METER, "--out", here), f"FORMATS: a link to no folder, {command}")
+    two = TOP / "tests" / "cli" / "runs" / "two_sinks"
+    for name in ("first.out", "second.out"):
+        (here / name).symlink_to("both")
+    for command in ("run", "stream"):
+        see("csdf: file in use: second.out\n", answer(command, two / "graph.toml", two / "tokens", "--out", here), f"FORMATS: a file for two sinks, {command}")
+
+
+def formats_words() -> None:
+    """Lines with bytes that are not shown, and words that are refused with the usage or without."""
+    graph, here = METER / "graph.toml", ROOM / "words"
+    here.mkdir()
+    seen = ((b"4,5\r", "4,5"), (b"~ !", "~ !"), (b"x" * 40, "x" * 40))
+    unseen = (b"x" * 41, b"4\t5", b"4\x7f", "é".encode(), b"\xff", b"4\r5")
+    for line, shown in (*((line, f': "{text}"') for line, text in seen), *((line, "") for line in unseen)):
+        (here / "line.in").write_bytes(b"1\n" + line + b"\n")
+        told = answer("explain", graph, here).splitlines()[1]
+        see(f"line reads {here}/line.in, whose line 2 is no whole number{shown}", told, f"FORMATS: the faulty line {line!r}")
+    for text, shown in ((b"a = 1\nb = \x01 \xc3\xa9 " + b"x" * 300 + b"\n", True), (b"a = 1\nb = \xff\n", False)):
+        (here / "graph.toml").write_bytes(text)
+        told = subprocess.run([PROGRAM, "explain", here / "graph.toml"], capture_output=True).stdout.split(b"\n")
+        see((b"csdf: graph: not TOML", shown), (told[0], text.split(b"\n")[1] in told), "FORMATS: a line that is no TOML")
+    with_usage = (["fly"], ["run", graph], ["run", graph, METER, "--progress", "--progress"])
+    without = (
+        ["run", graph, METER, "--room", "0"],
+        ["run", graph, METER, "--workers", "9"],
+        ["run", graph, METER, "--workers"],
+        ["run", graph, METER, "--until-dry", "--periods", "1"],
+        ["stream", graph, "--out", here],
+        ["stream", graph, "--format", "mp3"],
+        [b"\xff"],
+    )
+    for words in (*with_usage, *without):
+        has_usage = words in with_usage
+        ran = subprocess.run([PROGRAM, *words], capture_output=True)
+        see((2, b"", True, has_usage), (ran.returncode, ran.stdout, ran.stderr.startswith(b"error: "), b"\nUsage: " in ran.stderr), f"FORMATS: the words {words}")
+
+
 def formats_explanations() -> None:
     tight = TOP / "tests" / "cli" / "cases" / "explain_too_tight" / "graph.toml"
     shows(FORMATS, answer("explain", tight), "FORMATS: too tight")
@@ -320,16 +436,20 @@ def main() -> None:
     examples()
     guide_excerpts()
     guide_patterns()
+    guide_filters()
+    guide_sound()
     guide_answers()
     guide_runs()
     guide_streams()
     guide_costs()
     guide_room()
-    formats_cells()
-    formats_capacities()
+    guide_cells()
+    guide_capacities()
     formats_json()
     formats_streams()
     formats_kernels()
+    formats_files()
+    formats_words()
     formats_explanations()
     print("".join(f"{wrong}\n" for wrong in found), end="")
 

@@ -5,7 +5,8 @@
    REFUSE_OPEN=N     the Nth open, REFUSE_READ=N the Nth read, REFUSE_WRITE=N the Nth write
    REFUSE_ALL=1      and each one after it
    SHORT_IO=1        each read and write moves one byte at most
-   REFUSED_FD=F      a byte goes to this file descriptor at each refusal, the letter of what was refused
+   REFUSED_FD=F      a byte goes to this file descriptor at each refusal, the letter of what was refused,
+                     or M where it is to open or read a file that describes the machine (/proc, /sys)
 
    It counts from the start of main in all threads of the process. What the C library takes from
    the system by itself (stacks by mmap, the loader's own memory) is not seen. */
@@ -17,6 +18,7 @@
 #include <stdarg.h>
 #include <stdatomic.h>
 #include <stdlib.h>
+#include <string.h>
 #include <sys/syscall.h>
 #include <sys/uio.h>
 #include <unistd.h>
@@ -35,6 +37,8 @@ struct counter {
 static struct counter allocs = {"REFUSE_ALLOC"}, threads = {"REFUSE_THREAD"};
 static struct counter opens = {"REFUSE_OPEN"}, reads = {"REFUSE_READ"}, writes = {"REFUSE_WRITE"};
 static int refuses_all, is_short, refused_fd = -1, is_ready;
+/* Whether a file that is open describes the machine. */
+static atomic_char is_machine[1024];
 
 static long number(const char *name) {
     const char *text = getenv(name);
@@ -50,14 +54,16 @@ __attribute__((constructor)) static void begin(void) {
     is_ready = 1;
 }
 
-/* Whether this call is to be refused, which is then told. */
-static int is_refused(struct counter *it) {
+/* Whether this call is to be refused, which is then told by a letter. */
+static int is_refused_as(struct counter *it, const char *letter) {
     if (!is_ready || it->first == 0) return 0;
     long now = atomic_fetch_add(&it->count, 1) + 1;
     if (now < it->first || (now > it->first && !refuses_all)) return 0;
-    if (refused_fd >= 0) syscall(SYS_write, refused_fd, it->name + 7, 1);
+    if (refused_fd >= 0) syscall(SYS_write, refused_fd, letter, 1);
     return 1;
 }
+
+static int is_refused(struct counter *it) { return is_refused_as(it, it->name + 7); }
 
 static int lacks_memory(void) {
     if (!is_refused(&allocs)) return 0;
@@ -86,14 +92,20 @@ int pthread_create(pthread_t *to, const pthread_attr_t *attr, void *(*body)(void
     return real(to, attr, body, with);
 }
 
-static int fails(struct counter *it) {
-    if (!is_refused(it)) return 0;
+static int fails(struct counter *it, int of_machine) {
+    if (!is_refused_as(it, of_machine ? "M" : it->name + 7)) return 0;
     errno = EIO;
     return 1;
 }
 
+static int has_known(int fd) { return fd >= 0 && fd < (int)(sizeof is_machine / sizeof is_machine[0]); }
+
 static int opened(int folder, const char *path, int flags, mode_t mode) {
-    return fails(&opens) ? -1 : (int)syscall(SYS_openat, folder, path, flags, mode);
+    int of_machine = !strncmp(path, "/proc/", 6) || !strncmp(path, "/sys/", 5);
+    if (fails(&opens, of_machine)) return -1;
+    int fd = (int)syscall(SYS_openat, folder, path, flags, mode);
+    if (has_known(fd)) atomic_store(&is_machine[fd], of_machine);
+    return fd;
 }
 
 #define OPEN(name)                                        \
@@ -119,17 +131,17 @@ OPENAT(openat)
 OPENAT(openat64)
 
 ssize_t read(int fd, void *to, size_t count) {
-    if (fails(&reads)) return -1;
+    if (fails(&reads, has_known(fd) && atomic_load(&is_machine[fd]))) return -1;
     return syscall(SYS_read, fd, to, is_short && count > 1 ? 1 : count);
 }
 
 ssize_t write(int fd, const void *from, size_t count) {
-    if (fails(&writes)) return -1;
+    if (fails(&writes, 0)) return -1;
     return syscall(SYS_write, fd, from, is_short && count > 1 ? 1 : count);
 }
 
 ssize_t writev(int fd, const struct iovec *parts, int count) {
-    if (fails(&writes)) return -1;
+    if (fails(&writes, 0)) return -1;
     for (int i = 0; i < count && is_short; i++)
         if (parts[i].iov_len) return syscall(SYS_write, fd, parts[i].iov_base, 1);
     return syscall(SYS_writev, fd, parts, count);

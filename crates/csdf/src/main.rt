@@ -3,7 +3,8 @@
 #![tactic(auto)]
 
 use csdf_bytes::{FromReader, ToWriter};
-use csdf_tool::{HostDisk, run_words};
+use csdf_disk::HostDisk;
+use csdf_tool::{run_words, tell_waiting};
 use std::env::{self, Env};
 use std::io;
 use std::process::ExitCode;
@@ -21,6 +22,7 @@ fn main(rt: HostRuntime) -> ExitCode {
     match words_after_name(&rt) {
         Ok(words) => {
             let mut disk = HostDisk::new(&rt);
+            tell_waiting(&mut disk, &words, &mut err);
             ExitCode::from(run_words(&rt, &mut disk, &words, &mut reader, &mut out, &mut err))
         }
         Err(fault) if fault.kind() == io::ErrorKind::InvalidData => {

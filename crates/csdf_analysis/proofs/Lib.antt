@@ -20,4 +20,5 @@ pub mod AutoLemmas
 pub mod AloneLemmas
 pub mod TightLemmas
 pub mod ContinuedLemmas
+pub mod ReliefLemmas
 mod RoomExamples

@@ -31,7 +31,7 @@ bound_at f (d ∷ channels) (suc i) c is = bound_at f channels i c is
 
 -- ---- the bounds that the search starts from
 
-within_capacity : (o : Option ℕ) (c : Channel) (full : ℕ) → IfSome o (IsCapacity c) → full ≤ 65535 → unwrap_or o full ≤ 65535
+pub within_capacity : (o : Option ℕ) (c : Channel) (full : ℕ) → IfSome o (IsCapacity c) → full ≤ 65535 → unwrap_or o full ≤ 65535
 within_capacity None c full is room = room
 within_capacity (Some b) c full is room = is.within
 

@@ -14,3 +14,4 @@ pub mod Stalling
 pub mod Waking
 pub mod Room
 pub mod Continued
+pub mod Relief

@@ -25,6 +25,7 @@ pub use calls::alone::{Tight, tight_channel};
 pub use calls::capacities::capacities;
 pub use calls::demand::demand_of;
 pub use calls::raise::raise;
+pub use calls::relief::{Relief, relief_of};
 pub use calls::repetition::repetition;
 pub use calls::schedule::schedule;
 pub use calls::stall::stall_of;

@@ -29,7 +29,6 @@ IsOfFile (fault.TokenCutOff name sample) = ⊥
 IsOfFile (fault.TooManyTokens name) = ⊥
 IsOfFile (fault.InUse name) = ⊥
 IsOfFile (fault.Lacks lack) = ⊥
-IsOfFile fault.Mixed = ⊥
 IsOfFile fault.Worker = ⊥
 IsOfFile (fault.Device d) = ⊥
 IsOfFile fault.Memory = Unit {0}

@@ -7,3 +7,5 @@ pub mod ExplainLemmas
 pub mod ToldLemmas
 pub mod TokenNoteLemmas
 pub mod ObjectLemmas
+pub mod DistanceLemmas
+pub mod WayLemmas

@@ -1,10 +1,12 @@
 -- The objects of answers do not nest deep, and that of want of memory is written out.
-use Rattle.std.proofs.Common.{◌≡◌, ℕ, ◌≤◌, List, [], ◌∷◌, ◌++◌, codes, sym, ap, arith}
-use Rattle.std.specs.Prelude.{slice_index}
+use Rattle.std.proofs.Common.{◌≡◌, ℕ, ◌≤◌, true, List, [], ◌∷◌, ◌++◌, Result, codes, sym, ap, arith}
+use Rattle.std.specs.Prelude.{IfOk, is_some, slice_index}
 use Rattle.std.specs.List.{enumerate_from}
+use Rattle.std.specs.Option.{option_map_or}
 use Rattle.std.proofs.lemmas.Fmt.{decimal_digit}
-use Rattle.json.specs.Json.{max_depth, number, string, object, no_members, member}
+use Rattle.json.specs.Json.{Json, max_depth, number, string, object, no_members, member}
 use Rattle.json.specs.Print.{print}
+use Rattle.json.specs.Token.{Token}
 use Rattle.json.specs.Tree.{depth, json_tokens}
 use Rattle.json.proofs.OnLiterals.{json_on_literals}
 use Rattle.json.proofs.Printed.Decimals.{IsNumber-decimal}
@@ -12,8 +14,11 @@ use Rattle.json.proofs.Printed.Trees.{document-print}
 use Rattle.csdf_json.specs.Lines.{IsLineOf}
 use Rattle.csdf_json.proofs.LineLemmas.{items_by-depth}
 use Rattle.csdf_analysis.specs.Acceptance.{Accepted}
+use Rattle.csdf_answers.specs.declared.answer.Answer.{Answer}
+use Rattle.csdf_answers.specs.declared.answer.Answer.TheVariants as answer
 use Rattle.csdf_answers.specs.declared.fault.ToolFault.TheVariants.{Memory}
-use Rattle.csdf_answers.specs.Objects.{actor_object, capacity_object, channel_object, check_object, fault_object, reason_object, repetition_object, schedule_object}
+use Rattle.csdf_answers.specs.Described.{actor_names}
+use Rattle.csdf_answers.specs.Objects.{IsObjectOf, actor_object, capacity_object, channel_object, check_object, fault_object, object_of, reason_object, repetition_object, schedule_object}
 use Rattle.csdf_answers.specs.Printed.{name_at, names_of}
 
 -- ---- depths
@@ -38,6 +43,20 @@ capacity_shallow a =
 
 pub reason_shallow : (reason : List ℕ) (status : ℕ) → depth (reason_object reason status) ≤ max_depth
 reason_shallow reason status = omega arith
+
+-- ---- the line of an answer
+
+-- where there is an object, what was written of it is its line
+pub line_told : {X E : Type 0} (view : X → List ℕ) (answer : Answer) (tokens : List Token) (r : Result X E) → is_some (object_of answer) ≡ true
+    → tokens ≡ option_map_or json_tokens (object_of answer) []
+    → ((value : Json) → depth value ≤ max_depth → tokens ≡ json_tokens value → IfOk r (λ line. IsLineOf value (view line)))
+    → IfOk r (λ line. IsObjectOf answer (view line))
+line_told view (answer.Check actors channels) tokens r has is line = line (check_object actors channels) (check_shallow actors channels) is
+line_told view (answer.Repetition found) tokens r has is line =
+    line _ (repetition_shallow found.vector.r.items found.vector.q.items (enumerate_from 0 (actor_names found.graph.actors))) is
+line_told view (answer.Schedule a firings) tokens r has is line = line _ (schedule_shallow (actor_names a.graph.actors) firings.items) is
+line_told view (answer.Capacity a) tokens r has is line = line (capacity_object a) (capacity_shallow a) is
+line_told view (answer.Dot a) tokens r has is line = absurd (cc)
 
 -- ---- want of memory
 

@@ -13,6 +13,8 @@ use Rattle.csdf_analysis.specs.Period.{IsScheduleOf}
 use Rattle.csdf_analysis.specs.Repetition.{IsRepetition, IsRefused}
 use Rattle.csdf_analysis.specs.declared.room.Room.{Room}
 use Rattle.csdf_analysis.specs.Room.{IsWithRoom}
+use Rattle.csdf_answers.specs.declared.answer.Answer.{Answer}
+use Rattle.csdf_answers.specs.declared.answer.Answer.TheVariants as answer
 use Rattle.csdf_answers.specs.declared.fault.ToolFault.{ToolFault}
 use Rattle.csdf_answers.specs.declared.question.Question.{Question}
 use Rattle.csdf_answers.specs.declared.question.Question.TheVariants as question
@@ -53,58 +55,70 @@ capacity_text a = capacity_lines a.capacities (enumerate_from 0 (names_of a.grap
 
 -- ---- answers
 
+-- its lines
+abbrev pub lines_of : Answer → List ℕ
+lines_of (answer.Check actors channels) = check_text actors channels
+lines_of (answer.Repetition found) = repetition_text found.vector.r.items found.vector.q.items (enumerate_from 0 (actor_names found.graph.actors))
+lines_of (answer.Schedule a firings) = schedule_text (actor_names a.graph.actors) firings.items
+lines_of (answer.Capacity a) = capacity_text a
+lines_of (answer.Dot a) = dot_text a
+
+-- what it answers
+abbrev pub question_of : Answer → Question
+question_of (answer.Check actors channels) = question.Check
+question_of (answer.Repetition found) = question.Repetition
+question_of (answer.Schedule a firings) = question.Schedule
+question_of (answer.Capacity a) = question.Capacity
+question_of (answer.Dot a) = question.Dot
+
+-- the graph as it is accepted with this room
+abbrev pub IsAcceptedIn : Room → Graph → Accepted → Type 0
+IsAcceptedIn room g a = IsAccepted a × IsWithRoom room a.q g a.graph
+
+-- what it says is true of the graph, with this room where it is accepted
+abbrev pub IsTrueOf : Room → Graph → Answer → Type 0
+IsTrueOf room g (answer.Check actors channels) =
+    (r : List ℕ) × (q : List ℕ) × IsRepetition g.actors g.channels r q × (actors ≡ length g.actors) × (channels ≡ length g.channels)
+IsTrueOf room g (answer.Repetition found) = (found.graph ≡ g) × IsRepetition g.actors g.channels found.vector.r.items found.vector.q.items
+IsTrueOf room g (answer.Schedule a firings) = IsAcceptedIn room g a × IsScheduleOf a.graph.channels a.q a.capacities firings.items
+IsTrueOf room g (answer.Capacity a) = IsAcceptedIn room g a
+IsTrueOf room g (answer.Dot a) = IsAcceptedIn room g a
+
 -- why the graph has no least vector within the limits, other than for want of memory
 abbrev pub RefusesRepetition : Graph → ToolFault → Type 0
 RefusesRepetition g fault =
     (refusal : AcceptFault) × IsRefused g.actors g.channels refusal × (refusal ≢ accept.Memory) × (fault ≡ accept_fault (names_of g.channels) refusal)
 
--- what is told of the least vector of the graph, by its cycles and firings, or why it has none
-abbrev pub ByRepetition : Graph → (List ℕ → List ℕ → List ℕ) → Result (List ℕ) ToolFault → Type 0
-ByRepetition g text_of (Ok text) = (r : List ℕ) × (q : List ℕ) × IsRepetition g.actors g.channels r q × (text ≡ text_of r q)
-ByRepetition g text_of (Err fault) = RefusesRepetition g fault
-
--- what is told of the graph as accepted with this room, or why it is not
-abbrev pub ByAcceptance : Room → Graph → (Accepted → List ℕ → Type 0) → Result (List ℕ) ToolFault → Type 0
-ByAcceptance room g Tells (Ok text) = (a : Accepted) × IsAccepted a × IsWithRoom room a.q g a.graph × Tells a text
-ByAcceptance room g Tells (Err fault) = RefusesGraph g fault
-
--- the text is the schedule of a period
-abbrev pub TellsSchedule : Accepted → List ℕ → Type 0
-TellsSchedule a text =
-    (schedule : List ℕ) × IsScheduleOf a.graph.channels a.q a.capacities schedule × (text ≡ schedule_text (actor_names a.graph.actors) schedule)
-
-abbrev pub TellsCapacity : Accepted → List ℕ → Type 0
-TellsCapacity a text = text ≡ capacity_text a
-
-abbrev pub TellsDot : Accepted → List ℕ → Type 0
-TellsDot a text = text ≡ dot_text a
-
--- the answers to the questions
-abbrev pub IsCheck : Graph → Result (List ℕ) ToolFault → Type 0
-IsCheck g = ByRepetition g (λ r q. check_text (length g.actors) (length g.channels))
-
-abbrev pub IsRepetitionTold : Graph → Result (List ℕ) ToolFault → Type 0
-IsRepetitionTold g = ByRepetition g (λ r q. repetition_text r q (enumerate_from 0 (actor_names g.actors)))
-
-abbrev pub IsScheduleTold : Room → Graph → Result (List ℕ) ToolFault → Type 0
-IsScheduleTold room g = ByAcceptance room g TellsSchedule
-
-abbrev pub IsCapacityTold : Room → Graph → Result (List ℕ) ToolFault → Type 0
-IsCapacityTold room g = ByAcceptance room g TellsCapacity
-
-abbrev pub IsDotTold : Room → Graph → Result (List ℕ) ToolFault → Type 0
-IsDotTold room g = ByAcceptance room g TellsDot
+-- why there is no answer to a question about the graph
+abbrev pub Refuses : Question → Graph → ToolFault → Type 0
+Refuses question.Check g fault = RefusesRepetition g fault
+Refuses question.Repetition g fault = RefusesRepetition g fault
+Refuses question.Schedule g fault = RefusesGraph g fault
+Refuses question.Capacity g fault = RefusesGraph g fault
+Refuses question.Dot g fault = RefusesGraph g fault
 
 -- the answer to a question about a graph, with this room where it is accepted, or its first fault
-abbrev pub IsTold : Question → Room → Graph → Result (List ℕ) ToolFault → Type 0
-IsTold question.Check room g = IsCheck g
-IsTold question.Repetition room g = IsRepetitionTold g
-IsTold question.Schedule room g = IsScheduleTold room g
-IsTold question.Capacity room g = IsCapacityTold room g
-IsTold question.Dot room g = IsDotTold room g
+abbrev pub Answers : Question → Room → Graph → Result Answer ToolFault → Type 0
+Answers question room g (Ok answer) = (question_of answer ≡ question) × IsTrueOf room g answer
+Answers question room g (Err fault) = Refuses question g fault
 
--- the answer to a question about a graph file, or its first fault: those of the file come first
-abbrev pub IsDescription : Question → Room → List ℕ → Result (List ℕ) ToolFault → Type 0
-IsDescription question room bytes answer =
+-- ---- texts of answers
+
+-- the text of the answer to a question about a graph, as texts tell answers, or its first fault
+abbrev pub IsToldBy : (Answer → List ℕ → Type 0) → Question → Room → Graph → Result (List ℕ) ToolFault → Type 0
+IsToldBy Tells question room g (Ok text) = (answer : Answer) × Answers question room g (Ok answer) × Tells answer text
+IsToldBy Tells question room g (Err fault) = Refuses question g fault
+
+-- the same about a graph file: its own faults come first
+abbrev pub IsDescriptionBy : (Answer → List ℕ → Type 0) → Question → Room → List ℕ → Result (List ℕ) ToolFault → Type 0
+IsDescriptionBy Tells question room bytes told =
     (graph : Result Graph GraphFault) × IsGraphOf bytes graph
-    × MatchResult graph (λ g. IsTold question room g answer) (λ fault. answer ≡ Err (fault_of fault))
+    × MatchResult graph (λ g. IsToldBy Tells question room g told) (λ fault. told ≡ Err (fault_of fault))
+
+-- a text is the lines of an answer
+abbrev pub AreLinesOf : Answer → List ℕ → Type 0
+AreLinesOf answer text = text ≡ lines_of answer
+
+-- the answer to a question about a graph file in lines, or its first fault
+abbrev pub IsDescription : Question → Room → List ℕ → Result (List ℕ) ToolFault → Type 0
+IsDescription = IsDescriptionBy AreLinesOf

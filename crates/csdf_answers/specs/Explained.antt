@@ -1,9 +1,11 @@
 -- What the program tells of a graph file in answer to `csdf explain`: why it is refused, or that it is accepted.
-use Rattle.std.specs.Prelude.{◌≡◌, ◌⊎◌, ℕ, List, [], ◌++◌, Option, Some, None, Result, Ok, Err, MatchOption, MatchResult, codes, if◌then◌else◌, nat_lt, ◌==◌, ◌-◌, length, take, slice_get, slice_index, slice_index_or, sum}
+use Rattle.std.specs.Prelude.{◌≡◌, ◌⊎◌, ℕ, List, [], ◌++◌, Option, Some, None, Result, Ok, Err, MatchOption, MatchResult, codes, if◌then◌else◌, nat_lt, ◌==◌, length, slice_get, sum}
 use Rattle.std.specs.List.{flat_map}
+use Rattle.std.specs.Option.{option_map_or}
 use Rattle.std.specs.Fmt.{decimal}
 use Rattle.csdf_graph.specs.declared.fault.GraphFault.{GraphFault}
 use Rattle.csdf_model.specs.Graph.{Actor, Channel, Graph}
+use Rattle.csdf_model.specs.Rates.{consumed, produced}
 use Rattle.csdf_graph.specs.GraphText.{IsGraphOf}
 use Rattle.csdf_analysis.specs.declared.demand.Demand.{Demand}
 use Rattle.csdf_analysis.specs.declared.demand.Ratio.{Ratio}
@@ -12,19 +14,20 @@ use Rattle.csdf_analysis.specs.declared.fault.AcceptFault.TheVariants as accept
 use Rattle.csdf_analysis.specs.declared.stall.Bounds.{Bounds}
 use Rattle.csdf_analysis.specs.declared.stall.Bounds.TheVariants as by
 use Rattle.csdf_analysis.specs.declared.stall.Stall.{Stall}
-use Rattle.csdf_analysis.specs.declared.stall.Wait.{Wait}
-use Rattle.csdf_analysis.specs.declared.stall.Wait.TheVariants as wait
 use Rattle.csdf_analysis.specs.Acceptance.{Accepted, IsAccepted, IsNotAccepted}
 use Rattle.csdf_analysis.specs.Alone.{EachHasEnough, IsFirstTight}
 use Rattle.csdf_analysis.specs.declared.calls.alone.Tight.{Tight}
+use Rattle.csdf_analysis.specs.declared.calls.relief.Relief.{Relief}
 use Rattle.csdf_analysis.specs.Demands.{IsDemand}
+use Rattle.csdf_analysis.specs.Relief.{HaveNoRelief, IsFirstRelief}
 use Rattle.csdf_analysis.specs.Repetition.{IsRepetition}
 use Rattle.csdf_analysis.specs.Stalling.{IsStall, bounds_for}
 use Rattle.csdf_answers.specs.declared.fault.ToolFault.{ToolFault}
-use Rattle.csdf_answers.specs.Circle.{circle, waiting_but}
 use Rattle.csdf_answers.specs.Described.{actor_names}
 use Rattle.csdf_answers.specs.Faults.{fault_of, fault_text}
 use Rattle.csdf_answers.specs.Printed.{newline, names_of, name_at}
+use Rattle.csdf_answers.specs.Stalled.{stall_text}
+use Rattle.csdf_answers.specs.Ways.{ClosesCircle}
 
 -- ---- texts
 
@@ -51,12 +54,50 @@ abbrev pub ratio_text : Ratio → List ℕ
 ratio_text r = codes ", those before it " ++ (decimal r.from ++ (codes " to " ++ (decimal r.to ++ newline)))
 
 abbrev pub before_text : Option Ratio → List ℕ
-before_text None = codes ", and with those before it more than 1024 of some actor\n"
+before_text None = codes ", whom those before it do not join\n"
 before_text (Some r) = ratio_text r
+
+-- where those before it do not join its ends, the numbers agree, and are too great
+abbrev pub unbalanced_heading : Option Ratio → List ℕ
+unbalanced_heading None = codes "consistent so far, but more than 1024 cycles of some actor in a period: "
+unbalanced_heading (Some r) = codes "unbalanced: "
 
 -- the line of a channel that is not balanced, by its name and those of its ends
 abbrev pub unbalanced_text : List ℕ → List ℕ → List ℕ → Demand → List ℕ
-unbalanced_text name from to d = codes "unbalanced: " ++ name ++ asked_text from to d.own ++ before_text d.before
+unbalanced_text name from to d = unbalanced_heading d.before ++ name ++ asked_text from to d.own ++ before_text d.before
+
+-- how many phases the actor with this number has
+abbrev pub phases_at : List Actor → ℕ → ℕ
+phases_at actors a = option_map_or (λ (x : Actor). x.phases) (slice_get actors a) 0
+
+-- how many tokens a cycle of the channel's producer puts in, and how many one of its consumer takes out
+abbrev pub put_in : List Actor → Channel → ℕ
+put_in actors c = produced c (phases_at actors c.from)
+
+abbrev pub taken_out : List Actor → Channel → ℕ
+taken_out actors c = consumed c (phases_at actors c.to)
+
+-- the line of a channel of a circle, with what a cycle of each of its ends moves
+abbrev pub cycles_line : List ℕ → ℕ → List ℕ → ℕ → List ℕ → List ℕ
+cycles_line name gives from takes to =
+    name ++ (codes ": " ++ (decimal gives ++ (codes " from each cycle of " ++ (from ++ (codes ", " ++ (decimal takes ++ (codes " to each of " ++ (to ++ newline))))))))
+
+abbrev pub way_line : Graph → Option Channel → List ℕ
+way_line g None = []
+way_line g (Some c) =
+    cycles_line c.name (put_in g.actors c) (name_at (actor_names g.actors) c.from) (taken_out g.actors c) (name_at (actor_names g.actors) c.to)
+
+abbrev pub way_lines : Graph → List ℕ → List ℕ
+way_lines g way = flat_map (λ n. way_line g (slice_get g.channels n)) way
+
+-- the circle that a channel closes with these
+abbrev pub circle_lines : Graph → ℕ → List ℕ → List ℕ
+circle_lines g c way =
+    codes "one of these, which lie in a circle, does not fit the others:\n" ++ way_line g (slice_get g.channels c) ++ way_lines g way
+
+-- where there are some
+abbrev pub way_text : Graph → ℕ → List ℕ → List ℕ
+way_text g c way = if length way == 0 then [] else circle_lines g c way
 
 abbrev pub too_large_text : List ℕ → List ℕ
 too_large_text name = codes "too large: " ++ name ++ codes " is given more than 65535 tokens in a period, its first ones counted\n"
@@ -71,88 +112,50 @@ abbrev pub tight_text : List (List ℕ) → Option Tight → List ℕ
 tight_text names None = []
 tight_text names (Some t) = tight_line (name_at names t.channel) t.given t.needs
 
--- what the matter is with a run that stands still under these capacities
-abbrev pub heading : Bounds → List ℕ
-heading by.Full = codes "deadlock: under full capacities no actor can fire any more, and the period is not complete\n"
-heading by.Given = codes "too tight: under the given capacities no actor can fire any more, and the period is not complete\n"
+-- the line of a channel with a greater capacity of which a period completes
+abbrev pub relief_line : List ℕ → ℕ → List ℕ
+relief_line name capacity = codes "with " ++ (decimal capacity ++ (codes " in " ++ (name ++ codes ", and the others as given, a period completes\n")))
 
--- the line of an actor that waits for tokens of a channel, and of one that waits for room in it
-abbrev pub tokens_line : List ℕ → List ℕ → ℕ → List ℕ
-tokens_line actor name holds = actor ++ codes " waits for tokens of " ++ name ++ codes ", which holds " ++ decimal holds ++ newline
-
-abbrev pub room_line : List ℕ → List ℕ → ℕ → ℕ → List ℕ
-room_line actor name holds most =
-    actor ++ (codes " waits for room in " ++ (name ++ (codes ", which holds " ++ (decimal holds ++ (codes " of " ++ (decimal most ++ newline))))))
-
--- the line of an actor by its wait, the names of the channels, what they hold and their capacities
-abbrev pub wait_line : List (List ℕ) → List ℕ → List ℕ → List ℕ → Wait → List ℕ
-wait_line names held bounds actor (wait.Tokens c) = tokens_line actor (name_at names c) (slice_index held c)
-wait_line names held bounds actor (wait.Room c) = room_line actor (name_at names c) (slice_index held c) (slice_index bounds c)
-
--- and none where it does not wait
-abbrev pub wait_text : List (List ℕ) → List ℕ → List ℕ → List ℕ → Option Wait → List ℕ
-wait_text names held bounds actor None = []
-wait_text names held bounds actor (Some w) = wait_line names held bounds actor w
-
--- the lines of the actors with these numbers
-abbrev pub wait_lines : List Actor → List Channel → Stall → List ℕ → List ℕ
-wait_lines actors channels s numbers = flat_map (λ a. wait_text (names_of channels) s.held.items s.bounds.items
-    (name_at (actor_names actors) a) (slice_index_or s.waits.items a None)) numbers
-
--- how many more there are
-abbrev pub more_line : ℕ → List ℕ
-more_line count = codes "and " ++ (decimal count ++ codes " more\n")
-
--- the lines of the first ten, and how many more there are
-abbrev pub some_lines : List Actor → List Channel → Stall → List ℕ → List ℕ
-some_lines actors channels s numbers =
-    if nat_lt 10 (length numbers) then wait_lines actors channels s (take 10 numbers) ++ more_line (length numbers - 10)
-    else wait_lines actors channels s numbers
-
-abbrev pub beside_text : List Actor → List Channel → Stall → List ℕ → List ℕ
-beside_text actors channels s numbers = codes "so these wait too:\n" ++ some_lines actors channels s numbers
-
--- those that wait beside the circle, where some do
-abbrev pub others_text : List Actor → List Channel → Stall → List ℕ → List ℕ
-others_text actors channels s numbers = if length numbers == 0 then [] else beside_text actors channels s numbers
-
-abbrev pub circle_text : List Actor → List Channel → Stall → List ℕ → List ℕ
-circle_text actors channels s numbers =
-    codes "each of these waits for the next one, and the last for the first:\n" ++ wait_lines actors channels s numbers
-
--- the circle that keeps the others waiting, and then these
-abbrev pub waits_text : List Actor → List Channel → Stall → List ℕ
-waits_text actors channels s =
-    let these = circle channels s.waits.items in
-    circle_text actors channels s these ++ others_text actors channels s (waiting_but these 0 s.waits.items)
-
-abbrev pub stall_text : Graph → Bounds → Stall → List ℕ
-stall_text g bounds s = heading bounds ++ waits_text g.actors g.channels s
+-- and none where there is no such channel
+abbrev pub relief_text : List (List ℕ) → Option Relief → List ℕ
+relief_text names None = []
+relief_text names (Some r) = relief_line (name_at names r.channel) r.capacity
 
 -- ---- explanations
 
 -- the channel of the number is told, with what it asks and what those before it ask
-abbrev pub TellsUnbalanced : Graph → ℕ → List ℕ → Type 0
-TellsUnbalanced g c text =
+abbrev pub TellsDemand : Graph → ℕ → List ℕ → Type 0
+TellsDemand g c text =
     (channel : Channel) × (d : Demand) × (slice_get g.channels c ≡ Some channel) × IsDemand g.actors g.channels c d
     × (text ≡ unbalanced_text (name_at (names_of g.channels) c) (name_at (actor_names g.actors) channel.from) (name_at (actor_names g.actors) channel.to) d)
+
+-- and then the circle that it closes with channels before it, where it does
+abbrev pub TellsUnbalanced : Graph → ℕ → List ℕ → Type 0
+TellsUnbalanced g c text =
+    (front : List ℕ) × (way : List ℕ) × TellsDemand g c front × ClosesCircle g.channels c way × (text ≡ front ++ way_text g c way)
 
 -- the actors that wait where a run stands still under the capacities are told
 abbrev pub TellsStall : Graph → Bounds → List ℕ → Type 0
 TellsStall g bounds text =
     (r : List ℕ) × (q : List ℕ) × (s : Stall) × IsRepetition g.actors g.channels r q × IsStall g.channels q (bounds_for bounds q g.channels) s
-    × (text ≡ stall_text g bounds s)
+    × (text ≡ stall_text (record { graph = g; bounds = bounds; stall = s }))
 
--- the first channel whose given capacity is too small even alone is told, and then the actors that wait under the given capacities
+-- it is what relieves a run that stands still so
+abbrev pub Relieves : Graph → List ℕ → Stall → Option Relief → Type 0
+Relieves g q s relief = MatchOption relief (HaveNoRelief g.channels q s.waits.items) (IsFirstRelief g.channels q s.waits.items)
+
+-- where a run stands still under the given capacities, and what relieves it, was put behind a text
+abbrev pub AppendsTooTight : Graph → List ℕ → List ℕ → List ℕ → Type 0
+AppendsTooTight g q before after =
+    (s : Stall) × (relief : Option Relief) × IsStall g.channels q (bounds_for by.Given q g.channels) s × Relieves g q s relief
+    × (after ≡ before ++ (stall_text (record { graph = g; bounds = by.Given; stall = s }) ++ relief_text (names_of g.channels) relief))
+
+-- the first channel whose given capacity is too small even alone is told, then the actors that wait under the given capacities, and then a channel with a greater
+-- capacity of which a period completes
 abbrev pub TellsTight : Graph → List ℕ → Type 0
 TellsTight g text =
-    (r : List ℕ) × (q : List ℕ) × (s : Stall) × (tight : Option Tight) × IsRepetition g.actors g.channels r q
-    × IsStall g.channels q (bounds_for by.Given q g.channels) s × MatchOption tight (EachHasEnough g.channels q) (IsFirstTight g.channels q)
-    × (text ≡ tight_text (names_of g.channels) tight ++ stall_text g by.Given s)
-
--- the text of a run that stands still under these capacities was put behind another
-abbrev pub AppendsStall : Graph → List ℕ → Bounds → List ℕ → List ℕ → Type 0
-AppendsStall g q bounds before after = (s : Stall) × IsStall g.channels q (bounds_for bounds q g.channels) s × (after ≡ before ++ stall_text g bounds s)
+    (r : List ℕ) × (q : List ℕ) × (tight : Option Tight) × IsRepetition g.actors g.channels r q
+    × MatchOption tight (EachHasEnough g.channels q) (IsFirstTight g.channels q) × AppendsTooTight g q (tight_text (names_of g.channels) tight) text
 
 -- what is told of a graph for each reason to refuse it
 abbrev pub TellsRefusal : Graph → AcceptFault → List ℕ → Type 0

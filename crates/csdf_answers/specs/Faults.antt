@@ -17,7 +17,7 @@ use Rattle.csdf_answers.specs.declared.fault.Stream.TheVariants.{Input, Output, 
 use Rattle.csdf_answers.specs.Printed.{name_at}
 use Rattle.csdf_answers.specs.declared.fault.ToolFault.{ToolFault}
 use Rattle.csdf_answers.specs.declared.fault.ToolFault.TheVariants.{Graph, Line, Unbalanced, TooLarge, Deadlock, TooTight, TooLong}
-use Rattle.csdf_answers.specs.declared.fault.ToolFault.TheVariants.{TokenSyntax, TokenRange, TokenCutOff, TooManyTokens, InUse, Lacks, Mixed, Worker, Device, Memory}
+use Rattle.csdf_answers.specs.declared.fault.ToolFault.TheVariants.{TokenSyntax, TokenRange, TokenCutOff, TooManyTokens, InUse, Lacks, Worker, Device, Memory}
 
 -- ---- texts
 
@@ -68,7 +68,6 @@ reason_text (TokenCutOff name sample) = codes "tokens " ++ name ++ end_text (end
 reason_text (TooManyTokens name) = codes "tokens " ++ name ++ codes ": too many"
 reason_text (InUse name) = codes "file in use: " ++ name
 reason_text (Lacks lack) = codes "stream: " ++ lack_text lack
-reason_text Mixed = codes "run: mixed"
 reason_text Worker = codes "run: worker"
 reason_text (Device stream) = codes "device: " ++ stream_text stream
 reason_text Memory = codes "memory"
@@ -136,7 +135,6 @@ status_of (TokenCutOff name sample) = 1
 status_of (TooManyTokens name) = 1
 status_of (InUse name) = 2
 status_of (Lacks lack) = 2
-status_of Mixed = 3
 status_of Worker = 3
 status_of (Device d) = 3
 status_of Memory = 3

@@ -1,22 +1,18 @@
 -- The answers to questions about a graph file and the faults of the program as JSON objects, and the forms in which these are told.
-use Rattle.std.specs.Prelude.{◌≡◌, ℕ, true, List, ◌++◌, Result, Ok, Err, MatchResult, codes, length, slice_index}
+use Rattle.std.specs.Prelude.{◌≡◌, ℕ, true, List, ◌++◌, Option, Some, None, MatchOption, Result, codes, slice_index}
 use Rattle.std.specs.List.{enumerate_from}
 use Rattle.json.specs.Json.{Json, string, object, Items, no_members}
 use Rattle.csdf_json.specs.Lines.{IsLineOf, flag_member, items_by, list_member, number_member, text_member}
-use Rattle.csdf_graph.specs.declared.fault.GraphFault.{GraphFault}
-use Rattle.csdf_model.specs.Graph.{Graph}
-use Rattle.csdf_graph.specs.GraphText.{IsGraphOf}
 use Rattle.csdf_analysis.specs.Acceptance.{Accepted, cells_of}
-use Rattle.csdf_analysis.specs.Period.{IsScheduleOf}
-use Rattle.csdf_analysis.specs.Repetition.{IsRepetition}
 use Rattle.csdf_analysis.specs.declared.room.Room.{Room}
+use Rattle.csdf_answers.specs.declared.answer.Answer.{Answer}
+use Rattle.csdf_answers.specs.declared.answer.Answer.TheVariants as answer
 use Rattle.csdf_answers.specs.declared.fault.ToolFault.{ToolFault}
 use Rattle.csdf_answers.specs.declared.question.Form.{Form}
 use Rattle.csdf_answers.specs.declared.question.Form.TheVariants as form
 use Rattle.csdf_answers.specs.declared.question.Question.{Question}
-use Rattle.csdf_answers.specs.declared.question.Question.TheVariants as question
-use Rattle.csdf_answers.specs.Described.{ByAcceptance, IsDescription, IsDotTold, RefusesRepetition, actor_names}
-use Rattle.csdf_answers.specs.Faults.{fault_of, fault_text, reason_text, status_of}
+use Rattle.csdf_answers.specs.Described.{AreLinesOf, IsDescriptionBy, actor_names}
+use Rattle.csdf_answers.specs.Faults.{fault_text, reason_text, status_of}
 use Rattle.csdf_answers.specs.Printed.{newline, name_at, names_of}
 
 -- ---- objects
@@ -65,54 +61,29 @@ reason_object reason status = object (text_member (codes "fault") reason (number
 abbrev pub fault_object : ToolFault → Json
 fault_object fault = reason_object (reason_text fault) (status_of fault)
 
--- ---- answers
-
--- what is told of the least vector of the graph by an object, or why it has none
-abbrev pub ObjectByRepetition : Graph → (List ℕ → List ℕ → Json) → Result (List ℕ) ToolFault → Type 0
-ObjectByRepetition g object_by (Ok text) = (r : List ℕ) × (q : List ℕ) × IsRepetition g.actors g.channels r q × IsLineOf (object_by r q) text
-ObjectByRepetition g object_by (Err fault) = RefusesRepetition g fault
-
--- the text is the object of the schedule of a period
-abbrev pub TellsScheduleObject : Accepted → List ℕ → Type 0
-TellsScheduleObject a text =
-    (schedule : List ℕ) × IsScheduleOf a.graph.channels a.q a.capacities schedule × IsLineOf (schedule_object (actor_names a.graph.actors) schedule) text
-
-abbrev pub TellsCapacityObject : Accepted → List ℕ → Type 0
-TellsCapacityObject a text = IsLineOf (capacity_object a) text
-
--- the answers to the questions
-abbrev pub IsCheckObject : Graph → Result (List ℕ) ToolFault → Type 0
-IsCheckObject g = ObjectByRepetition g (λ r q. check_object (length g.actors) (length g.channels))
-
-abbrev pub IsRepetitionObject : Graph → Result (List ℕ) ToolFault → Type 0
-IsRepetitionObject g = ObjectByRepetition g (λ r q. repetition_object r q (enumerate_from 0 (actor_names g.actors)))
-
-abbrev pub IsScheduleObject : Room → Graph → Result (List ℕ) ToolFault → Type 0
-IsScheduleObject room g = ByAcceptance room g TellsScheduleObject
-
-abbrev pub IsCapacityObject : Room → Graph → Result (List ℕ) ToolFault → Type 0
-IsCapacityObject room g = ByAcceptance room g TellsCapacityObject
-
--- the answer to a question about a graph as an object, with this room where it is accepted, or its first fault; a drawing is text in either form
-abbrev pub IsObjectTold : Question → Room → Graph → Result (List ℕ) ToolFault → Type 0
-IsObjectTold question.Check room g = IsCheckObject g
-IsObjectTold question.Repetition room g = IsRepetitionObject g
-IsObjectTold question.Schedule room g = IsScheduleObject room g
-IsObjectTold question.Capacity room g = IsCapacityObject room g
-IsObjectTold question.Dot room g = IsDotTold room g
-
--- the answer to a question about a graph file as an object, or its first fault: those of the file come first
-abbrev pub IsObjectDescription : Question → Room → List ℕ → Result (List ℕ) ToolFault → Type 0
-IsObjectDescription question room bytes answer =
-    (graph : Result Graph GraphFault) × IsGraphOf bytes graph
-    × MatchResult graph (λ g. IsObjectTold question room g answer) (λ fault. answer ≡ Err (fault_of fault))
-
 -- ---- forms
+
+-- the object of an answer; a drawing has none
+abbrev pub object_of : Answer → Option Json
+object_of (answer.Check actors channels) = Some (check_object actors channels)
+object_of (answer.Repetition found) =
+    Some (repetition_object found.vector.r.items found.vector.q.items (enumerate_from 0 (actor_names found.graph.actors)))
+object_of (answer.Schedule a firings) = Some (schedule_object (actor_names a.graph.actors) firings.items)
+object_of (answer.Capacity a) = Some (capacity_object a)
+object_of (answer.Dot a) = None
+
+-- a text is the line of an answer's object, and its lines where it has none
+abbrev pub IsObjectOf : Answer → List ℕ → Type 0
+IsObjectOf answer text = MatchOption (object_of answer) (AreLinesOf answer text) (λ value. IsLineOf value text)
+
+-- a text tells an answer in a form
+abbrev pub TellsAnswer : Form → Answer → List ℕ → Type 0
+TellsAnswer form.Text = AreLinesOf
+TellsAnswer form.Json = IsObjectOf
 
 -- the answer to a question about a graph file in a form, or its first fault
 abbrev pub IsDescriptionAs : Form → Question → Room → List ℕ → Result (List ℕ) ToolFault → Type 0
-IsDescriptionAs form.Text question room bytes answer = IsDescription question room bytes answer
-IsDescriptionAs form.Json question room bytes answer = IsObjectDescription question room bytes answer
+IsDescriptionAs form = IsDescriptionBy (TellsAnswer form)
 
 -- a text tells a fault in a form: it is the fault's line, or the line of its object
 abbrev pub TellsFault : Form → ToolFault → List ℕ → Type 0

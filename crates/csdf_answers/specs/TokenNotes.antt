@@ -1,8 +1,8 @@
 -- What the program tells of the token file of a source in answer to `csdf explain GRAPH DIR`.
-use Rattle.std.specs.Prelude.{ℕ, ◌-◌, Bool, ◌&&◌, nat_lt, if◌then◌else◌, List, [], ◌++◌, length, ℤ, Option, Some, None, Result, Ok, Err, codes, slice_get, unwrap_or}
+use Rattle.std.specs.Prelude.{ℕ, ◌-◌, Bool, ◌&&◌, ◌==◌, nat_lt, if◌then◌else◌, List, [], ◌∷◌, ◌++◌, length, ℤ, Option, Some, None, Result, Ok, Err, codes, slice_get, unwrap_or}
 use Rattle.csdf_bytes.specs.declared.intake.TheConstants.{INPUT_LIMIT}
 use Rattle.std.specs.Fmt.{decimal}
-use Rattle.std.specs.List.{list_all, slice_split}
+use Rattle.std.specs.List.{list_all, list_any, slice_split}
 use Rattle.std.specs.Option.{option_map_or}
 use Rattle.std.specs.Str.Lines.{strip_carriage_return}
 use Rattle.csdf_bytes.specs.TokenText.{is_newline, tokens_in}
@@ -43,17 +43,31 @@ quoted line = option_map_or in_quotes (shown line) []
 abbrev pub line_words : ℕ → List ℕ → List ℕ → List ℕ
 line_words number wrong line = codes "whose line " ++ (decimal number ++ wrong) ++ quoted line
 
+-- a byte 0 stands in no text
+abbrev pub is_binary : List ℕ → Bool
+is_binary bytes = list_any (λ byte. byte == 0) bytes
+
+-- the line of this number is no whole number, or the file is no text at all
+abbrev pub syntax_words : List ℕ → ℕ → List ℕ
+syntax_words bytes number =
+    if is_binary bytes then codes "which is binary, and no text" else line_words number (codes " is no whole number") (line_in bytes number)
+
 -- what is wrong with bytes whose tokens have this fault
 abbrev pub fault_words : List ℕ → TokenFault → Option (List ℕ)
-fault_words bytes (token.Syntax number) = Some (line_words number (codes " is no whole number") (line_in bytes number))
+fault_words bytes (token.Syntax number) = Some (syntax_words bytes number)
 fault_words bytes (token.Range number) = Some (line_words number (codes " is outside -2147483648 to 2147483647") (line_in bytes number))
 fault_words bytes token.TooMany = Some (codes "which has more than 1000000 tokens")
 fault_words bytes token.Read = None
 fault_words bytes token.Memory = None
 
+-- what is wrong with tokens: that there are none
+abbrev pub tokens_words : List ℤ → Option (List ℕ)
+tokens_words [] = Some (codes "which has no tokens")
+tokens_words (token ∷ tokens) = None
+
 -- what is wrong with bytes, by their tokens
 abbrev pub wrong_by : List ℕ → Result (List ℤ) TokenFault → Option (List ℕ)
-wrong_by bytes (Ok tokens) = None
+wrong_by bytes (Ok tokens) = tokens_words tokens
 wrong_by bytes (Err fault) = fault_words bytes fault
 
 abbrev pub long_words : List ℕ

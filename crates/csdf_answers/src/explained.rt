@@ -5,24 +5,27 @@ ghost use Rattle.std.specs.Io.KnownBytes.{Appends};
 ghost use Rattle.csdf_analysis.specs.Acceptance.{IsNotAccepted};
 ghost use Rattle.csdf_analysis.specs.Demands.{IsDemand};
 ghost use Rattle.csdf_analysis.specs.Repetition.{IsRepetition};
-ghost use Rattle.csdf_answers.specs.Explained.{AppendsStall, ExplainsFault, ExplainsGraph, IsExplained, TellsRefusal, TellsStall, TellsTight, TellsUnbalanced, accepted_text};
+ghost use Rattle.csdf_answers.specs.Explained.{AppendsTooTight, ExplainsFault, ExplainsGraph, IsExplained, TellsRefusal, TellsDemand, TellsStall, TellsTight, TellsUnbalanced, accepted_text};
 ghost use Rattle.csdf_answers.specs.Faults.{fault_of, fault_text};
 ghost use Rattle.csdf_answers.specs.Printed.{newline};
 ghost use Rattle.csdf_answers.specs.declared.fault.Stream.{Stream};
 
 use crate::explanation::{
-    accepted_text, heading, push_stall, push_tight, too_large_text, unbalanced_text,
+    accepted_text, push_circle_of, push_relief, push_tight, too_large_text, unbalanced_text,
 };
 use crate::fault::ToolFault;
+use crate::names::{actor_of, channel_of};
 use crate::sending::send;
+use crate::stalled::Stalled;
+use crate::way::joining;
 use csdf_analysis::{
-    AcceptFault, Accepted, Bounds, Demand, Vector, accept, demand_of, repetition, stall_of,
-    tight_channel,
+    AcceptFault, Accepted, Bounds, Demand, Vector, accept, demand_of, relief_of, repetition,
+    stall_of, tight_channel,
 };
 use csdf_bytes::Outlet;
 use csdf_graph::{GraphFault, read_graph};
 use csdf_misfits::explain_fault;
-use csdf_model::{Graph, actor_name, channel_name};
+use csdf_model::Graph;
 use std::alloc::{AllocError, Global};
 
 /// The line of a channel that asks this of its two actors.
@@ -34,23 +37,16 @@ fn demand_text(
 ) -> Result<String, AllocError>
     requires demand { IsDemand graph.now.actors graph.now.channels number demand }
     requires within { number < length graph.now.channels }
-    ensures { IfOk result (λ text. TellsUnbalanced graph.now number (string_bytes text)) }
+    ensures { IfOk result (λ text. TellsDemand graph.now number (string_bytes text)) }
 {
     let channels = graph.channels();
-    let actors = graph.actors();
     let channel = &channels[number as usize];
-    let from = actor_name(actors, channel.from as usize);
-    let to = actor_name(actors, channel.to as usize);
-    unbalanced_text(
-        alloc,
-        channel_name(channels, number as usize),
-        from,
-        to,
-        demand,
-    )
+    let from = actor_of(graph, channel.from as usize);
+    let to = actor_of(graph, channel.to as usize);
+    unbalanced_text(alloc, channel_of(graph, number), from, to, demand)
 }
 
-/// What the channel asks of its two actors, and what those before it ask.
+/// What the channel asks of its two actors, and what those before it ask, and the circle that it closes.
 fn tell_unbalanced(alloc: Global, graph: &Graph, number: u32) -> Result<String, ToolFault>
     requires { number < length graph.now.channels }
     ensures told { IfOk result (λ text. TellsUnbalanced graph.now number (string_bytes text)) }
@@ -59,68 +55,82 @@ fn tell_unbalanced(alloc: Global, graph: &Graph, number: u32) -> Result<String, 
     let Ok(demand) = demand_of(alloc, graph, number) else {
         return Err(ToolFault::Memory);
     };
-    let text = demand_text(alloc, graph, number, demand)?;
+    let mut text = demand_text(alloc, graph, number, demand)?;
+    let (actors, channels) = (graph.actors(), graph.channels());
+    let way = joining(alloc, channels, actors.len(), number)?;
+    push_circle_of(&mut text, graph, number, &way)?;
     Ok(text)
-}
-
-/// Appends what a run that stands still under these capacities says of the graph: that it does, and
-/// what its actors wait for there.
-fn push_stalled(
-    alloc: Global,
-    text: &mut String,
-    graph: &Graph,
-    vector: &Vector,
-    bounds: Bounds,
-) -> Result<(), AllocError>
-    requires { IsRepetition graph.now.actors graph.now.channels vector.now.r.items vector.now.q.items }
-    ensures { OnOk result (AppendsStall graph.now vector.now.q.items bounds (string_bytes text.old) (string_bytes text.new)) }
-{
-    let stall = stall_of(alloc, graph, vector, bounds)?;
-    text.push_str(heading(bounds))?;
-    push_stall(alloc, text, graph.actors(), graph.channels(), &stall)?;
-    Ok(())
 }
 
 /// The actors that wait where a run stands still under the full capacities.
-fn tell_deadlock(alloc: Global, graph: &Graph) -> Result<String, ToolFault>
-    ensures told { IfOk result (λ text. TellsStall graph.now Bounds.Full (string_bytes text)) }
+fn tell_deadlock(alloc: Global, graph: Graph) -> Result<String, ToolFault>
+    ensures told { IfOk result (λ text. TellsStall graph Bounds.Full (string_bytes text)) }
     ensures memory { IfErr result (λ fault. fault ≡ ToolFault.Memory) }
 {
-    let Ok(vector) = repetition(alloc, graph) else {
+    let Ok(vector) = repetition(alloc, &graph) else {
         return Err(ToolFault::Memory);
     };
+    let bounds = Bounds::Full;
+    let stall = stall_of(alloc, &graph, &vector, bounds)?;
+    let stalled = Stalled {
+        graph,
+        bounds,
+        stall,
+    };
     let mut text = String::new(alloc);
-    push_stalled(alloc, &mut text, graph, &vector, Bounds::Full)?;
+    stalled.push(alloc, &mut text)?;
     Ok(text)
 }
 
-/// The first channel whose given capacity is too small even alone, and the actors that wait where a
-/// run stands still under the given capacities.
-fn tell_tight(alloc: Global, graph: &Graph) -> Result<String, ToolFault>
-    ensures told { IfOk result (λ text. TellsTight graph.now (string_bytes text)) }
+/// Appends what a run that stands still under the given capacities says of the graph, and a channel with a
+/// greater capacity of which a period completes.
+fn push_too_tight(
+    alloc: Global,
+    text: &mut String,
+    graph: Graph,
+    vector: &Vector,
+) -> Result<(), AllocError>
+    requires { IsRepetition graph.actors graph.channels vector.now.r.items vector.now.q.items }
+    ensures { OnOk result (AppendsTooTight graph vector.now.q.items (string_bytes text.old) (string_bytes text.new)) }
+{
+    let bounds = Bounds::Given;
+    let stall = stall_of(alloc, &graph, vector, bounds)?;
+    let relief = relief_of(alloc, &graph, vector, &stall)?;
+    let stalled = Stalled {
+        graph,
+        bounds,
+        stall,
+    };
+    stalled.push(alloc, text)?;
+    push_relief(text, &stalled.graph, relief)?;
+    Ok(())
+}
+
+/// The first channel whose given capacity is too small even alone, the actors that wait where a run
+/// stands still under the given capacities, and a channel with a greater capacity of which a period
+/// completes.
+fn tell_tight(alloc: Global, graph: Graph) -> Result<String, ToolFault>
+    ensures told { IfOk result (λ text. TellsTight graph (string_bytes text)) }
     ensures memory { IfErr result (λ fault. fault ≡ ToolFault.Memory) }
 {
-    let Ok(vector) = repetition(alloc, graph) else {
+    let Ok(vector) = repetition(alloc, &graph) else {
         return Err(ToolFault::Memory);
     };
     let mut text = String::new(alloc);
-    push_tight(&mut text, graph.channels(), tight_channel(graph, &vector))?;
-    push_stalled(alloc, &mut text, graph, &vector, Bounds::Given)?;
+    push_tight(&mut text, &graph, tight_channel(&graph, &vector))?;
+    push_too_tight(alloc, &mut text, graph, &vector)?;
     Ok(text)
 }
 
 /// Why the graph is not accepted.
-fn tell_refusal(alloc: Global, graph: &Graph, fault: AcceptFault) -> Result<String, ToolFault>
-    requires { IsNotAccepted graph.now fault }
-    ensures told { IfOk result (λ text. TellsRefusal graph.now fault (string_bytes text)) }
+fn tell_refusal(alloc: Global, graph: Graph, fault: AcceptFault) -> Result<String, ToolFault>
+    requires { IsNotAccepted graph fault }
+    ensures told { IfOk result (λ text. TellsRefusal graph fault (string_bytes text)) }
     ensures memory { IfErr result (λ fault. fault ≡ ToolFault.Memory) }
 {
     match fault {
-        AcceptFault::Unbalanced(number) => tell_unbalanced(alloc, graph, number),
-        AcceptFault::TooLarge(number) => {
-            let text = too_large_text(alloc, channel_name(graph.channels(), number as usize))?;
-            Ok(text)
-        }
+        AcceptFault::Unbalanced(number) => tell_unbalanced(alloc, &graph, number),
+        AcceptFault::TooLarge(number) => Ok(too_large_text(alloc, channel_of(&graph, number))?),
         AcceptFault::Deadlock => tell_deadlock(alloc, graph),
         AcceptFault::TooTight => tell_tight(alloc, graph),
         AcceptFault::Memory => Err(ToolFault::Memory),
@@ -145,7 +155,7 @@ fn tell_graph(alloc: Global, graph: Graph) -> Result<String, ToolFault>
             let text = tell_accepted(alloc, &accepted)?;
             Ok(text)
         }
-        Err((graph, fault)) => tell_refusal(alloc, &graph, fault),
+        Err((graph, fault)) => tell_refusal(alloc, graph, fault),
     }
 }
 
@@ -201,9 +211,7 @@ pub fn explain<O: Outlet>(alloc: Global, bytes: &[u8], writer: &mut O) -> Result
     ensures failed { result ≡ Err (ToolFault.Device Stream.Output)
         → ((text : List ℕ) × IsExplained bytes.now (Ok text)) × (O.failed writer.new ≡ true) }
 {
-    let text = explanation_of(alloc, bytes)?;
-    send(writer, text.as_bytes())?;
-    Ok(())
+    explain_with(alloc, bytes, "", writer)
 }
 
 /// As [`explain`], and then more lines.

@@ -1,14 +1,14 @@
 //! The text of an explanation: what is the matter with a graph.
 
-ghost use Rattle.std.specs.Prelude.{◌≡◌, ◌++◌, Some, length, map, slice_index, string_bytes, IfOk, OnOk};
+ghost use Rattle.std.specs.Prelude.{◌≡◌, ◌++◌, Some, map, slice_get, string_bytes, IfOk, OnOk};
 ghost use Rattle.csdf_model.specs.Graph.{actor_view, channel_view};
-ghost use Rattle.csdf_answers.specs.Explained.{accepted_line, accepted_text, asked_text, before_text, few_cells_text, heading, ratio_text, room_line, tokens_line, too_large_text, unbalanced_text};
-ghost use Rattle.csdf_answers.specs.Explained.{beside_text, circle_text, more_line, others_text, some_lines, tight_line, tight_text, wait_line, wait_lines, wait_text, waits_text};
+ghost use Rattle.csdf_answers.specs.Explained.{accepted_line, accepted_text, asked_text, before_text, circle_lines, few_cells_text, phases_at, ratio_text, too_large_text, unbalanced_heading, unbalanced_text};
+ghost use Rattle.csdf_answers.specs.Explained.{relief_line, relief_text, tight_line, tight_text, way_line, way_lines, way_text};
 ghost use Rattle.csdf_answers.specs.Printed.{names_of};
 
-use crate::circle::{circle_of, wait_at, waiting_but};
-use csdf_analysis::{Bounds, Demand, Ratio, Stall, Tight, Wait};
-use csdf_model::{Actor, Channel, actor_name, channel_name};
+use crate::names::{actor_of, channel_of};
+use csdf_analysis::{Demand, Ratio, Relief, Tight};
+use csdf_model::{Actor, Channel, Graph};
 use std::alloc::{AllocError, Global};
 
 /// That a graph is accepted.
@@ -81,7 +81,18 @@ fn push_before(text: &mut String, before: Option<Ratio>) -> Result<(), AllocErro
 {
     match before {
         Some(ratio) => push_ratio(text, ratio),
-        None => text.push_str(", and with those before it more than 1024 of some actor\n"),
+        None => text.push_str(", whom those before it do not join\n"),
+    }
+}
+
+/// What such a line begins with: where the channels before it do not join its ends, the numbers agree, and
+/// are too great.
+fn unbalanced_heading(before: Option<Ratio>) -> &'static str
+    ensures { result.now ≡ unbalanced_heading before }
+{
+    match before {
+        Some(_) => "unbalanced: ",
+        None => "consistent so far, but more than 1024 cycles of some actor in a period: ",
     }
 }
 
@@ -96,10 +107,86 @@ pub(crate) fn unbalanced_text(
     ensures { IfOk result (λ text. string_bytes text ≡ unbalanced_text name.now from.now to.now demand) }
 {
     let mut text = String::new(alloc);
-    write!(text, "unbalanced: {name}")?;
+    let heading = unbalanced_heading(demand.before);
+    write!(text, "{heading}{name}")?;
     push_asked(&mut text, from, to, demand.own)?;
     push_before(&mut text, demand.before)?;
     Ok(text)
+}
+
+/// How many phases the actor with this number has.
+fn phases_at(actors: &[Actor], number: u32) -> u32
+    ensures { result ≡ phases_at (map actor_view actors.now) number }
+{
+    match actors.get(number as usize) {
+        Some(actor) => actor.phases,
+        None => 0,
+    }
+}
+
+/// Appends the line of a channel of a circle, with what a cycle of each of its ends moves.
+fn push_way_line(text: &mut String, graph: &Graph, channel: &Channel) -> Result<(), AllocError>
+    ensures { OnOk result (string_bytes text.new ≡ string_bytes text.old ++ way_line graph.now (Some (channel_view channel.now))) }
+{
+    let name = channel.name.as_str();
+    let actors = graph.actors();
+    let gives = channel.produced(phases_at(actors, channel.from));
+    let takes = channel.consumed(phases_at(actors, channel.to));
+    let from = actor_of(graph, channel.from as usize);
+    let to = actor_of(graph, channel.to as usize);
+    write!(
+        text,
+        "{name}: {gives} from each cycle of {from}, {takes} to each of {to}\n"
+    )
+}
+
+/// Appends the line of the channel with this number, where there is one.
+fn push_way_at(text: &mut String, graph: &Graph, number: u32) -> Result<(), AllocError>
+    ensures { OnOk result (string_bytes text.new ≡ string_bytes text.old ++ way_line graph.now (slice_get graph.now.channels number)) }
+{
+    match graph.channels().get(number as usize) {
+        Some(channel) => push_way_line(text, graph, channel),
+        None => Ok(()),
+    }
+}
+
+/// Appends the lines of the channels with these numbers.
+fn push_way_lines(text: &mut String, graph: &Graph, way: &[u32]) -> Result<(), AllocError>
+    ensures { OnOk result (string_bytes text.new ≡ string_bytes text.old ++ way_lines graph.now way.now) }
+{
+    for number in way {
+        push_way_at(text, graph, *number)?;
+    }
+    Ok(())
+}
+
+/// Appends the circle that a channel closes with these.
+fn push_circle_lines(
+    text: &mut String,
+    graph: &Graph,
+    number: u32,
+    way: &[u32],
+) -> Result<(), AllocError>
+    ensures { OnOk result (string_bytes text.new ≡ string_bytes text.old ++ circle_lines graph.now number way.now) }
+{
+    text.push_str("one of these, which lie in a circle, does not fit the others:\n")?;
+    push_way_at(text, graph, number)?;
+    push_way_lines(text, graph, way)
+}
+
+/// Appends the circle that a channel closes with these, where there are some.
+pub(crate) fn push_circle_of(
+    text: &mut String,
+    graph: &Graph,
+    number: u32,
+    way: &[u32],
+) -> Result<(), AllocError>
+    ensures { OnOk result (string_bytes text.new ≡ string_bytes text.old ++ way_text graph.now number way.now) }
+{
+    if way.len() == 0 {
+        return Ok(());
+    }
+    push_circle_lines(text, graph, number, way)
 }
 
 /// The line of a channel whose full capacity is too great.
@@ -128,15 +215,15 @@ fn push_tight_line(text: &mut String, name: &str, given: u32, needs: u32) -> Res
 /// in the way, where there is one.
 pub(crate) fn push_tight(
     text: &mut String,
-    channels: &[Channel],
+    graph: &Graph,
     tight: Option<Tight>,
 ) -> Result<(), AllocError>
-    ensures { OnOk result (string_bytes text.new ≡ string_bytes text.old ++ tight_text (names_of (map channel_view channels.now)) tight) }
+    ensures { OnOk result (string_bytes text.new ≡ string_bytes text.old ++ tight_text (names_of graph.now.channels) tight) }
 {
     match tight {
         Some(tight) => push_tight_line(
             text,
-            channel_name(channels, tight.channel as usize),
+            channel_of(graph, tight.channel),
             tight.given,
             tight.needs,
         ),
@@ -144,227 +231,30 @@ pub(crate) fn push_tight(
     }
 }
 
-/// What the matter is with a run that stands still under these capacities.
-pub(crate) fn heading(bounds: Bounds) -> &'static str
-    ensures { result.now ≡ heading bounds }
-{
-    match bounds {
-        Bounds::Full => {
-            "deadlock: under full capacities no actor can fire any more, and the period is not complete\n"
-        }
-        Bounds::Given => {
-            "too tight: under the given capacities no actor can fire any more, and the period is not complete\n"
-        }
-    }
-}
-
-/// The number in a place, and 0 where there is none.
-fn number_at(numbers: &[u32], place: u32) -> u32
-    ensures { result ≡ slice_index numbers.now place }
-{
-    numbers.get(place as usize).copied().unwrap_or(0)
-}
-
-/// Appends the line of an actor that waits for tokens.
-fn push_tokens_line(
-    text: &mut String,
-    actor: &str,
-    name: &str,
-    holds: u32,
-) -> Result<(), AllocError>
-    ensures { OnOk result (string_bytes text.new ≡ string_bytes text.old ++ tokens_line actor.now name.now holds) }
+/// Appends the line of a channel with a greater capacity of which a period completes.
+fn push_relief_line(text: &mut String, name: &str, capacity: u32) -> Result<(), AllocError>
+    ensures { OnOk result (string_bytes text.new ≡ string_bytes text.old ++ relief_line name.now capacity) }
 {
     write!(
         text,
-        "{actor} waits for tokens of {name}, which holds {holds}\n"
+        "with {capacity} in {name}, and the others as given, a period completes\n"
     )
 }
 
-/// Appends the line of an actor that waits for room.
-fn push_room_line(
+/// Appends the line of the channel with a greater capacity of which a period completes, where there is
+/// one.
+pub(crate) fn push_relief(
     text: &mut String,
-    actor: &str,
-    name: &str,
-    holds: u32,
-    most: u32,
+    graph: &Graph,
+    relief: Option<Relief>,
 ) -> Result<(), AllocError>
-    ensures { OnOk result (string_bytes text.new ≡ string_bytes text.old ++ room_line actor.now name.now holds most) }
+    ensures { OnOk result (string_bytes text.new ≡ string_bytes text.old ++ relief_text (names_of graph.now.channels) relief) }
 {
-    write!(
-        text,
-        "{actor} waits for room in {name}, which holds {holds} of {most}\n"
-    )
-}
-
-/// Appends the line of an actor that waits.
-fn push_wait_line(
-    text: &mut String,
-    channels: &[Channel],
-    stall: &Stall,
-    actor: &str,
-    wait: Wait,
-) -> Result<(), AllocError>
-    ensures { OnOk result (string_bytes text.new ≡ string_bytes text.old ++ wait_line (names_of (map channel_view channels.now))
-        stall.now.held.items stall.now.bounds.items actor.now wait) }
-{
-    match wait {
-        Wait::Tokens(number) => {
-            let holds = number_at(&stall.held, number);
-            push_tokens_line(text, actor, channel_name(channels, number as usize), holds)
+    match relief {
+        Some(relief) => {
+            let name = channel_of(graph, relief.channel);
+            push_relief_line(text, name, relief.capacity)
         }
-        Wait::Room(number) => {
-            let holds = number_at(&stall.held, number);
-            let most = number_at(&stall.bounds, number);
-            push_room_line(
-                text,
-                actor,
-                channel_name(channels, number as usize),
-                holds,
-                most,
-            )
-        }
-    }
-}
-
-/// Appends the line of an actor, where it waits.
-fn push_wait(
-    text: &mut String,
-    channels: &[Channel],
-    stall: &Stall,
-    actor: &str,
-    wait: Option<Wait>,
-) -> Result<(), AllocError>
-    ensures { OnOk result (string_bytes text.new ≡ string_bytes text.old ++ wait_text (names_of (map channel_view channels.now))
-        stall.now.held.items stall.now.bounds.items actor.now wait) }
-{
-    match wait {
-        Some(wait) => push_wait_line(text, channels, stall, actor, wait),
         None => Ok(()),
     }
-}
-
-/// Appends the lines of the actors with these numbers.
-fn push_waits(
-    text: &mut String,
-    actors: &[Actor],
-    channels: &[Channel],
-    stall: &Stall,
-    numbers: &[usize],
-) -> Result<(), AllocError>
-    ensures { OnOk result (string_bytes text.new ≡ string_bytes text.old
-        ++ wait_lines (map actor_view actors.now) (map channel_view channels.now) stall.now numbers.now) }
-{
-    for number in numbers {
-        let wait = wait_at(&stall.waits, *number);
-        push_wait(text, channels, stall, actor_name(actors, *number), wait)?;
-    }
-    Ok(())
-}
-
-/// Appends how many more there are.
-fn push_more(text: &mut String, count: usize) -> Result<(), AllocError>
-    ensures { OnOk result (string_bytes text.new ≡ string_bytes text.old ++ more_line count) }
-{
-    write!(text, "and {count} more\n")
-}
-
-/// Appends the lines of the first ten of the actors with these numbers, and how many more there are.
-fn push_some(
-    text: &mut String,
-    actors: &[Actor],
-    channels: &[Channel],
-    stall: &Stall,
-    numbers: &[usize],
-) -> Result<(), AllocError>
-    ensures { OnOk result (string_bytes text.new ≡ string_bytes text.old
-        ++ some_lines (map actor_view actors.now) (map channel_view channels.now) stall.now numbers.now) }
-{
-    let count = numbers.len();
-    if count > 10 {
-        push_waits(text, actors, channels, stall, &numbers[..10])?;
-        push_more(text, count - 10)
-    } else {
-        push_waits(text, actors, channels, stall, numbers)
-    }
-}
-
-/// Appends the lines of actors that wait beside the circle.
-fn push_beside(
-    text: &mut String,
-    actors: &[Actor],
-    channels: &[Channel],
-    stall: &Stall,
-    numbers: &[usize],
-) -> Result<(), AllocError>
-    ensures { OnOk result (string_bytes text.new ≡ string_bytes text.old
-        ++ beside_text (map actor_view actors.now) (map channel_view channels.now) stall.now numbers.now) }
-{
-    text.push_str("so these wait too:\n")?;
-    push_some(text, actors, channels, stall, numbers)
-}
-
-/// Appends the lines of those that wait beside the circle, where some do.
-fn push_others(
-    text: &mut String,
-    actors: &[Actor],
-    channels: &[Channel],
-    stall: &Stall,
-    numbers: &[usize],
-) -> Result<(), AllocError>
-    ensures { OnOk result (string_bytes text.new ≡ string_bytes text.old
-        ++ others_text (map actor_view actors.now) (map channel_view channels.now) stall.now numbers.now) }
-{
-    if numbers.len() == 0 {
-        Ok(())
-    } else {
-        push_beside(text, actors, channels, stall, numbers)
-    }
-}
-
-/// Appends the lines of the circle.
-fn push_circle(
-    text: &mut String,
-    actors: &[Actor],
-    channels: &[Channel],
-    stall: &Stall,
-    numbers: &[usize],
-) -> Result<(), AllocError>
-    ensures { OnOk result (string_bytes text.new ≡ string_bytes text.old
-        ++ circle_text (map actor_view actors.now) (map channel_view channels.now) stall.now numbers.now) }
-{
-    text.push_str("each of these waits for the next one, and the last for the first:\n")?;
-    push_waits(text, actors, channels, stall, numbers)
-}
-
-/// Appends the lines of the circle, and of those that wait beside it.
-fn push_both(
-    text: &mut String,
-    actors: &[Actor],
-    channels: &[Channel],
-    stall: &Stall,
-    these: &[usize],
-    others: &[usize],
-) -> Result<(), AllocError>
-    ensures { OnOk result (string_bytes text.new ≡ string_bytes text.old
-        ++ (circle_text (map actor_view actors.now) (map channel_view channels.now) stall.now these.now
-        ++ others_text (map actor_view actors.now) (map channel_view channels.now) stall.now others.now)) }
-{
-    push_circle(text, actors, channels, stall, these)?;
-    push_others(text, actors, channels, stall, others)
-}
-
-/// Appends the circle that keeps the others waiting, and then these.
-pub(crate) fn push_stall(
-    alloc: Global,
-    text: &mut String,
-    actors: &[Actor],
-    channels: &[Channel],
-    stall: &Stall,
-) -> Result<(), AllocError>
-    ensures { OnOk result (string_bytes text.new ≡ string_bytes text.old
-        ++ waits_text (map actor_view actors.now) (map channel_view channels.now) stall.now) }
-{
-    let these = circle_of(alloc, channels, &stall.waits)?;
-    let others = waiting_but(alloc, &these, &stall.waits)?;
-    push_both(text, actors, channels, stall, &these, &others)
 }

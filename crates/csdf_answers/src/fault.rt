@@ -9,6 +9,7 @@ ghost use Rattle.csdf_answers.specs.declared.fault.ToolFault.TheVariants.{Memory
 use csdf_bytes::InputFault;
 use csdf_graph::{At, GraphFault};
 use std::alloc::{AllocError, AllocFailed, Global};
+use std::error::Error;
 use std::fmt;
 use std::marker::Model;
 
@@ -213,9 +214,7 @@ pub enum ToolFault {
     InUse(Name),
     /// The words that ask for a stream lack this.
     Lacks(Lack),
-    /// What came out of a run does not belong together.
-    Mixed,
-    /// A worker could not be started or taken in.
+    /// A worker could not be started.
     Worker,
     /// A stream failed.
     Device(Stream),
@@ -310,7 +309,6 @@ fn parts_of<'a>(fault: &'a ToolFault) -> Parts<'a>
         ToolFault::TooManyTokens(name) => of_tokens(name, Detail::Words(": too many")),
         ToolFault::InUse(name) => named("file in use: ", name.as_str()),
         ToolFault::Lacks(lack) => named("stream: ", lack.as_str()),
-        ToolFault::Mixed => named("run: mixed", ""),
         ToolFault::Worker => named("run: worker", ""),
         ToolFault::Device(stream) => named("device: ", stream.as_str()),
         ToolFault::Memory => named("memory", ""),
@@ -367,10 +365,12 @@ impl ToolFault {
             | ToolFault::TokenCutOff(_, _)
             | ToolFault::TooManyTokens(_) => 1,
             ToolFault::InUse(_) | ToolFault::Lacks(_) => 2,
-            ToolFault::Mixed | ToolFault::Worker | ToolFault::Device(_) | ToolFault::Memory => 3,
+            ToolFault::Worker | ToolFault::Device(_) | ToolFault::Memory => 3,
         }
     }
 }
+
+impl Error for ToolFault {}
 
 impl From<AllocError> for ToolFault {
     ghost from_gives = { λ _ e. e ≡ Memory };

@@ -2,6 +2,7 @@
 //! moves of a script, the answers to questions about the graph, and why a graph file is refused.
 #![tactic(auto)]
 
+mod answer;
 mod circle;
 mod described;
 mod drawing;
@@ -9,14 +10,18 @@ mod explained;
 mod explanation;
 mod fault;
 mod line;
+mod names;
 mod object;
 mod printed;
 mod question;
+mod repeated;
 mod replay;
 mod sending;
 mod session;
+mod stalled;
 mod token_note;
 mod turns;
+mod way;
 mod words;
 
 pub use csdf_misfits::explain_fault;

@@ -7,19 +7,24 @@ ghost use Rattle.csdf_json.specs.Lines.{IsLineOf, number_tokens};
 ghost use Rattle.csdf_model.specs.Graph.{actor_view, channel_view};
 ghost use Rattle.csdf_answers.specs.Described.{actor_names};
 ghost use Rattle.csdf_answers.specs.Faults.{fault_text, reason_text};
-ghost use Rattle.csdf_answers.specs.Objects.{actor_items, actor_object, capacity_object, channel_items, channel_object, check_object, fault_object, firing_items, reason_object, repetition_object, schedule_object, TellsFault, TellsScheduleObject};
+ghost use Rattle.csdf_answers.specs.Objects.{actor_items, actor_object, capacity_object, channel_items, channel_object, check_object, fault_object, firing_items, reason_object, repetition_object, schedule_object, TellsFault};
 ghost use Rattle.csdf_answers.specs.Printed.{names_of, newline};
 
 use crate::fault::{Reason, ToolFault};
 use crate::question::Form;
-use csdf_analysis::{Accepted, Vector, schedule};
+use crate::repeated::Repeated;
+use csdf_analysis::Accepted;
 use csdf_json::{json_writer, line_of, open_list, put_flag, put_number, put_text};
 use csdf_model::{Actor, Channel, actor_name};
 use json::Writer;
 use std::alloc::{AllocError, Global};
 
 /// Appends the object of a consistent graph.
-fn put_check(writer: &mut Writer, actors: usize, channels: usize) -> Result<(), AllocError>
+pub(crate) fn put_check(
+    writer: &mut Writer,
+    actors: usize,
+    channels: usize,
+) -> Result<(), AllocError>
     ensures tokens { OnOk result (writer.new.tokens ≡ writer.old.tokens ++ json_tokens (check_object actors channels)) }
     ensures before { writer.new.before ≡ writer.old.before }
 {
@@ -28,19 +33,6 @@ fn put_check(writer: &mut Writer, actors: usize, channels: usize) -> Result<(), 
     put_number(writer, "actors", actors as u64)?;
     put_number(writer, "channels", channels as u64)?;
     writer.end_object()
-}
-
-/// How many actors and channels a consistent graph has.
-pub(crate) fn check_object(
-    alloc: Global,
-    actors: usize,
-    channels: usize,
-) -> Result<Vec<u8>, AllocError>
-    ensures { IfOk result (λ line. IsLineOf (check_object actors channels) line.items) }
-{
-    let mut writer = json_writer(alloc);
-    put_check(&mut writer, actors, channels)?;
-    line_of(writer)
 }
 
 /// Appends the object of an actor.
@@ -56,50 +48,31 @@ fn put_actor(writer: &mut Writer, name: &str, cycles: u32, firings: u32) -> Resu
 }
 
 /// Appends the objects of all actors, and the end of their list.
-fn put_actors(writer: &mut Writer, actors: &[Actor], vector: &Vector) -> Result<(), AllocError>
-    requires cycles { length vector.now.r.items ≡ length actors.now }
-    requires firings { length vector.now.q.items ≡ length actors.now }
-    ensures tokens { OnOk result (writer.new.tokens ≡ writer.old.tokens ++ items_tokens (actor_items vector.now.r.items vector.now.q.items
-        (enumerate_from 0 (actor_names (map actor_view actors.now))))) }
+fn put_actors(writer: &mut Writer, found: &Repeated) -> Result<(), AllocError>
+    ensures tokens { OnOk result (writer.new.tokens ≡ writer.old.tokens ++ items_tokens (actor_items found.now.vector.r.items found.now.vector.q.items
+        (enumerate_from 0 (actor_names found.now.graph.actors)))) }
     ensures before { writer.new.before ≡ writer.old.before }
 {
+    let actors = found.graph.actors();
     for (number, actor) in actors.iter().enumerate() {
         let name = actor.name.as_str();
-        let cycles = vector.r[number];
-        let firings = vector.q[number];
+        let cycles = found.vector.r[number];
+        let firings = found.vector.q[number];
         put_actor(writer, name, cycles, firings)?;
     }
     writer.end_array()
 }
 
 /// Appends the object of the least vector.
-fn put_repetition(writer: &mut Writer, actors: &[Actor], vector: &Vector) -> Result<(), AllocError>
-    requires cycles { length vector.now.r.items ≡ length actors.now }
-    requires firings { length vector.now.q.items ≡ length actors.now }
-    ensures tokens { OnOk result (writer.new.tokens ≡ writer.old.tokens ++ json_tokens (repetition_object vector.now.r.items vector.now.q.items
-        (enumerate_from 0 (actor_names (map actor_view actors.now))))) }
+pub(crate) fn put_repetition(writer: &mut Writer, found: &Repeated) -> Result<(), AllocError>
+    ensures tokens { OnOk result (writer.new.tokens ≡ writer.old.tokens ++ json_tokens (repetition_object found.now.vector.r.items found.now.vector.q.items
+        (enumerate_from 0 (actor_names found.now.graph.actors)))) }
     ensures before { writer.new.before ≡ writer.old.before }
 {
     writer.begin_object()?;
     open_list(writer, "repetition")?;
-    put_actors(writer, actors, vector)?;
+    put_actors(writer, found)?;
     writer.end_object()
-}
-
-/// For each actor its name, its cycles and its firings in a period.
-pub(crate) fn repetition_object(
-    alloc: Global,
-    actors: &[Actor],
-    vector: &Vector,
-) -> Result<Vec<u8>, AllocError>
-    requires cycles { length vector.now.r.items ≡ length actors.now }
-    requires firings { length vector.now.q.items ≡ length actors.now }
-    ensures { IfOk result (λ line. IsLineOf (repetition_object vector.now.r.items vector.now.q.items
-        (enumerate_from 0 (actor_names (map actor_view actors.now)))) line.items) }
-{
-    let mut writer = json_writer(alloc);
-    put_repetition(&mut writer, actors, vector)?;
-    line_of(writer)
 }
 
 /// Appends the name of the actor of each firing, and the end of the list.
@@ -114,7 +87,11 @@ fn put_firings(writer: &mut Writer, actors: &[Actor], firings: &[u32]) -> Result
 }
 
 /// Appends the object of a schedule.
-fn put_schedule(writer: &mut Writer, actors: &[Actor], firings: &[u32]) -> Result<(), AllocError>
+pub(crate) fn put_schedule(
+    writer: &mut Writer,
+    actors: &[Actor],
+    firings: &[u32],
+) -> Result<(), AllocError>
     ensures tokens { OnOk result (writer.new.tokens ≡ writer.old.tokens ++ json_tokens (schedule_object (actor_names (map actor_view actors.now)) firings.now)) }
     ensures before { writer.new.before ≡ writer.old.before }
 {
@@ -122,23 +99,6 @@ fn put_schedule(writer: &mut Writer, actors: &[Actor], firings: &[u32]) -> Resul
     open_list(writer, "schedule")?;
     put_firings(writer, actors, firings)?;
     writer.end_object()
-}
-
-/// The name of the actor of each of these firings.
-fn firings_object(alloc: Global, actors: &[Actor], firings: &[u32]) -> Result<Vec<u8>, AllocError>
-    ensures { IfOk result (λ line. IsLineOf (schedule_object (actor_names (map actor_view actors.now)) firings.now) line.items) }
-{
-    let mut writer = json_writer(alloc);
-    put_schedule(&mut writer, actors, firings)?;
-    line_of(writer)
-}
-
-/// The name of the actor of each firing of a period.
-pub(crate) fn schedule_object(alloc: Global, accepted: &Accepted) -> Result<Vec<u8>, AllocError>
-    ensures { IfOk result (λ line. TellsScheduleObject accepted.now line.items) }
-{
-    let firings = schedule(alloc, accepted)?;
-    firings_object(alloc, accepted.graph().actors(), &firings)
 }
 
 /// Appends the object of a channel.
@@ -180,7 +140,7 @@ fn put_cells(writer: &mut Writer, cells: u32) -> Result<(), AllocError>
 }
 
 /// Appends the object of the capacities.
-fn put_capacities(writer: &mut Writer, accepted: &Accepted) -> Result<(), AllocError>
+pub(crate) fn put_capacities(writer: &mut Writer, accepted: &Accepted) -> Result<(), AllocError>
     ensures tokens { OnOk result (writer.new.tokens ≡ writer.old.tokens ++ json_tokens (capacity_object accepted.now)) }
     ensures before { writer.new.before ≡ writer.old.before }
 {
@@ -189,15 +149,6 @@ fn put_capacities(writer: &mut Writer, accepted: &Accepted) -> Result<(), AllocE
     put_channels(writer, accepted.graph().channels(), accepted.capacities())?;
     put_cells(writer, accepted.cells())?;
     writer.end_object()
-}
-
-/// For each channel its name and its capacity, and the number of cells that all share.
-pub(crate) fn capacity_object(alloc: Global, accepted: &Accepted) -> Result<Vec<u8>, AllocError>
-    ensures { IfOk result (λ line. IsLineOf (capacity_object accepted.now) line.items) }
-{
-    let mut writer = json_writer(alloc);
-    put_capacities(&mut writer, accepted)?;
-    line_of(writer)
 }
 
 /// Appends the object of a reason and an exit status.

@@ -3,11 +3,12 @@
 ghost use Rattle.std.specs.Prelude.{◌≡◌, ◌++◌, length, map, string_bytes, IfOk, OnOk};
 ghost use Rattle.std.specs.List.{enumerate_from};
 ghost use Rattle.csdf_model.specs.Graph.{actor_view, channel_view};
-ghost use Rattle.csdf_answers.specs.Described.{actor_names, check_text, repetition_text, schedule_text, capacity_lines, capacity_text, TellsSchedule};
+ghost use Rattle.csdf_answers.specs.Described.{actor_names, check_text, repetition_text, schedule_text, capacity_lines, capacity_text};
 ghost use Rattle.csdf_answers.specs.Printed.{names_of, name_at};
 
-use csdf_analysis::{Accepted, Vector, schedule};
-use csdf_model::{Actor, Channel};
+use crate::repeated::Repeated;
+use csdf_analysis::Accepted;
+use csdf_model::{Actor, Channel, actor_name};
 use std::alloc::{AllocError, Global};
 
 /// What is asked about a graph.
@@ -48,44 +49,35 @@ pub(crate) fn check_text(
 }
 
 /// A line for each actor: its name, its cycles and its firings in a period.
-pub(crate) fn repetition_text(
-    alloc: Global,
-    actors: &[Actor],
-    vector: &Vector,
-) -> Result<String, AllocError>
-    requires cycles { length vector.now.r.items ≡ length actors.now }
-    requires firings { length vector.now.q.items ≡ length actors.now }
-    ensures { IfOk result (λ text. string_bytes text ≡ repetition_text vector.now.r.items vector.now.q.items
-        (enumerate_from 0 (actor_names (map actor_view actors.now)))) }
+pub(crate) fn repetition_text(alloc: Global, found: &Repeated) -> Result<String, AllocError>
+    ensures { IfOk result (λ text. string_bytes text ≡ repetition_text found.now.vector.r.items found.now.vector.q.items
+        (enumerate_from 0 (actor_names found.now.graph.actors))) }
 {
     let mut text = String::new(alloc);
+    let actors = found.graph.actors();
     for (number, actor) in actors.iter().enumerate() {
         let name = actor.name.as_str();
-        let cycles = vector.r[number];
-        let firings = vector.q[number];
+        let cycles = found.vector.r[number];
+        let firings = found.vector.q[number];
         write!(text, "{name} {cycles} {firings}\n")?;
     }
     Ok(text)
 }
 
 /// A line for each firing: its actor's name.
-fn firings_text(alloc: Global, actors: &[Actor], firings: &[u32]) -> Result<String, AllocError>
+pub(crate) fn schedule_text(
+    alloc: Global,
+    actors: &[Actor],
+    firings: &[u32],
+) -> Result<String, AllocError>
     ensures { IfOk result (λ text. string_bytes text ≡ schedule_text (actor_names (map actor_view actors.now)) firings.now) }
 {
     let mut text = String::new(alloc);
     for actor in firings {
-        let name = csdf_model::actor_name(actors, *actor as usize);
+        let name = actor_name(actors, *actor as usize);
         write!(text, "{name}\n")?;
     }
     Ok(text)
-}
-
-/// A line for each firing of a period: its actor's name.
-pub(crate) fn schedule_text(alloc: Global, accepted: &Accepted) -> Result<String, AllocError>
-    ensures { IfOk result (λ text. TellsSchedule accepted.now (string_bytes text)) }
-{
-    let firings = schedule(alloc, accepted)?;
-    firings_text(alloc, accepted.graph().actors(), &firings)
 }
 
 /// Appends a line for each channel: its name and its capacity.

@@ -2,11 +2,10 @@
 
 ghost use Rattle.std.specs.Prelude.{◌≡◌, ◌≢◌, ◌++◌, option_map, slice_get, string_bytes, Some, Ok, Err, IfErr, IfOk, OnOk};
 ghost use Rattle.std.specs.List.{list_all, slice_split};
-ghost use Rattle.std.specs.Str.Lines.{strip_carriage_return};
 ghost use Rattle.csdf_bytes.specs.TokenText.{is_newline, tokens_in};
-ghost use Rattle.csdf_answers.specs.TokenNotes.{fault_words, is_short, is_visible, line_in, line_words, note_line, quoted, shown, token_note, wrong_in, wrong_with};
+ghost use Rattle.csdf_answers.specs.TokenNotes.{fault_words, is_binary, is_short, is_visible, line_in, line_words, note_line, quoted, shown, syntax_words, token_note, tokens_words, wrong_in, wrong_with};
 
-use csdf_bytes::{INPUT_LIMIT, Slice, TokenFault, read_tokens};
+use csdf_bytes::{INPUT_LIMIT, Slice, TokenFault, read_tokens, without_carriage_return};
 use std::alloc::{AllocError, Global};
 use std::str;
 
@@ -71,15 +70,6 @@ fn part_at(text: &[u8], number: usize) -> Option<&[u8]>
     text.split(|byte| *byte == b'\n').nth(number)
 }
 
-fn without_carriage_return(line: &[u8]) -> &[u8]
-    ensures { result.now ≡ strip_carriage_return line.now }
-{
-    match line {
-        [front @ .., b'\r'] => front,
-        _ => line,
-    }
-}
-
 /// The line with this number, counted from 1, less one carriage return at its end.
 fn line_in(bytes: &[u8], number: u32) -> &[u8]
     ensures { result.now ≡ line_in bytes.now number }
@@ -131,13 +121,30 @@ fn told_line(
     Ok(Some(text))
 }
 
+/// Whether it has a byte 0, which stands in no text.
+fn is_binary(bytes: &[u8]) -> bool
+    ensures { result ≡ is_binary bytes.now }
+{
+    bytes.iter().any(|byte| *byte == 0)
+}
+
+/// That the line of this number is no whole number, or that the file is no text at all.
+fn told_syntax(alloc: Global, bytes: &[u8], number: u32) -> Result<Option<String>, AllocError>
+    ensures { IfOk result (λ told. option_map string_bytes told ≡ Some (syntax_words bytes.now number)) }
+{
+    if is_binary(bytes) {
+        return told(alloc, "which is binary, and no text");
+    }
+    told_line(alloc, bytes, number, " is no whole number")
+}
+
 /// What is wrong with bytes whose tokens have this fault.
 fn told_fault(alloc: Global, bytes: &[u8], fault: TokenFault) -> Result<Option<String>, AllocError>
     ensures told { IfOk result (λ told. option_map string_bytes told ≡ fault_words bytes.now fault) }
     ensures known { OnOk result ((fault ≢ TokenFault.Read) × (fault ≢ TokenFault.Memory)) }
 {
     match fault {
-        TokenFault::Syntax(number) => told_line(alloc, bytes, number, " is no whole number"),
+        TokenFault::Syntax(number) => told_syntax(alloc, bytes, number),
         TokenFault::Range(number) => {
             told_line(
                 alloc,
@@ -161,6 +168,16 @@ fn tokens_of(alloc: Global, bytes: &[u8]) -> Result<Vec<i32>, TokenFault>
 
 const LONG: &str = "which has more than 16777216 bytes";
 
+/// What is wrong with the tokens of a file: that there are none.
+fn told_tokens(alloc: Global, tokens: &[i32]) -> Result<Option<String>, AllocError>
+    ensures { IfOk result (λ told. option_map string_bytes told ≡ tokens_words tokens.now) }
+{
+    match tokens {
+        [] => told(alloc, "which has no tokens"),
+        [_, ..] => Ok(None),
+    }
+}
+
 /// What is wrong with the bytes of a token file, where something is.
 fn wrong_in(alloc: Global, bytes: &[u8]) -> Result<Option<String>, AllocError>
     ensures { IfOk result (λ told. option_map string_bytes told ≡ wrong_in bytes.now) }
@@ -169,7 +186,7 @@ fn wrong_in(alloc: Global, bytes: &[u8]) -> Result<Option<String>, AllocError>
         return told(alloc, LONG);
     }
     match tokens_of(alloc, bytes) {
-        Ok(_) => Ok(None),
+        Ok(tokens) => told_tokens(alloc, &tokens),
         Err(fault) => told_fault(alloc, bytes, fault),
     }
 }

@@ -35,5 +35,5 @@ pub use slice::Slice;
 pub use to_writer::ToWriter;
 pub use token_file::read_token_file;
 pub use token_reader::{ReadFault, Reading, TokenReader};
-pub use token_word::{WordFault, token_of};
+pub use token_word::{WordFault, token_of, without_carriage_return};
 pub use tokens::{TOKEN_LIMIT, TokenFault, read_tokens, write_tokens, written_tokens_read_back};

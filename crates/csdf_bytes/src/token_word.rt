@@ -39,7 +39,8 @@ pub fn word_of_line(line: &[u8]) -> &[u8]
     trim_blanks_after(trim_blanks_before(without_carriage_return(line)))
 }
 
-fn without_carriage_return(line: &[u8]) -> &[u8]
+/// A line less one carriage return at its end, where it has one there.
+pub fn without_carriage_return(line: &[u8]) -> &[u8]
     ensures { result.now ≡ strip_carriage_return line.now }
 {
     match line {

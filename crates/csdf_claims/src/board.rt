@@ -18,6 +18,7 @@ use atomic_table::{Closed, Seat, Table};
 use csdf_model::{MAX_ACTORS, MAX_FIRINGS_PER_ACTOR};
 use std::alloc::{AllocError, Global};
 use std::marker::Model;
+use thiserror::Error;
 
 // The words of a board of the most actors, with the spare one.
 const MOST_WORDS: usize = MAX_ACTORS + 1;
@@ -46,16 +47,19 @@ impl Model for Board {
 }
 
 /// Why a claim was lost.
-#[derive(Clone, Copy, PartialEq, Eq, Debug, Drop)]
+#[derive(Clone, Copy, PartialEq, Eq, Debug, Drop, Error)]
 pub enum Lost {
     /// Some place holds the actor at this firing.
+    #[error("some place holds the actor at firing {0}")]
     Held(u32),
     /// The actor is idle at this firing, which is not the one that was asked for.
+    #[error("the actor is idle at firing {0}")]
     Moved(u32),
 }
 
 /// An actor, and the firing number of its word: another place finished some of the firings below it.
-#[derive(Clone, Copy, PartialEq, Eq, Debug, Drop)]
+#[derive(Clone, Copy, PartialEq, Eq, Debug, Drop, Error)]
+#[error("another place finished some of the first {1} firings of actor {0}")]
 pub struct Missing(pub u32, pub u32);
 
 impl Board {

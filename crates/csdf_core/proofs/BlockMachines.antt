@@ -5,7 +5,6 @@ use Rattle.std.proofs.lemmas.List.Elements.{recursion_from_All}
 use Rattle.csdf_pool.specs.Pool.{Shared}
 use Rattle.csdf_pool.proofs.CallerLemmas.{sizes_add_up}
 use Rattle.csdf_core.specs.declared.firing_core.Core.TheInside.{Inside}
-use Rattle.csdf_core.specs.Blocks.{IsPlain, takes_in, puts_in}
 use Rattle.csdf_core.specs.Inside.{now_in}
 use Rattle.csdf_core.specs.Moves.{Move}
 use Rattle.csdf_core.specs.Moves.{Begin, Read, Write, Finish}
@@ -19,13 +18,13 @@ use Rattle.csdf_core.specs.State.{Present}
 use Rattle.csdf_core.specs.Step.{Reply, count, held, refusal, first_of, write_table, answer, after}
 use Rattle.csdf_core.specs.Transfers.{after_read, after_write}
 use Rattle.csdf_core.proofs.BlockPools.{Holds}
-use Rattle.csdf_core.proofs.BlockPorts.{AreWithin, one_takes, one_puts, holds_takes, holds_puts}
+use Rattle.csdf_core.proofs.BlockPorts.{AreWithin, holds_takes, holds_puts}
 use Rattle.csdf_core.proofs.CoreLemmas.{held-chains}
 use Rattle.csdf_core.proofs.Follows.{follows_accepted}
 use Rattle.csdf_core.proofs.Kept.{writes}
 use Rattle.csdf_core.proofs.Moving.{left_here, put_here, kept_to_read, kept_to_write, cells_to_write}
 use Rattle.csdf_core.proofs.Peaceful.{peaks_stay}
-use Rattle.csdf_core.proofs.PortLemmas.{numbers_within, need_is, gift_is}
+use Rattle.csdf_core.proofs.PortLemmas.{numbers_within}
 use Rattle.csdf_core.proofs.SoundLemmas.{sound_begun, sound_fetched, sound_written, sound_finished}
 
 -- what changes in a core
@@ -198,14 +197,6 @@ module _ (plan : Plan) (a : ℕ) where
         pub follows_written : Follows (view plan m) (view plan (m_written v)) (Write a v) (Ok [])
         follows_written =
             follows_accepted (view plan m) (view plan (m_written v)) (Write a v) [] refl none refl refl good.sound.fit tokens_written cells_written refl
-
-      -- of a plain actor the firing moves the one input's tokens and the one output's
-      pub read_is : IsPlain plan.channels a → after_read plan a (count m.now a) m.pool ≡ takes_in ins needed m.pool
-      read_is plain = one_takes ins (take_at plan.channels (count m.now a)) needed m.pool plain.one_in (need_is a (count m.now a) plan.channels)
-
-      pub write_is : IsPlain plan.channels a → (v : List ℤ) → length v ≡ given → after_write plan a (count m.now a) m.pool v ≡ puts_in outs m.pool v
-      write_is plain v len =
-          one_puts outs (give_at plan.channels (count m.now a)) m.pool v plain.one_out (gift_is a (count m.now a) plan.channels ∙ sym len)
 
       pub good_finished : refusal plan m.now (Finish a) ≡ None → given ≤ 8192 → IsGood plan m_finished
       good_finished none few = record {

@@ -137,17 +137,6 @@ laid_step cs ns before c k j n i at g tokens others chunk into new total lt all 
     ∙ ap (λ (x : ℕ). take at into ++ laid cs ns before c k x tokens (drop at into)) (sym one)
     ∙ so_far
 
-pub takes_left : (cs : List Channel) (c k j n i : ℕ) (tokens others : List ℤ) → i < n → j ≡ k + 1 → others ≡ drop (take_at cs k c) tokens
-    → takes_at cs k (n - i) c ≤ length tokens → takes_at cs j (n - (i + 1)) c ≤ length others
-takes_left cs c k j n i tokens others lt next left enough =
-    let one : n - i ≡ suc (n - (i + 1)) = omega (arith, lt) in
-    let same : j ≡ suc k = omega (arith, next) in
-    let a : takes_at cs k (n - i) c ≡ take_at cs k c + takes_at cs (suc k) (n - (i + 1)) c = ap (λ (x : ℕ). takes_at cs k x c) one in
-    let b : takes_at cs j (n - (i + 1)) c ≡ takes_at cs (suc k) (n - (i + 1)) c = ap (λ (x : ℕ). takes_at cs x (n - (i + 1)) c) same in
-    let l = ap length left in
-    let d = length-drop (take_at cs k c) tokens in
-    omega (arith, enough, a, b, l, d)
-
 pub needs_left : (cs : List Channel) (a k j n i at g size : ℕ) → i < n → g ≡ need a k cs → j ≡ k + 1 → at + needs_of cs a k (n - i) ≡ size
     → at + g + needs_of cs a j (n - (i + 1)) ≡ size
 needs_left cs a k j n i at g size lt all next whole =

@@ -12,12 +12,14 @@ use Rattle.csdf_core.specs.Rows.{gift}
 use Rattle.csdf_core.specs.Shows.{Plays, raised}
 use Rattle.csdf_core.specs.Step.{count, begun_count}
 use Rattle.csdf_core.proofs.BlockMachines.{Machine, IsGood, view}
-use Rattle.csdf_core.proofs.BlockMoves.{AreFew, fewer}
+use Rattle.csdf_core.proofs.BlockMoves.{fewer}
+use Rattle.csdf_core.proofs.Joined.{AreFew}
 use Rattle.csdf_core.proofs.BlockPorts.{peak_at}
-use Rattle.csdf_core.proofs.BlockTokens.{outputs_after}
-use Rattle.csdf_core.proofs.FeedbackTokens.{own_give_at, given_before, goes_next, state_length, tokens_after, room_after, state_takes, state_needed}
+use Rattle.csdf_core.proofs.Joined.{outputs_after}
+use Rattle.csdf_core.proofs.Lanes.{own_give_at, given_before, own_give_none, fired_at, raised_past}
+use Rattle.csdf_core.proofs.FeedbackTokens.{goes_next, state_length, tokens_after, room_after, state_takes, state_needed}
 use Rattle.csdf_core.proofs.FiringMoves.{IsFired, fired4, is_fired, plays_fired, held_fired}
-use Rattle.csdf_core.proofs.GoingTokens.{moved, moved_later, moved_out, own_give_none, fired_at, raised_past}
+use Rattle.csdf_core.proofs.GoingTokens.{moved, moved_later, moved_out}
 use Rattle.csdf_core.proofs.OnePhase.{same_gift}
 use Rattle.csdf_core.proofs.Peaceful.{peaks_stay}
 use Rattle.csdf_core.proofs.Runs.{plays_none}

@@ -15,7 +15,7 @@ use Rattle.csdf_core.specs.Ports.{inputs_at, outputs_at, take_at, give_at, token
 use Rattle.csdf_core.specs.Rows.{need, gift, left, joined, shares, taken}
 use Rattle.csdf_core.specs.Step.{count}
 use Rattle.csdf_core.proofs.BlockMachines.{Machine, IsGood}
-use Rattle.csdf_core.proofs.BlockMoves.{AreFew}
+use Rattle.csdf_core.proofs.Joined.{AreFew}
 use Rattle.csdf_core.proofs.BlockPorts.{both}
 use Rattle.csdf_core.proofs.BlockReads.{fronts_more}
 use Rattle.csdf_core.proofs.BlockTokens.{taken_fronts, reads_same, length-fronts, one_read}

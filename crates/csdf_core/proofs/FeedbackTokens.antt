@@ -1,7 +1,7 @@
 -- A channel from an actor to itself, through one firing.
 use Rattle.std.proofs.Common.{◌≡◌, ◌≢◌, ℕ, zero, suc, ◌+◌, ◌-◌, ◌*◌, ◌<◌, ◌≤◌, ◌==◌, cond, Bool, false, inl, inr, List, [], ◌∷◌, ◌++◌, length}
 use Rattle.std.proofs.Common.{get_or, take, drop, map, refl, ap, ◌∙◌, sym, arith, le-ltb, None}
-use Rattle.std.specs.Prelude.{ℤ, sum_by}
+use Rattle.std.specs.Prelude.{ℤ}
 use Rattle.std.specs.List.{AllByRecursion}
 use Rattle.std.proofs.lemmas.Bool.{eq-eqb, ne_eqb}
 use Rattle.std.proofs.lemmas.Bool.Decides.{eqb_tells}
@@ -10,7 +10,8 @@ use Rattle.std.proofs.lemmas.List.Elements.{recursion_from_All}
 use Rattle.std.proofs.lemmas.List.Sums.{sum_by-cons}
 use Rattle.csdf_model.specs.Graph.{numbers_from}
 use Rattle.csdf_model.specs.Rates.{rate}
-use Rattle.csdf_core.specs.Blocks.{takes_at, gives_at, HoldAll, HaveRoomFor, capacity_at}
+use Rattle.csdf_core.specs.Blocks.{takes_at, gives_at, HoldAll, capacity_at}
+use Rattle.csdf_core.specs.Feedback.{HaveRoomFor}
 use Rattle.csdf_core.specs.Feedback.{KeepsState, GoesOn, asks_at, fills_at, before_of}
 use Rattle.csdf_core.specs.Going.{CanGo}
 use Rattle.csdf_core.specs.Moves.{Begin}
@@ -24,45 +25,12 @@ use Rattle.csdf_core.specs.declared.refusal.Refusal.TheVariants.{Stopped, NoCell
 use Rattle.csdf_core.proofs.Accepting.{begin_is}
 use Rattle.csdf_core.proofs.BlockBegins.{none_found, above, not_reached, dry_free, and_none}
 use Rattle.csdf_core.proofs.BlockPorts.{both, each}
-use Rattle.csdf_core.proofs.BlockTokens.{left_at, joined_other, length-left, drop_sum}
+use Rattle.csdf_core.proofs.BlockTokens.{left_at, length-left}
+use Rattle.csdf_core.proofs.Joined.{joined_other}
+use Rattle.csdf_core.proofs.Lanes.{own_give_at, given_before, joined_part, part_within, own_give}
 use Rattle.csdf_core.proofs.OnePhase.{rate_one, take_is, give_is}
 use Rattle.csdf_core.proofs.PhaseLemmas.{numbers_own}
 use Rattle.csdf_core.proofs.PortLemmas.{first_short, first_full, own_take, numbers_within}
-
--- ---- what a channel gets of a firing's tokens
-
--- how many the firing gives to it, and how many to the channels before it
-abbrev pub own_give_at : List Channel → ℕ → ℕ → ℕ → ℕ
-own_give_at cs a k c = get_or (map (gives_of a k) cs) c 0
-
-abbrev pub given_before : List Channel → ℕ → ℕ → ℕ → ℕ
-given_before cs a k c = sum_by (gives_of a k) (take c cs)
-
-pub joined_part : (a k : ℕ) (cs : List Channel) (ts : List (List ℤ)) (v : List ℤ) (c : ℕ) → length ts ≡ length cs → c < length cs
-    → tokens_at (joined ts (shares a k cs v)) c ≡ tokens_at ts c ++ take (own_give_at cs a k c) (drop (given_before cs a k c) v)
-joined_part a k [] ts v c e lt = absurd (omega arith)
-joined_part a k (x ∷ cs) [] v c e lt = absurd (omega arith)
-joined_part a k (x ∷ cs) (t ∷ ts) v zero e lt = refl
-joined_part a k (x ∷ cs) (t ∷ ts) v (suc c) e lt =
-    joined_part a k cs ts (drop (gives_of a k x) v) c (omega arith) (omega arith)
-    ∙ ap (λ (u : List ℤ). tokens_at ts c ++ take (own_give_at cs a k c) u)
-    (sym (drop_sum (gives_of a k x) (given_before cs a k c) v) ∙ ap (λ (n : ℕ). drop n v) (sym (sum_by-cons (gives_of a k) x (take c cs))))
-
--- one channel's amount and those before it are within the sum of all
-pub part_within : (f : Channel → ℕ) (cs : List Channel) (c : ℕ) → c < length cs → sum_by f (take c cs) + get_or (map f cs) c 0 ≤ sum_by f cs
-part_within f [] c lt = absurd (omega arith)
-part_within f (x ∷ cs) zero lt = let s = sum_by-cons f x cs in omega (arith, s)
-part_within f (x ∷ cs) (suc c) lt =
-    let s = sum_by-cons f x cs in
-    let t = sum_by-cons f x (take c cs) in
-    let r = part_within f cs c (omega (arith, lt)) in
-    let g : sum_by f (x ∷ take c cs) + get_or (map f cs) c 0 ≤ sum_by f (x ∷ cs) = omega (arith, s, t, r) in
-    g
-
-pub own_give : (a k : ℕ) (cs : List Channel) (c : ℕ) → from_at cs c ≡ a → c < length cs → give_at cs k c ≡ own_give_at cs a k c
-own_give a k [] c is lt = absurd (omega arith)
-own_give a k (ch ∷ cs) zero is lt = sym (ap (λ b. cond b (rate ch.produce k) 0) (eq-eqb ch.from a is))
-own_give a k (ch ∷ cs) (suc c) is lt = own_give a k cs c is (omega arith)
 
 -- ---- what is asked of the channel to itself, and of the others
 asks_own : (cs : List Channel) (own k n : ℕ) → asks_at cs own k n own ≡ take_at cs k own

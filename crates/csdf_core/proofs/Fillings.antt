@@ -3,7 +3,7 @@ use Rattle.std.proofs.Common.{◌≡◌, ℕ, zero, suc, ◌+◌, ◌<◌, ◌�
 use Rattle.std.proofs.Common.{append_assoc}
 use Rattle.std.specs.Prelude.{ℤ, sum_by}
 use Rattle.std.proofs.lemmas.List.{drop_more, drop_all, length-map}
-use Rattle.std.proofs.lemmas.List.Sums.{sum_by_more, sum_by_more_le}
+use Rattle.std.proofs.lemmas.List.Sums.{sum_by_more}
 use Rattle.csdf_pool.specs.Pool.{Held, Shared, held_tokens, after_puts}
 use Rattle.csdf_core.specs.Transfers.{filled_from}
 use Rattle.csdf_core.proofs.PortLemmas.{tokens_at-map}
@@ -27,12 +27,6 @@ filled_more xs ts ts' i x lt is same new =
     ∙ next_at xs i lt
     ∙ ap (λ (n : ℕ). filled n xs) (let e : suc i ≡ i + 1 = omega arith in e)
 
-pub filled_all : (xs : List (List ℤ)) (n : ℕ) → length xs ≤ n → filled n xs ≡ xs
-filled_all [] zero le = refl
-filled_all [] (suc n) le = refl
-filled_all (x ∷ xs) zero le = absurd (omega arith)
-filled_all (x ∷ xs) (suc n) le = ap (λ l. x ∷ l) (filled_all xs n (omega arith))
-
 pub filled_none : {A : Type 0} (f : A → List ℤ) (cs : List A) (n : ℕ) → n ≡ length cs → map held_tokens (replicate n []) ≡ filled 0 (map f cs)
 filled_none {A = A} f cs n e = ap (λ m. map held_tokens (replicate m [])) e ∙ by cs
   where
@@ -45,13 +39,6 @@ pub free_more : (xs : List (List ℤ)) (i free free' cells : ℕ) (x : List ℤ)
     → free' + length x ≡ free → free' + sum_by length (take (i + 1) xs) ≡ cells
 free_more xs i free free' cells x lt same before after =
     let more = sum_by_more length xs i [] lt in
-    let len : length x ≡ length (get_or xs i []) = ap length same in
-    omega arith
-
-pub has_room : (xs : List (List ℤ)) (i free cells : ℕ) (x : List ℤ) → i < length xs → x ≡ get_or xs i [] → sum_by length xs ≤ cells
-    → free + sum_by length (take i xs) ≡ cells → length x ≤ free
-has_room xs i free cells x lt same fits before =
-    let more = sum_by_more_le length xs i [] lt in
     let len : length x ≡ length (get_or xs i []) = ap length same in
     omega arith
 

@@ -1,9 +1,9 @@
 -- The channels after many firings of an actor that keeps its state in a channel to itself.
-use Rattle.std.proofs.Common.{◌≡◌, ◌≢◌, ℕ, zero, suc, ◌+◌, ◌-◌, ◌*◌, ◌<◌, ◌≤◌, ◌==◌, cond, max, Bool, true, false, inl, inr, List, [], ◌∷◌, ◌++◌, length}
-use Rattle.std.proofs.Common.{get_or, set, take, drop, refl, ap, ap₂, subst, ◌∙◌, sym, arith, append-nil, append_assoc, Option, Some, None}
+use Rattle.std.proofs.Common.{◌≡◌, ◌≢◌, ℕ, zero, suc, ◌+◌, ◌-◌, ◌*◌, ◌<◌, ◌≤◌, ◌==◌, cond, Bool, true, false, inl, inr, List, [], ◌∷◌, ◌++◌, length}
+use Rattle.std.proofs.Common.{set, take, drop, refl, ap, ap₂, subst, ◌∙◌, sym, arith, append-nil, append_assoc, Option, Some, None}
 use Rattle.std.proofs.Common.{length-set, get_or-set_same, get_or-set_other, suc-mul}
 use Rattle.std.specs.Prelude.{ℤ, IfSome, sum_by}
-use Rattle.std.specs.List.{zip, AllByRecursion}
+use Rattle.std.specs.List.{AllByRecursion}
 use Rattle.std.proofs.Math.Nat.{mul-add, mul-le-mul_right}
 use Rattle.std.proofs.lemmas.Bool.{eq-eqb, ne_eqb}
 use Rattle.std.proofs.lemmas.Bool.Decides.{eqb_tells}
@@ -14,10 +14,10 @@ use Rattle.csdf_core.specs.Feedback.{KeepsState, in_order, others_of, stays_at, 
 use Rattle.csdf_core.specs.Phases.{HasPhases}
 use Rattle.csdf_core.specs.Plan.{Channel, Plan, from_at, to_at, takes_of, gives_of}
 use Rattle.csdf_core.specs.Ports.{inputs_at, outputs_at, take_at, give_at, own_take_at, tokens_at, takes_over}
-use Rattle.csdf_core.specs.Rows.{left, joined, shares, gift}
-use Rattle.csdf_core.specs.Shows.{raised}
-use Rattle.csdf_core.proofs.BlockTokens.{left_at, length-left, drop_sum}
-use Rattle.csdf_core.proofs.FeedbackTokens.{own_give_at, given_before, joined_part, own_give, state_gives, state_given}
+use Rattle.csdf_core.specs.Rows.{gift}
+use Rattle.csdf_core.proofs.BlockTokens.{drop_sum}
+use Rattle.csdf_core.proofs.FeedbackTokens.{state_gives, state_given}
+use Rattle.csdf_core.proofs.Lanes.{own_give_at, given_before, own_give, own_give_none}
 use Rattle.csdf_core.proofs.OnePhase.{rate_one, same_gift}
 use Rattle.csdf_core.proofs.PhaseLemmas.{of_own}
 use Rattle.csdf_core.proofs.PortLemmas.{own_take, own_take_none, with_rows, gift_is}
@@ -105,11 +105,6 @@ before_alike a j k (x ∷ cs) (suc c) h =
     let r = before_alike a j k cs c (fewer x cs a h) in
     let g : sum_by (gives_of a j) (x ∷ take c cs) ≡ sum_by (gives_of a k) (x ∷ take c cs) = omega (arith, s, t, e, r) in
     g
-
-pub own_give_none : (a k : ℕ) (cs : List Channel) (c : ℕ) → from_at cs c ≢ a → own_give_at cs a k c ≡ 0
-own_give_none a k [] c other = refl
-own_give_none a k (x ∷ cs) zero other = ap (λ (b : Bool). cond b (rate x.produce k) 0) (ne_eqb x.from a other)
-own_give_none a k (x ∷ cs) (suc c) other = own_give_none a k cs c other
 
 -- ---- one output's row
 module _ (a k : ℕ) (amount : ℕ → ℕ) (row : ℕ → ℕ → List ℤ) where
@@ -247,36 +242,6 @@ module _ (plan : Plan) (a : ℕ) where
     moved_round k n v t len all =
         lane_same _ _ _ _ _ _ _ _ (suc n) v t (own_takes k) (own_gives k) refl refl
         ∙ lane_keeps (take_at cs k own) (given_before cs a k own) (gift a k cs) n v t len (state_given plan a own keeps k) all
-
--- ---- one firing, of one channel
-pub fired_at : (a k : ℕ) (cs : List Channel) (ts : List (List ℤ)) (v : List ℤ) (c : ℕ) → length ts ≡ length cs → c < length cs
-    → tokens_at (joined (left a k cs ts) (shares a k cs v)) c
-    ≡ drop (own_take_at cs a k c) (tokens_at ts c) ++ take (own_give_at cs a k c) (drop (given_before cs a k c) v)
-fired_at a k cs ts v c queued lt =
-    joined_part a k cs (left a k cs ts) v c (length-left a k cs ts queued) lt
-    ∙ ap (λ (u : List ℤ). u ++ take (own_give_at cs a k c) (drop (given_before cs a k c) v)) (left_at a k cs ts c queued lt)
-
--- ---- peaks
-pub raised_past : (ps : List ℕ) (ts us : List (List ℤ)) → length ts ≡ length ps → length us ≡ length ps
-    → ((c : ℕ) → c < length ps → length (tokens_at ts c) ≤ max (get_or ps c 0) (length (tokens_at us c))) → raised (raised ps ts) us ≡ raised ps us
-raised_past [] ts us e f le = refl
-raised_past (p ∷ ps) [] us e f le = absurd (omega arith)
-raised_past (p ∷ ps) (t ∷ ts) [] e f le = absurd (omega arith)
-raised_past (p ∷ ps) (t ∷ ts) (u ∷ us) e f le =
-    let low = le 0 (omega arith) in
-    let here : max (max p (length t)) (length u) ≡ max p (length u) = omega (arith, low) in
-    ap₂ (λ (n : ℕ) (ns : List ℕ). n ∷ ns) here (raised_past ps ts us (omega arith) (omega arith) (λ c lt. le (suc c) (omega (arith, lt))))
-
-pub high_elsewhere : (a : ℕ) (cs : List Channel) (ps : List ℕ) (ts : List (List ℤ)) → length ps ≡ length cs → length ts ≡ length cs
-    → ((c : ℕ) → c < length cs → from_at cs c ≢ a → length (tokens_at ts c) ≤ get_or ps c 0)
-    → AllByRecursion (λ (row : Channel × (ℕ × List ℤ)). (row.0.from == a) ≡ false → length row.1.1 ≤ row.1.0) (zip cs (zip ps ts))
-high_elsewhere a [] ps ts e f low = tt
-high_elsewhere a (x ∷ cs) [] ts e f low = absurd (omega arith)
-high_elsewhere a (x ∷ cs) (p ∷ ps) [] e f low = absurd (omega arith)
-high_elsewhere a (x ∷ cs) (p ∷ ps) (t ∷ ts) e f low = (
-  λ other. low 0 (omega arith) (λ is. absurd (let both : false ≡ true = sym other ∙ eq-eqb x.from a is in cc)),
-  high_elsewhere a cs ps ts (omega arith) (omega arith) (λ c lt. low (suc c) (omega (arith, lt))),
-)
 
 -- ---- how many tokens stay
 stays_few : (own n c : ℕ) → 1 ≤ n → stays_at own n c ≤ n

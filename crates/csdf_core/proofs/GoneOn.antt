@@ -20,9 +20,9 @@ use Rattle.csdf_core.proofs.BlockMoves.{machine_same}
 use Rattle.csdf_core.proofs.BlockPorts.{peak_at}
 use Rattle.csdf_core.proofs.FeedbackMoves.{IsLoopBlock}
 use Rattle.csdf_core.proofs.FeedbackReads.{other_there}
-use Rattle.csdf_core.proofs.FeedbackTokens.{asks_other, own_give_at, given_before, own_give, state_takes, state_gives}
+use Rattle.csdf_core.proofs.FeedbackTokens.{asks_other, state_takes, state_gives}
+use Rattle.csdf_core.proofs.Lanes.{own_give_at, given_before, own_give, high_elsewhere}
 use Rattle.csdf_core.proofs.GoingTokens.{moved, moved_round, moved_out, moved_away, output_only, row_gained, row_missed, own_left, rest_left, length-takes}
-use Rattle.csdf_core.proofs.GoingTokens.{high_elsewhere}
 use Rattle.csdf_core.proofs.PhaseLemmas.{of_own}
 use Rattle.csdf_core.proofs.OnePhase.{gifts_times, takes_times}
 use Rattle.csdf_core.proofs.OtherCells.{sound_elsewhere, plays_elsewhere}

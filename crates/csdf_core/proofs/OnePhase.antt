@@ -1,15 +1,15 @@
 -- An actor of one phase takes and gives the same in each firing.
-use Rattle.std.proofs.Common.{◌≡◌, ℕ, zero, suc, ◌*◌, ◌<◌, ◌≤◌, ◌%◌, ◌==◌, List, [], ◌∷◌, length, get_or, refl, ap, sym, subst, ◌∙◌, arith}
-use Rattle.std.specs.Prelude.{ℤ, sum_by}
+use Rattle.std.proofs.Common.{◌≡◌, ℕ, zero, suc, ◌*◌, ◌<◌, ◌%◌, ◌==◌, List, [], ◌∷◌, length, get_or, refl, ap, sym, ◌∙◌, arith}
+use Rattle.std.specs.Prelude.{sum_by}
 use Rattle.std.specs.List.{AllByRecursion}
 use Rattle.std.proofs.Math.Nat.{mod-one, suc-mul}
 use Rattle.std.proofs.lemmas.List.Elements.{recursion_from_All}
 use Rattle.std.proofs.lemmas.List.Sums.{sum_by-cons}
 use Rattle.csdf_model.specs.Rates.{rate}
-use Rattle.csdf_core.specs.Blocks.{needs_of, gifts_of, takes_at, gives_at, HoldAll}
+use Rattle.csdf_core.specs.Blocks.{needs_of, gifts_of, takes_at}
 use Rattle.csdf_core.specs.Phases.{HasPhases}
 use Rattle.csdf_core.specs.Plan.{Channel, from_at, to_at, produce_at, consume_at}
-use Rattle.csdf_core.specs.Ports.{inputs_at, outputs_at, take_at, give_at, tokens_at}
+use Rattle.csdf_core.specs.Ports.{inputs_at, outputs_at, take_at, give_at}
 use Rattle.csdf_core.specs.Rows.{need, gift}
 use Rattle.csdf_core.proofs.BlockPorts.{both}
 use Rattle.csdf_core.proofs.PhaseLemmas.{numbers_own}
@@ -85,33 +85,3 @@ module _ (cs : List Channel) (a : ℕ) (has : HasPhases cs a 1) where
       let rest : takes_at cs (suc k) n c ≡ n * take_at cs k c = takes_times c lt own (suc k) n ∙ ap (λ x. n * x) same in
       let t = suc-mul n (take_at cs k c) in
       omega (arith, rest, t)
-
-  pub gives_times : (c : ℕ) → c < length cs → from_at cs c ≡ a → (k n : ℕ) → gives_at cs k n c ≡ n * give_at cs k c
-  gives_times c lt own k zero = omega arith
-  gives_times c lt own k (suc n) =
-      let same : give_at cs (suc k) c ≡ give_at cs k c =
-      give_is cs (suc k) c lt ∙ rate_one (produce_at cs c) (suc k) k (has.gives c lt own) ∙ sym (give_is cs k c lt) in
-      let rest : gives_at cs (suc k) n c ≡ n * give_at cs k c = gives_times c lt own (suc k) n ∙ ap (λ x. n * x) same in
-      let t = suc-mul n (give_at cs k c) in
-      omega (arith, rest, t)
-
-  pub held_products : (k n : ℕ) (ts : List (List ℤ)) → HoldAll ts (takes_at cs k n) (inputs_at cs a)
-      → HoldAll ts (λ c. n * take_at cs k c) (inputs_at cs a)
-  held_products k n ts all =
-      let ns : List ℕ = inputs_at cs a in
-      let within : AllByRecursion (λ c. c < length cs) ns =
-      recursion_from_All (λ c. c < length cs) ns (numbers_within (λ (c : Channel). c.to == a) cs) in
-      let own : AllByRecursion (λ c. to_at cs c ≡ a) ns = recursion_from_All (λ c. to_at cs c ≡ a) ns (numbers_own (λ (c : Channel). c.to) a cs) in
-      let same : AllByRecursion (λ c. takes_at cs k n c ≡ n * take_at cs k c) ns =
-      both ns (λ c (lt : c < length cs) (e : to_at cs c ≡ a). takes_times c lt e k n) within own in
-      both ns
-      (λ c (e : takes_at cs k n c ≡ n * take_at cs k c) (h : takes_at cs k n c ≤ length (tokens_at ts c)).
-      (let r : n * take_at cs k c ≤ length (tokens_at ts c) = omega (arith, e, h) in r)) same all
-
--- ---- the same of channels, numbers and tokens that are known to be these
-pub held_as : (cs ds : List Channel) (a k j n : ℕ) (ts us : List (List ℤ)) → cs ≡ ds → k ≡ j → ts ≡ us → HasPhases cs a 1
-    → HoldAll ts (takes_at cs k n) (inputs_at cs a) → HoldAll us (λ c. n * take_at ds j c) (inputs_at ds a)
-held_as cs ds a k j n ts us at_cs at_k at_ts has all =
-    subst (λ xs. HoldAll us (λ c. n * take_at xs j c) (inputs_at xs a)) at_cs
-    (subst (λ i. HoldAll us (λ c. n * take_at cs i c) (inputs_at cs a)) at_k
-    (subst (λ xs. HoldAll xs (λ c. n * take_at cs k c) (inputs_at cs a)) at_ts (held_products cs a has k n ts all)))

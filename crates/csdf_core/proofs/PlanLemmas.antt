@@ -18,14 +18,6 @@ length-capacities [] (b ∷ caps) e = absurd (omega arith)
 length-capacities (g ∷ gs) [] e = absurd (omega arith)
 length-capacities (g ∷ gs) (b ∷ caps) e = ap suc (length-capacities gs caps (omega arith))
 
--- a part of each channel that its capacity doesn't change
-pub map-capacities : {K : Type 0} (f : Channel → K) (h : graph.Channel → K) → ((g : graph.Channel) (b : ℕ) → f (with_capacity (g, b)) ≡ h g)
-    → (gs : List graph.Channel) (caps : List ℕ) → length caps ≡ length gs → map f (map with_capacity (zip gs caps)) ≡ map h gs
-map-capacities f h same [] [] e = refl
-map-capacities f h same [] (b ∷ caps) e = absurd (omega arith)
-map-capacities f h same (g ∷ gs) [] e = absurd (omega arith)
-map-capacities f h same (g ∷ gs) (b ∷ caps) e = let here = same g b in let rest = map-capacities f h same gs caps (omega arith) in cc
-
 pub capacities-map : (gs : List graph.Channel) (caps : List ℕ) → length caps ≡ length gs
     → map (λ (c : Channel). c.capacity) (map with_capacity (zip gs caps)) ≡ caps
 capacities-map [] [] e = refl

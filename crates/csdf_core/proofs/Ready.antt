@@ -9,7 +9,7 @@ use Rattle.csdf_core.specs.Plan.{Channel}
 use Rattle.csdf_core.specs.declared.stage.Stage.{Stage}
 use Rattle.csdf_core.specs.declared.stage.Stage.TheVariants.{Idle, Begun, Fetched, Written}
 use Rattle.csdf_core.specs.Plan.{takes_of, gives_of}
-use Rattle.csdf_core.specs.Rows.{Row, is_short, is_full, left, joined, shares, AreThere, HaveRoom}
+use Rattle.csdf_core.specs.Rows.{Row, is_short, is_full, left, joined, shares, AreThere}
 use Rattle.csdf_core.specs.State.{Present}
 use Rattle.csdf_core.specs.Step.{count, stage}
 use Rattle.csdf_core.specs.Ready.{IsReady}
@@ -115,19 +115,6 @@ are_there p a (c ∷ cs) (t ∷ ts) was r = (
     | inr e ↦ let none = takes_none a (count p a) c e.1 in omega arith
   ],
   are_there p a cs ts was r.1,
-)
-
--- there is room for the tokens of a firing that has read
-pub have_room : (p : Present) (a : ℕ) (cs : List Channel) (ts : List (List ℤ)) → stage p a ≡ Fetched
-    → AllByRecursion (λ (row : Row). IsReady p.counts p.stages row.0 row.1) (zip cs ts) → HaveRoom a (count p a) cs ts
-have_room p a [] ts was r = tt
-have_room p a (c ∷ cs) [] was r = tt
-have_room p a (c ∷ cs) (t ∷ ts) was r = (
-  elim (eqb_tells c.from a) [
-    | inl e ↦ subst (λ (b : ℕ). length t + gives_of b (count p b) c ≤ c.capacity) e.1 (r.0.fetched (ap (stage p) e.1 ∙ was))
-    | inr e ↦ let none = gives_none a (count p a) c e.1 in let fits = r.0.fits in omega arith
-  ],
-  have_room p a cs ts was r.1,
 )
 
 abbrev pub AreReady : List ℕ → List Stage → List Channel → List (List ℤ) → Type 0

@@ -4,7 +4,7 @@ use Rattle.std.specs.Prelude.{Option, Some, None, IfSome, length, take, drop, sl
 use Rattle.std.specs.List.{AllByRecursion}
 use Rattle.csdf_core.specs.declared.stage.Stage.TheVariants.{Idle}
 use Rattle.csdf_core.specs.declared.feedback.Feedback.{Feedback}
-use Rattle.csdf_core.specs.Blocks.{takes_at, gives_at, HoldAll, HaveRoomFor, firings_of, reads_among, parts_of}
+use Rattle.csdf_core.specs.Blocks.{takes_at, gives_at, capacity_at, HoldAll}
 use Rattle.csdf_core.specs.Phases.{HasPhases}
 use Rattle.csdf_core.specs.Plan.{Channel, Plan, from_at, to_at}
 use Rattle.csdf_core.specs.Ports.{inputs_at, outputs_at, take_at, give_at, tokens_at, takes_over}
@@ -67,9 +67,9 @@ loop_reads is_first each before gift (suc n) state others v =
     beside is_first state (take each others)
     ++ loop_reads is_first each before gift n (take (length state) (drop before (take gift v))) (drop each others) (drop gift v)
 
--- each of n firings that write v reads its part of these tokens
-abbrev pub AreReadWith : Plan → Present → ℕ → ℕ → ℕ → List ℤ → List ℤ → Type 0
-AreReadWith plan p a k n v tokens = reads_among plan p (firings_of plan.channels a k n v) ≡ parts_of plan.channels a k n tokens
+-- each of the channels has room for its amount of tokens
+abbrev pub HaveRoomFor : List Channel → List (List ℤ) → (ℕ → ℕ) → List ℕ → Type 0
+HaveRoomFor channels tokens amount numbers = AllByRecursion (λ c. length (tokens_at tokens c) + amount c ≤ capacity_at channels c) numbers
 
 -- an actor whose next firing is number k finds what n firings need: in the channel to itself just the tokens of one firing
 pub record GoesOn (plan : Plan) (p : Present) (a own k n : ℕ) : Type 0 where

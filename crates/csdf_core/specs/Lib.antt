@@ -19,4 +19,5 @@ pub mod Phases
 pub mod Sound
 pub mod Inside
 pub mod Blocks
+pub mod Engine
 pub mod Feedback

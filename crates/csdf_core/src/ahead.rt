@@ -3,9 +3,9 @@
 //! Most actors have one phase: each of their firings takes and gives as much as the next one does, so
 //! that nothing is looked up or added up.
 
-ghost use Rattle.std.specs.Prelude.{ℕ, ◌≡◌, ◌+◌, ◌*◌, ◌<◌, ◌≤◌, None, length};
+ghost use Rattle.std.specs.Prelude.{ℕ, ◌≡◌, ◌+◌, ◌*◌, ◌<◌, ◌≤◌, IsTrue, length};
 ghost use Rattle.csdf_core.specs.Blocks.{needs_of, gifts_of};
-ghost use Rattle.csdf_core.specs.Phases.{IsInPhase};
+ghost use Rattle.csdf_core.specs.Phases.{HasPhases, IsInPhase};
 ghost use Rattle.csdf_core.specs.Rows.{need, gift};
 
 use crate::firing_core::Core;
@@ -45,12 +45,9 @@ fn given_in_all(plan: &Plan, actor: u32, turn: Turn, n: u32) -> u64
 }
 
 impl Core {
-    ghost use Rattle.csdf_core.specs.Plan.{from_at};
+    ghost use Rattle.csdf_core.specs.Plan.{consume_at, from_at, produce_at, to_at};
     ghost use Rattle.csdf_core.specs.Ports.{give_at};
-    ghost use Rattle.csdf_core.specs.Step.{count, refusal};
-    ghost use Rattle.csdf_core.specs.Blocks.{CanFire};
-    ghost use Rattle.csdf_core.specs.Feedback.{CanGoOn, KeepsState};
-    ghost use Rattle.csdf_core.specs.Moves.{Begin};
+    ghost use Rattle.csdf_core.specs.Step.{count};
 
     /// How many tokens the actor's next n firings take in all.
     #[inline(always)]
@@ -59,8 +56,12 @@ impl Core {
         requires few { count self.now.now actor + n ≤ MAX_FIRINGS_PER_ACTOR }
         ensures { result ≡ needs_of self.now.plan.channels actor (count self.now.now actor) n }
     {
+        let each = self.need(actor) as u64;
+        if n == 1 {
+            return each;
+        }
         if self.plan.phases(actor) == 1 {
-            return u64::from(n) * self.need(actor) as u64;
+            return u64::from(n) * each;
         }
         taken_in_all(&self.plan, actor, self.turn(actor), n)
     }
@@ -73,8 +74,12 @@ impl Core {
         ensures value { result ≡ gifts_of self.now.plan.channels actor (count self.now.now actor) n }
         ensures small { result ≤ MAX_TOTAL_PER_FIRING * n }
     {
+        let each = self.gives(actor) as u64;
+        if n == 1 {
+            return each;
+        }
         if self.plan.phases(actor) == 1 {
-            return u64::from(n) * self.gives(actor) as u64;
+            return u64::from(n) * each;
         }
         given_in_all(&self.plan, actor, self.turn(actor), n)
     }
@@ -133,14 +138,16 @@ impl Core {
         turn_after(&self.plan, actor, turn)
     }
 
-    /// A law: an actor that can make its next firing at once, alone or with those after it, may begin it.
-    /// The call does nothing.
-    pub fn begins(&self, actor: u32)
-        ensures fires { (n : ℕ) → 0 < n → CanFire self.now.plan self.now.now actor n
-            → refusal self.now.plan self.now.now (Begin actor) ≡ None }
-        ensures goes_on { (own n : ℕ) → 0 < n → KeepsState self.now.plan actor own → CanGoOn self.now.plan self.now.now actor own n
-            → refusal self.now.plan self.now.now (Begin actor) ≡ None }
+    /// Whether each firing of the actor moves as much as any other: each of its lists of rates has
+    /// one entry.
+    pub fn has_one_phase(&self, actor: u32) -> bool
+        requires { actor < length self.now.plan.sources }
+        ensures each { IsTrue result → HasPhases self.now.plan.channels actor 1 }
+        ensures takes { (c : ℕ) → c < length self.now.plan.channels → to_at self.now.plan.channels c ≡ actor
+            → length (consume_at self.now.plan.channels c) ≡ 1 → IsTrue result }
+        ensures gives { (c : ℕ) → c < length self.now.plan.channels → from_at self.now.plan.channels c ≡ actor
+            → length (produce_at self.now.plan.channels c) ≡ 1 → IsTrue result }
     {
-        let _plan = &self.plan;
+        self.plan.phases(actor) == 1
     }
 }

@@ -7,17 +7,17 @@
 ghost use Rattle.std.specs.Prelude.{ℕ, ◌≡◌, ◌≢◌, ◌+◌, ◌-◌, ◌*◌, ◌<◌, ◌≤◌, ◌↔◌, IsTrue, IfSome, IfNone, length, drop, slice_set, List, ℤ, sum_by};
 ghost use Rattle.csdf_pool.specs.Pool.{IsPartition};
 ghost use Rattle.std.specs.List.{AllByRecursion};
-ghost use Rattle.csdf_core.specs.Blocks.{takes_at, gives_at, gifts_of, HoldAll, HaveRoomFor, AreAccepted, answers_to, firings_of, from_front};
-ghost use Rattle.csdf_core.specs.Feedback.{KeepsState, IsFeedback, CanGoOn, AreReadWith, asks_at, fills_at, before_of, in_order, loop_reads, others_of};
+ghost use Rattle.csdf_core.specs.Blocks.{takes_at, gives_at, gifts_of, HoldAll, AreAccepted, answers_to, firings_of, from_front};
+ghost use Rattle.csdf_core.specs.Engine.{AreReadWith};
+ghost use Rattle.csdf_core.specs.Feedback.{KeepsState, IsFeedback, CanGoOn, HaveRoomFor, asks_at, fills_at, before_of, in_order, loop_reads, others_of};
 ghost use Rattle.csdf_core.specs.Feedback.{lasts_at, gone_on};
 ghost use Rattle.csdf_core.specs.Phases.{HasPhases, IsInPhase};
 ghost use Rattle.csdf_core.specs.Plan.{from_at, to_at};
 ghost use Rattle.csdf_core.specs.Ports.{inputs_at, outputs_at, take_at, give_at, tokens_at, tokens_in, takes_over};
 ghost use Rattle.csdf_core.specs.Rows.{gift};
 ghost use Rattle.csdf_core.specs.Shows.{Plays};
-ghost use Rattle.csdf_core.specs.Step.{count, stage};
+ghost use Rattle.csdf_core.specs.Step.{begun_count, count, held, reserved, stage};
 
-use crate::blocks::{held_times, room_times, times};
 use crate::firing_core::Core;
 use crate::first_refusal::is_at;
 use crate::going::put_lasting;
@@ -27,7 +27,7 @@ use crate::several::drop_tokens;
 use crate::stage::Stage;
 use crate::transfer::raise_peaks;
 use crate::turn::Turn;
-use csdf_model::{MAX_FIRINGS_PER_ACTOR, MAX_TOKENS_PER_FIRING};
+use csdf_model::{MAX_FIRINGS_PER_ACTOR, MAX_TOKENS_PER_FIRING, MAX_TOTAL_PER_FIRING};
 use csdf_pool::Pool;
 
 /// The channel in which an actor keeps its state: it goes from the actor to itself, and each firing takes all that it
@@ -262,7 +262,7 @@ impl Core {
     /// What the actor keeps its state in: `None` where it has no channel to itself or more than one, where its
     /// firings take and give not as many tokens of it, for an actor of several phases, and for one with more than one
     /// other input.
-    pub fn feedback(&self, actor: u32) -> Option<Feedback>
+    fn feedback(&self, actor: u32) -> Option<Feedback>
         requires { actor < length self.now.plan.sources }
         ensures { IfSome result (IsFeedback self.now.plan actor) }
     {
@@ -292,7 +292,7 @@ impl Core {
 
     /// Whether the actor can make its next n firings one after the other, with no other's move between them: each of
     /// their moves is then accepted. The channel to itself has to hold just the tokens of one firing.
-    pub fn can_go_on(&self, actor: u32, feedback: Feedback, n: u32) -> bool
+    fn can_go_on(&self, actor: u32, feedback: Feedback, n: u32) -> bool
         requires actor { actor < length self.now.plan.sources }
         requires feedback { IsFeedback self.now.plan actor feedback }
         ensures { IsTrue result ↔ CanGoOn self.now.plan self.now.now actor feedback.channel n }
@@ -327,49 +327,38 @@ impl Core {
         true
     }
 
-    /// About how many firings the actor can make.
-    fn guess_on(&self, actor: u32, feedback: Feedback, most: u32) -> u32
+    /// The channel in which the actor keeps its state, where its next n firings can be made in one go.
+    pub fn goes_on(&self, actor: u32, n: u32) -> Option<Feedback>
         requires { actor < length self.now.plan.sources }
-        ensures { result ≤ most }
+        ensures feedback { IfSome result (IsFeedback self.now.plan actor) }
+        ensures can { IfSome result (λ f. CanGoOn self.now.plan self.now.now actor f.channel n) }
     {
-        let plan = &self.plan;
-        let turn = self.turn(actor);
-        let own = Some(feedback.channel);
-        let left = plan.limit(actor).saturating_sub(turn.firing);
-        let mut n = most.min(left);
-        if let Some(firings) = plan.firings() {
-            n = times(u64::from(firings).saturating_sub(self.started), 1, n);
+        let feedback = self.feedback(actor)?;
+        if !self.can_go_on(actor, feedback, n) {
+            return None;
         }
-        n = held_times(plan, &self.pool, actor, own, turn, n);
-        n = room_times(plan, &self.pool, actor, turn, n);
-        let beside = (self.gives(actor) as u64).saturating_sub(u64::from(feedback.taken));
-        times(
-            u64::from(plan.cells()).saturating_sub(self.used()),
-            beside,
-            n,
-        )
+        Some(feedback)
     }
 
-    /// A number of next firings, at most so many, that the actor can make one after the other
-    /// (see [`can_go_on`](Core::can_go_on)): at least one where it can make one.
-    pub fn goes_on(&self, actor: u32, feedback: Feedback, most: u32) -> u32
-        requires actor { actor < length self.now.plan.sources }
-        requires feedback { IsFeedback self.now.plan actor feedback }
-        ensures most { result ≤ most }
-        ensures can { 0 < result → CanGoOn self.now.plan self.now.now actor feedback.channel result }
-        ensures some { 1 ≤ most → CanGoOn self.now.plan self.now.now actor feedback.channel 1 → 1 ≤ result }
+    /// Whether so many firings more may begin, of all actors together.
+    fn may_begin(&self, n: u32) -> bool
+        ensures { IsTrue result ↔ IfSome self.now.plan.firings (λ most. begun_count self.now.now + n ≤ most) }
     {
-        if most == 0 {
-            return 0;
+        match self.plan.firings() {
+            Some(most) => self.started + u64::from(n) <= u64::from(most),
+            None => true,
         }
-        let n = self.guess_on(actor, feedback, most);
-        if n > 1 && self.can_go_on(actor, feedback, n) {
-            return n;
+    }
+
+    /// Whether so many cells are neither held nor reserved.
+    fn has_cells(&self, given: u64) -> bool
+        requires { given ≤ MAX_TOTAL_PER_FIRING * MAX_FIRINGS_PER_ACTOR }
+        ensures { IsTrue result ↔ held self.now.now + reserved self.now.plan self.now.now + given ≤ self.now.plan.cells }
+    {
+        if self.used() + given > u64::from(self.plan.cells()) {
+            return false;
         }
-        if self.can_go_on(actor, feedback, 1) {
-            return 1;
-        }
-        0
+        true
     }
 
     /// Copies what the channel to the actor itself holds, and the tokens of its other input that its next n firings

@@ -2,7 +2,7 @@
 #![tactic(auto)]
 
 mod ahead;
-mod blocks;
+mod engine;
 mod feedback;
 mod filling;
 mod firing_core;
@@ -21,7 +21,7 @@ mod stage;
 mod transfer;
 mod turn;
 
-pub use blocks::Block;
+pub use engine::Block;
 pub use feedback::Feedback;
 pub use firing_core::Core;
 pub use laws::{

@@ -63,13 +63,6 @@ fn moved(rates: &[u32], firing: u32, n: u32) -> u64
     total(rates, firing + n) - total(rates, firing)
 }
 
-/// Whether two lists of rates are the same.
-fn are_same(left: &[u32], right: &[u32]) -> bool
-    ensures { IsTrue result ↔ (left.now ≡ right.now) }
-{
-    left == right
-}
-
 /// The same numbers in a list of their own.
 fn copy_of(alloc: Global, numbers: &[u32]) -> Result<Vec<u32>, AllocError>
     ensures { IfOk result (λ v. v.items ≡ numbers.now) }
@@ -218,15 +211,6 @@ impl Plan {
     {
         let channel = self.channel(channel);
         channel.produce[turn.phase as usize]
-    }
-
-    /// Whether both ends of the channel have the same list of rates.
-    pub(crate) fn is_even(&self, channel: u32) -> bool
-        requires { channel < length self.now.channels }
-        ensures { IsTrue result ↔ (produce_at self.now.channels channel ≡ consume_at self.now.channels channel) }
-    {
-        let channel = self.channel(channel);
-        are_same(&channel.produce, &channel.consume)
     }
 
     /// How many tokens n firings of the channel's consumer take out, from this one on.

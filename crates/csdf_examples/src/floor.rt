@@ -37,11 +37,11 @@ pub fn feeds_of(alloc: Global, tokens: &[i32]) -> Result<Vec<Vec<i32>>, AllocErr
 fn fire(alloc: Global, floor: &mut Floor, actor: u32, firing: u32) -> anyhow::Result<()> {
     let job = floor
         .start(alloc, actor, firing)
-        .map_err(|fault| anyhow!("{fault:?}"))?;
+        .map_err(|fault| anyhow!("{fault}"))?;
     let done = eval(alloc, job).map_err(|(_, error)| error)?;
     floor
         .deliver(alloc, &done)
-        .map_err(|fault| anyhow!("{fault:?}"))
+        .map_err(|fault| anyhow!("{fault}"))
 }
 
 /// How many firings the actor has finished, where there is one.
@@ -65,7 +65,7 @@ fn turn(rt: &impl Print, alloc: Global, floor: &mut Floor) -> anyhow::Result<boo
                 has_made = true;
             }
             Err(StartFault::Refused(_)) => {}
-            Err(fault) => bail!("{fault:?}"),
+            Err(fault) => bail!("{fault}"),
         }
     }
     Ok(has_made)
@@ -117,7 +117,7 @@ fn outcome_of(
     );
     match settle(alloc, floor, accepted, feeds, periods, None, &totals) {
         Ok(outcome) => Ok(outcome),
-        Err(fault) => Err(anyhow!("{fault:?}")),
+        Err(fault) => Err(anyhow!("{fault}")),
     }
 }
 

@@ -55,7 +55,7 @@ fn outcome_of<R: Threads + Wait + Sync>(
     ensure!(may_run(accepted, periods), "too many firings");
     match run(rt, alloc, accepted, feeds, 2, periods, None, gate) {
         Ok(outcome) => Ok(outcome),
-        Err(fault) => Err(anyhow!("{fault:?}")),
+        Err(fault) => Err(anyhow!("{fault}")),
     }
 }
 

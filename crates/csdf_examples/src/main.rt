@@ -2,6 +2,7 @@
 #![tactic(auto)]
 
 mod analysis;
+mod files;
 mod floor;
 mod gate;
 mod moves;
@@ -12,5 +13,6 @@ fn main(rt: HostRuntime) -> anyhow::Result<()> {
     moves::show(&rt, rt.alloc())?;
     floor::show(&rt, rt.alloc())?;
     gate::show(&rt, rt.alloc())?;
-    stream::show(&rt, rt.alloc())
+    stream::show(&rt, rt.alloc())?;
+    files::show(&rt)
 }

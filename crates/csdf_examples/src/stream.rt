@@ -47,7 +47,7 @@ fn goes_on<R: Threads + Wait + Sync>(
     } = stream.segment(rt, alloc, feeds, 2, periods, &Open);
     match part {
         Ok(part) => Ok((stream, part)),
-        Err(fault) => Err(anyhow!("{fault:?}")),
+        Err(fault) => Err(anyhow!("{fault}")),
     }
 }
 

@@ -29,9 +29,7 @@ pub mod Makings
 pub mod PhaseValues
 pub mod MostPeriods
 pub mod MadeFloors
-pub mod OneFirings
 pub mod MoreFirings
-pub mod LoopMakings
 pub mod Drafted
 pub mod Notings
 pub mod Standings
@@ -41,3 +39,4 @@ pub mod Continuing
 pub mod Lefts
 pub mod Stretches
 pub mod Exacts
+pub mod LoopMakings

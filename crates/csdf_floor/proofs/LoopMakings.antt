@@ -12,7 +12,8 @@ use Rattle.csdf_kernel.specs.Value.{value_of}
 use Rattle.csdf_kernel.proofs.ValueLemmas.{length_of_value}
 use Rattle.csdf_core.specs.declared.feedback.Feedback.{Feedback}
 use Rattle.csdf_core.specs.Blocks.{firings_of, answers_to, reads_among, parts_of, needs_of, gifts_of}
-use Rattle.csdf_core.specs.Feedback.{AreReadWith, IsFeedback, beside, in_order, loop_reads, others_of}
+use Rattle.csdf_core.specs.Engine.{AreReadWith}
+use Rattle.csdf_core.specs.Feedback.{IsFeedback, beside, in_order, loop_reads, others_of}
 use Rattle.csdf_core.specs.Moves.{Move}
 use Rattle.csdf_core.specs.Plan.{Channel, Plan}
 use Rattle.csdf_core.specs.Ports.{take_at}
@@ -26,11 +27,14 @@ use Rattle.csdf_core.proofs.PortLemmas.{need_is}
 use Rattle.csdf_floor.specs.Inside.{IsBook}
 use Rattle.csdf_floor.specs.Journal.{Program, output_counts, value}
 use Rattle.csdf_floor.specs.Making.{AreOwnValues, made_value}
-use Rattle.csdf_floor.specs.Work.{Work, program}
+use Rattle.csdf_floor.specs.Work.{IsWork, Work, program}
 use Rattle.csdf_floor.proofs.Books.{floor_of}
 use Rattle.csdf_floor.proofs.Journals.{value_is}
 use Rattle.csdf_floor.proofs.Makings.{IsMade, length_made, made_book, same_outputs}
 use Rattle.csdf_floor.proofs.Sequential.{length_value}
+use Rattle.csdf_floor.proofs.Works.{playable_program}
+use Rattle.std.proofs.lemmas.List.Elements.{recursion_from_All}
+use Rattle.std.specs.List.{AllByRecursion}
 
 beside_same : (is_first : Bool) (x y : List ℤ) → beside is_first x y ≡ kernel.beside is_first x y
 beside_same true x y = refl
@@ -194,3 +198,15 @@ fired_on_book keeps w core new journal sinks reads a n v b there idle own plays 
     (subst (λ (u : Plan). reads_among u core.now (firings_of u.channels a k n v) ≡ parts_of u.channels a k n tokens) same own.read) in
     subst (λ (x : List ℤ). IsMade keeps w core new journal sinks reads a k n tokens x) (sym own.just)
     (made_book {keeps = keeps} w n core new journal sinks reads a k tokens b there idle refl len through read)
+
+-- the firings have small numbers
+pub few_numbers : (w : Work) (a k n : ℕ) → IsWork w → k + n ≤ get_or (program w).plan.limits a 0 → k + n ≤ 16384000
+few_numbers w a k n kept limit =
+    let playable = playable_program w.accepted w.feeds w.periods w.firings kept.accepted kept.few_firings in
+    let few = few_at (program w).plan.limits a (recursion_from_All (λ m. m ≤ 16384000) (program w).plan.limits playable.few_firings) in
+    omega (arith, limit, few)
+  where
+    few_at : (limits : List ℕ) (i : ℕ) → AllByRecursion (λ m. m ≤ 16384000) limits → get_or limits i 0 ≤ 16384000
+    few_at [] i h = omega arith
+    few_at (x ∷ limits) zero h = h.0
+    few_at (x ∷ limits) (suc i) h = few_at limits i h.1

@@ -9,10 +9,13 @@ use Rattle.std.proofs.lemmas.Bool.Decides.{eqb_tells}
 use Rattle.csdf_model.specs.declared.parts.Kernel.TheVariants.{Sink}
 use Rattle.csdf_core.specs.declared.stage.Stage.{Stage}
 use Rattle.csdf_core.specs.declared.stage.Stage.TheVariants.{Idle, Begun, Fetched, Written}
-use Rattle.csdf_core.specs.Blocks.{firings_of, answers_to, reads_among, parts_of, needs_of, gifts_of, CanFire, AreReadEach}
+use Rattle.csdf_core.specs.Blocks.{firings_of, answers_to, reads_among, parts_of, needs_of, gifts_of, AreReadEach}
+use Rattle.csdf_core.specs.Engine.{CanFire}
 use Rattle.csdf_core.specs.Phases.{HasPhases}
 use Rattle.csdf_core.proofs.OnePhase.{same_gift, same_need, rate_one, gifts_times}
 use Rattle.csdf_core.proofs.BlockBegins.{given_more}
+use Rattle.csdf_core.proofs.Fewer.{can_begin}
+use Rattle.csdf_core.proofs.Kept.{begins}
 use Rattle.csdf_core.proofs.Totals.{given-suc}
 use Rattle.csdf_core.specs.Moves.{Move}
 use Rattle.csdf_core.specs.Moves.{Begin, Read, Write, Finish}
@@ -37,6 +40,10 @@ use Rattle.csdf_floor.proofs.Bounds.{after_is}
 use Rattle.csdf_floor.proofs.Honestly.{get_length}
 use Rattle.csdf_floor.proofs.Journals.{state_push, value_is}
 use Rattle.csdf_floor.proofs.Sequential.{length_value}
+
+-- an actor that can make some firings is idle
+pub can_idle : (plan : Plan) (p : Present) (a n : ℕ) → 0 < n → CanFire plan p a n → stage p a ≡ Idle
+can_idle plan p a n some can = (begins plan p a (can_begin plan a p n some can)).idle
 
 -- the buffer of an idle actor may hold anything
 pub book_buffer : (f : FloorView) (reads : List (List ℤ)) (a : ℕ) (x : List ℤ) → IsBook f reads → stage f.core.now a ≡ Idle → IsBook f (set reads a x)
@@ -307,14 +314,14 @@ length_made w a k (suc n) tokens =
     omega (arith, e, one, rest)
 
 pub fired_book : (keeps : Bool) (w : Work) (core new : View) (journal : List Move) (sinks reads : List (List ℤ)) (a n : ℕ) (v : List ℤ)
-    → IsBook (floor_of keeps w core journal sinks) reads → CanFire core.plan core.now a n
+    → IsBook (floor_of keeps w core journal sinks) reads → a < length core.plan.sources → stage core.now a ≡ Idle
     → length (get_or reads a []) ≡ needs_of core.plan.channels a (count core.now a) n
     → AreReadEach core.plan core.now a (count core.now a) n (get_or reads a [])
     → v ≡ made_value (program w) a (count core.now a) n (get_or reads a [])
     → Plays core new (firings_of core.plan.channels a (count core.now a) n v)
     (answers_to core.plan core.now (firings_of core.plan.channels a (count core.now a) n v))
     → IsMade keeps w core new journal sinks reads a (count core.now a) n (get_or reads a []) v
-fired_book keeps w core new journal sinks reads a n v b can len each is plays =
+fired_book keeps w core new journal sinks reads a n v b there idle len each is plays =
     let p : Program = program w in
     let k : ℕ = count core.now a in
     let tokens : List ℤ = get_or reads a [] in
@@ -328,7 +335,7 @@ fired_book keeps w core new journal sinks reads a n v b can len each is plays =
     let read : reads_among p.plan core.now (firings_of p.plan.channels a k n (made_value p a k n tokens)) ≡ parts_of p.plan.channels a k n tokens =
     each2 (made_value p a k n tokens) (length_made p a k n tokens) in
     subst (λ (x : List ℤ). IsMade keeps w core new journal sinks reads a k n tokens x) (sym is)
-    (made_book {keeps = keeps} w n core new journal sinks reads a k tokens b can.there can.idle refl len2 through read)
+    (made_book {keeps = keeps} w n core new journal sinks reads a k tokens b there idle refl len2 through read)
 
 -- the book then
 pub book_fired : (keeps keeps2 : Bool) (w : Work) (core new : View) (journal moves2 : List Move) (sinks sinks2 reads : List (List ℤ)) (a n : ℕ)

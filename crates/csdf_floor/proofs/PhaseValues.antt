@@ -21,31 +21,6 @@ use Rattle.csdf_floor.proofs.Honestly.{get_length}
 use Rattle.csdf_floor.proofs.Journals.{value_is}
 use Rattle.csdf_floor.proofs.Makings.{length_made}
 use Rattle.csdf_floor.proofs.Sequential.{sum_of_counts}
-use Rattle.csdf_floor.proofs.Works.{playable_program}
-
--- ---- one firing more
-
-pub needs_more : (cs : List Channel) (a k n : ℕ) → needs_of cs a k (n + 1) ≡ needs_of cs a k n + need a (k + n) cs
-needs_more cs a k zero =
-    let e = ap (λ (j : ℕ). need a j cs) (let z : k + 0 ≡ k = omega arith in z) in
-    let one : needs_of cs a k (0 + 1) ≡ need a k cs + 0 = ap (needs_of cs a k) (let z : 0 + 1 ≡ 1 = omega arith in z) in
-    omega (arith, e, one)
-needs_more cs a k (suc n) =
-    let rest = needs_more cs a (suc k) n in
-    let all : needs_of cs a k (suc n + 1) ≡ need a k cs + needs_of cs a (suc k) (n + 1) = ap (needs_of cs a k) (let z : suc n + 1 ≡ suc (n + 1) = omega arith in z) in
-    let last = ap (λ (j : ℕ). need a j cs) (let z : suc k + n ≡ k + suc n = omega arith in z) in
-    omega (arith, all, rest, last)
-
-pub gifts_more : (cs : List Channel) (a k n : ℕ) → gifts_of cs a k (n + 1) ≡ gifts_of cs a k n + gift a (k + n) cs
-gifts_more cs a k zero =
-    let e = ap (λ (j : ℕ). gift a j cs) (let z : k + 0 ≡ k = omega arith in z) in
-    let one : gifts_of cs a k (0 + 1) ≡ gift a k cs + 0 = ap (gifts_of cs a k) (let z : 0 + 1 ≡ 1 = omega arith in z) in
-    omega (arith, e, one)
-gifts_more cs a k (suc n) =
-    let rest = gifts_more cs a (suc k) n in
-    let all : gifts_of cs a k (suc n + 1) ≡ gift a k cs + gifts_of cs a (suc k) (n + 1) = ap (gifts_of cs a k) (let z : suc n + 1 ≡ suc (n + 1) = omega arith in z) in
-    let last = ap (λ (j : ℕ). gift a j cs) (let z : suc k + n ≡ k + suc n = omega arith in z) in
-    omega (arith, all, rest, last)
 
 -- ---- one firing after another
 
@@ -214,18 +189,6 @@ block_short w a k n written kept is supply src =
     short_at [] i h = omega arith
     short_at (x ∷ feeds) zero h = h.0
     short_at (x ∷ feeds) (suc i) h = short_at feeds i h.1
-
--- the firings have small numbers
-pub few_numbers : (w : Work) (a k n : ℕ) → IsWork w → k + n ≤ get_or (program w).plan.limits a 0 → k + n ≤ 16384000
-few_numbers w a k n kept limit =
-    let playable = playable_program w.accepted w.feeds w.periods w.firings kept.accepted kept.few_firings in
-    let few = few_at (program w).plan.limits a (recursion_from_All (λ m. m ≤ 16384000) (program w).plan.limits playable.few_firings) in
-    omega (arith, limit, few)
-  where
-    few_at : (limits : List ℕ) (i : ℕ) → AllByRecursion (λ m. m ≤ 16384000) limits → get_or limits i 0 ≤ 16384000
-    few_at [] i h = omega arith
-    few_at (x ∷ limits) zero h = h.0
-    few_at (x ∷ limits) (suc i) h = few_at limits i h.1
 
 -- firings that write nothing have no values
 pub none_written : (w : Program) (a k n : ℕ) (tokens : List ℤ) → gifts_of w.plan.channels a k n ≡ 0 → [] ≡ made_value w a k n tokens

@@ -4,8 +4,10 @@ use Rattle.csdf_model.specs.declared.limits.TheConstants.{MAX_CHANNELS, MAX_TOKE
 use Rattle.csdf_model.specs.declared.parts.Kernel.{Kernel}
 use Rattle.csdf_model.specs.declared.parts.Kernel.TheVariants.{Source, Sink, Copy, Sum, Fir}
 use Rattle.csdf_kernel.specs.Value.{HasFilterInRange}
-use Rattle.csdf_core.specs.Blocks.{CanFire, AreReadEach, needs_of}
+use Rattle.csdf_core.specs.Blocks.{AreReadEach, HoldAll, needs_of, takes_at}
+use Rattle.csdf_core.specs.Engine.{CanFire}
 use Rattle.csdf_core.specs.Phases.{HasPhases}
+use Rattle.csdf_core.specs.Ports.{inputs_at}
 use Rattle.csdf_core.specs.Rows.{need}
 use Rattle.csdf_core.specs.Step.{count, is_source}
 use Rattle.csdf_floor.specs.Floor.{FloorView}
@@ -30,9 +32,10 @@ pub record IsSound (kernel : Kernel) (counts : List ℕ) (need firings : ℕ) (i
   pub whole : firings * need ≤ length inputs
 
 -- the draft has what the actor's next firings compute from, but for their tokens, which may be any of as many. The actor is no source, has one phase and can make
--- these firings
+-- these firings, which find all that they read
 pub record Suits (f : FloorView) (a : ℕ) (d : DraftView) : Type 0 where
   pub can : CanFire f.core.plan f.core.now a d.firings
+  pub held : HoldAll f.core.now.tokens (takes_at f.core.plan.channels (count f.core.now a) d.firings) (inputs_at f.core.plan.channels a)
   pub phases : HasPhases f.core.plan.channels a 1
   pub other : is_source (program f.work).plan a ≡ false
   pub kernel : d.kernel ≡ slice_index_or (program f.work).kernels a Sink

@@ -1,8 +1,6 @@
 -- What the parts of a floor show, with the room that they have, and what they keep.
 use Rattle.std.specs.Prelude.{ℕ, suc, ◌≡◌, ◌+◌, ◌<◌, ◌≤◌, ◌==◌, ◌&&◌, ◌||◌, Bool, true, false, not, List, ℤ, [], ◌∷◌, length, map, slice_index, slice_index_or}
-use Rattle.std.specs.Prelude.{slice_set, Option, None, IfSome}
-use Rattle.csdf_core.specs.declared.feedback.Feedback.{Feedback}
-use Rattle.csdf_core.specs.Feedback.{IsFeedback}
+use Rattle.std.specs.Prelude.{slice_set}
 use Rattle.csdf_model.specs.declared.parts.Kernel.TheVariants.{Sink}
 use Rattle.csdf_core.specs.declared.stage.Stage.TheVariants.{Idle, Fetched}
 use Rattle.csdf_core.specs.Moves.{Move}
@@ -30,11 +28,6 @@ pub record BookView : Type 0 where
   pub width : ℕ
   pub rooms : List ℕ
   pub reads : List (List ℤ)
-
--- what is told of the channel in which each of so many actors keeps its state, where it has one, is so
-pub record AreFeedbacks (plan : Plan) (actors : ℕ) (feedbacks : List (Option Feedback)) : Type 0 where
-  pub counted : length feedbacks ≡ actors
-  pub each : (a : ℕ) → a < actors → IfSome (slice_index_or feedbacks a None) (IsFeedback plan a)
 
 -- the peaks of a core that has not moved
 abbrev pub first_peaks : Plan → List ℕ

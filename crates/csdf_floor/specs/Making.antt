@@ -2,11 +2,13 @@
 use Rattle.std.specs.Prelude.{ℕ, zero, suc, ◌≡◌, ◌+◌, ◌*◌, List, [], ◌++◌, ℤ, if◌then◌else◌, length, take, drop, slice_index_or, slice_set, replicate}
 use Rattle.csdf_model.specs.declared.parts.Kernel.{Kernel}
 use Rattle.csdf_model.specs.declared.parts.Kernel.TheVariants.{Sink}
-use Rattle.csdf_kernel.specs.Loop.{loop_values}
 use Rattle.csdf_kernel.specs.Value.{value_of}
+use Rattle.csdf_kernel.specs.Loop.{loop_values}
+use Rattle.csdf_core.specs.declared.engine.Block.{Block}
 use Rattle.csdf_core.specs.declared.feedback.Feedback.{Feedback}
-use Rattle.csdf_core.specs.Blocks.{needs_of, gifts_of}
-use Rattle.csdf_core.specs.Feedback.{AreReadWith, loop_reads}
+use Rattle.csdf_core.specs.Blocks.{gifts_of, needs_of}
+use Rattle.csdf_core.specs.Engine.{AreReadWith, CanFire}
+use Rattle.csdf_core.specs.Feedback.{loop_reads}
 use Rattle.csdf_core.specs.Shows.{View}
 use Rattle.csdf_core.specs.Moves.{Move}
 use Rattle.csdf_core.specs.Rows.{need, gift}
@@ -57,6 +59,16 @@ pub record AreOwnValues (f : FloorView) (a n : ℕ) (v : List ℤ) : Type 0 wher
   pub long : length tokens ≡ needs_of f.core.plan.channels a (count f.core.now a) n
   pub read : AreReadWith f.core.plan f.core.now a (count f.core.now a) n v tokens
   pub just : v ≡ made_value (program f.work) a (count f.core.now a) n tokens
+
+-- the block is one of the actor's next firings, which it can make
+pub record IsBlock (core : View) (a : ℕ) (b : Block) : Type 0 where
+  pub can : CanFire core.plan core.now a b.firings
+  pub needed : b.needed ≡ needs_of core.plan.channels a (count core.now a) b.firings
+  pub given : b.given ≡ gifts_of core.plan.channels a (count core.now a) b.firings
+
+-- what the actor could make with its next firing at the front it can make after it
+abbrev pub LeavesRest : View → View → ℕ → Type 0
+LeavesRest old new a = (m : ℕ) → CanFire old.plan old.now a (m + 1) → CanFire new.plan new.now a m
 
 -- the actor has made n firings more, of these moves, and nothing else has changed
 pub record HasMade (old new : FloorView) (a n : ℕ) (moves : List Move) : Type 0 where

@@ -6,26 +6,25 @@ ghost use Rattle.csdf_core.specs.Shows.{Shows};
 ghost use Rattle.csdf_core.specs.State.{opening};
 ghost use Rattle.csdf_journal.specs.View.{is_kept};
 ghost use Rattle.csdf_floor.specs.Beginnings.{IsBlank};
-ghost use Rattle.csdf_floor.specs.Inside.{AreFeedbacks, first_peaks};
+ghost use Rattle.csdf_floor.specs.Inside.{first_peaks};
 ghost use Rattle.csdf_floor.specs.Journal.{program_for};
 ghost use Rattle.csdf_floor.specs.Work.{AreFeeds, HasFewFirings, feeds_in};
 
-use crate::fed::Fed;
+use crate::fed::{Fed, RunBounds};
 use crate::limits::MAX_FEED_TOKENS;
 use crate::lists::Lists;
 use csdf_analysis::Accepted;
-use csdf_core::{Core, Feedback};
+use csdf_core::Core;
 use csdf_journal::{Journal, Keeping};
 use csdf_model::{Graph, MAX_FIRINGS_PER_ACTOR};
 use std::alloc::{AllocError, Global};
 
-/// All of a book that takes memory, but what it is made over: a core that has not moved, the channel in
-/// which each actor keeps its state, whether it has channels to itself at all, a journal of no moves with
-/// room for the closing of each channel, an empty list for each actor, and an empty buffer.
+/// All of a book that takes memory, but what it is made over: a core that has not moved, whether each actor
+/// has a channel to itself, a journal of no moves with room for the closing of each channel, an empty list
+/// for each actor, and an empty buffer.
 #[derive(Drop)]
 pub(crate) struct Blank {
     pub(crate) core: Core,
-    pub(crate) feedbacks: Vec<Option<Feedback>>,
     pub(crate) loops: Vec<bool>,
     pub(crate) journal: Journal,
     pub(crate) sinks: Lists,
@@ -64,29 +63,17 @@ fn core_of(
     alloc: Global,
     accepted: &Accepted,
     feeds: &[Vec<i32>],
-    periods: u32,
-    firings: Option<u32>,
+    bounds: RunBounds,
 ) -> Result<Core, AllocError>
     requires fed { AreFeeds accepted.now.graph (feeds_in feeds.now) }
-    requires few_firings { HasFewFirings accepted.now periods }
-    ensures plan { IfOk result (λ core. core.plan ≡ (program_for accepted.now (feeds_in feeds.now) periods firings).plan) }
+    requires few_firings { HasFewFirings accepted.now bounds.periods }
+    ensures plan { IfOk result (λ core. core.plan ≡ (program_for accepted.now (feeds_in feeds.now) bounds.periods bounds.firings).plan) }
     ensures opening { IfOk result (λ core. Shows core (opening core.plan)) }
     ensures peaks { IfOk result (λ core. core.peaks ≡ map length (map (λ (c : ChannelModel). c.initial) core.plan.channels)) }
 {
-    let limits = limits_of(alloc, accepted, periods)?;
+    let limits = limits_of(alloc, accepted, bounds.periods)?;
     let supply = supplies_of(alloc, feeds)?;
-    Core::new(alloc, accepted, limits, supply, firings)
-}
-
-/// The channel in which each actor keeps its state, where it has one.
-fn feedbacks_of(alloc: Global, core: &Core) -> Result<Vec<Option<Feedback>>, AllocError>
-    ensures { IfOk result (λ feedbacks. AreFeedbacks core.now.plan (length core.now.plan.sources) feedbacks.items) }
-{
-    let mut feedbacks = Vec::new(alloc);
-    for actor in 0..core.actors() {
-        feedbacks.push(core.feedback(actor))?;
-    }
-    Ok(feedbacks)
+    Core::new(alloc, accepted, limits, supply, bounds.firings)
 }
 
 /// As many empty buffers.
@@ -146,12 +133,10 @@ fn parts_of(
     ensures blank { IfOk result (IsBlank core.plan) }
     ensures keeps { IfOk result (λ blank. blank.journal.keeps ≡ is_kept keeping) }
 {
-    let feedbacks = feedbacks_of(alloc, &core)?;
     let journal = empty_journal(alloc, keeping, core.channels() as usize)?;
     let (sinks, reads) = no_tokens(alloc, core.actors())?;
     Ok(Blank {
         core,
-        feedbacks,
         loops,
         journal,
         sinks,
@@ -160,20 +145,19 @@ fn parts_of(
 }
 
 impl Blank {
-    /// That of so many periods of the graph over these feeds. An error says that memory ran out.
+    /// That of a run of the graph over these feeds. An error says that memory ran out.
     pub(crate) fn of(
         alloc: Global,
         fed: &Fed,
-        periods: u32,
-        firings: Option<u32>,
+        bounds: RunBounds,
         keeping: Keeping,
     ) -> Result<Blank, AllocError>
         requires fed { AreFeeds fed.now.accepted.graph (feeds_in fed.now.feeds.items) }
-        requires few_firings { HasFewFirings fed.now.accepted periods }
-        ensures blank { IfOk result (IsBlank (program_for fed.now.accepted (feeds_in fed.now.feeds.items) periods firings).plan) }
+        requires few_firings { HasFewFirings fed.now.accepted bounds.periods }
+        ensures blank { IfOk result (IsBlank (program_for fed.now.accepted (feeds_in fed.now.feeds.items) bounds.periods bounds.firings).plan) }
         ensures keeps { IfOk result (λ blank. blank.journal.keeps ≡ is_kept keeping) }
     {
-        let core = core_of(alloc, &fed.accepted, &fed.feeds, periods, firings)?;
+        let core = core_of(alloc, &fed.accepted, &fed.feeds, bounds)?;
         let loops = loops_of(alloc, fed.accepted.graph())?;
         parts_of(alloc, core, loops, keeping)
     }

@@ -24,7 +24,7 @@ ghost use Rattle.csdf_floor.specs.Beginnings.{IsBlank};
 
 use crate::blank::Blank;
 use crate::counts::{are_counts, put_counts};
-use crate::fed::Fed;
+use crate::fed::{Fed, RunBounds};
 use crate::lists::Lists;
 use crate::outcome::ChannelReport;
 use crate::same::{are_same_tokens, is_same_kernel};
@@ -76,13 +76,13 @@ impl Model for Book {
 }
 
 impl Book {
-    /// The book of a core that has not moved, of so many periods of the graph over these feeds.
-    pub(crate) fn open(fed: Fed, periods: u32, firings: Option<u32>, blank: Blank) -> Book
+    /// The book of a core that has not moved, of a run of the graph over these feeds.
+    pub(crate) fn open(fed: Fed, bounds: RunBounds, blank: Blank) -> Book
         requires fed { AreFeeds fed.accepted.graph (feeds_in fed.feeds.items) }
-        requires some_period { 1 ≤ periods }
-        requires few_firings { HasFewFirings fed.accepted periods }
-        requires blank { IsBlank (program_for fed.accepted (feeds_in fed.feeds.items) periods firings).plan blank }
-        ensures work { result.shown.work ≡ record { accepted = fed.accepted; feeds = feeds_in fed.feeds.items; periods = periods; firings = firings } }
+        requires some_period { 1 ≤ bounds.periods }
+        requires few_firings { HasFewFirings fed.accepted bounds.periods }
+        requires blank { IsBlank (program_for fed.accepted (feeds_in fed.feeds.items) bounds.periods bounds.firings).plan blank }
+        ensures work { result.shown.work ≡ record { accepted = fed.accepted; feeds = feeds_in fed.feeds.items; periods = bounds.periods; firings = bounds.firings } }
         ensures journal { result.shown.journal ≡ [] }
         ensures keeps { result.shown.keeps ≡ blank.journal.keeps }
         ensures opening { result.shown.core.now ≡ present (opening result.shown.core.plan) }
@@ -90,13 +90,12 @@ impl Book {
     {
         let Blank {
             core,
-            feedbacks,
             loops,
             journal,
             sinks,
             reads,
         } = blank;
-        let work = Work::new(fed, periods, firings, feedbacks, loops);
+        let work = Work::new(fed, bounds, loops);
         Book {
             work,
             core,
@@ -457,6 +456,7 @@ impl Book {
 
     /// How many tokens the actor's next firing writes to each output, in file order, in the place of
     /// what the list holds.
+    #[inline(always)]
     pub(crate) fn counts_into(&self, actor: u32, counts: &mut Counts) -> Result<(), AllocError>
         requires { actor < length self.now.shown.core.plan.sources }
         ensures value { OnOk result (counts.new.items ≡ output_counts (program self.now.shown.work) actor (count self.now.shown.core.now actor)) }

@@ -3,16 +3,17 @@
 ghost use Rattle.std.specs.Prelude.{◌≡◌, ◌↔◌, ◌<◌, ◌≤◌, ◌*◌, IsTrue, IfOk, IfSome, OnOk, OnErr, None, [], false, true, length, option_map, slice_index_or};
 ghost use Rattle.csdf_model.specs.declared.parts.Kernel.TheVariants.{Sink};
 ghost use Rattle.csdf_core.specs.declared.stage.Stage.TheVariants.{Idle};
-ghost use Rattle.csdf_core.specs.Blocks.{AreReadEach, CanFire, needs_of};
+ghost use Rattle.csdf_core.specs.Blocks.{AreReadEach, HoldAll, needs_of, takes_at};
+ghost use Rattle.csdf_core.specs.Engine.{CanFire};
 ghost use Rattle.csdf_core.specs.Moves.{Begin};
 ghost use Rattle.csdf_core.specs.Phases.{HasPhases};
-ghost use Rattle.csdf_core.specs.Ports.{outputs_at};
+ghost use Rattle.csdf_core.specs.Ports.{inputs_at, outputs_at};
 ghost use Rattle.csdf_core.specs.Rows.{need};
 ghost use Rattle.csdf_core.specs.Step.{count, is_source, refusal, stage};
 ghost use Rattle.csdf_floor.specs.declared.fault.StartFault.TheVariants.{Refused};
 ghost use Rattle.csdf_floor.specs.Floor.{IsStartAnswer};
 ghost use Rattle.csdf_floor.specs.Drafts.{IsDraftOf, Suits, products_of, taps_of};
-ghost use Rattle.csdf_floor.specs.Making.{HasMade, made_moves};
+ghost use Rattle.csdf_floor.specs.Making.{HasMade, IsBlock, made_moves};
 ghost use Rattle.csdf_floor.specs.Work.{program};
 
 use crate::book::Book;
@@ -42,7 +43,9 @@ fn read_ahead(
     needed: usize,
     inputs: &mut Vec<i32>,
 ) -> Result<(), AllocError>
+    requires exists { actor < length core.now.plan.sources }
     requires can { CanFire core.now.plan core.now.now actor n }
+    requires held { HoldAll core.now.now.tokens (takes_at core.now.plan.channels (count core.now.now actor) n) (inputs_at core.now.plan.channels actor) }
     requires needed { needed ≡ needs_of core.now.plan.channels actor (count core.now.now actor) n }
     ensures read { OnOk result (AreReadEach core.now.plan core.now.now actor (count core.now.now actor) n inputs.new.items) }
     ensures long { OnOk result (length inputs.new.items ≡ needed) }
@@ -63,6 +66,19 @@ impl Book {
         n as usize * self.core.need(actor)
     }
 
+    /// Whether the actor makes its next n firings at once, where so many are asked for.
+    fn can_make(&self, actor: u32, n: u32) -> bool
+        requires { actor < length self.now.shown.core.plan.sources }
+        ensures can { IsTrue result → CanFire self.now.shown.core.plan self.now.shown.core.now actor n }
+        ensures held { IsTrue result → HoldAll self.now.shown.core.now.tokens
+            (takes_at self.now.shown.core.plan.channels (count self.now.shown.core.now actor) n) (inputs_at self.now.shown.core.plan.channels actor) }
+    {
+        if self.block(actor, n).firings != n {
+            return false;
+        }
+        self.core.holds(actor, n)
+    }
+
     /// Whether the draft has what the actor's next firings compute from, but for their tokens.
     fn suits(&self, actor: u32, draft: &Draft) -> bool
         requires { actor < length self.now.shown.core.plan.sources }
@@ -72,7 +88,7 @@ impl Book {
             return false;
         }
         let n = draft.firings();
-        if !self.core.has_one_phase(actor) || !self.core.can_fire(actor, n) {
+        if !self.core.has_one_phase(actor) || !self.can_make(actor, n) {
             return false;
         }
         if !self.are_counts(actor, draft.counts()) {
@@ -93,6 +109,8 @@ impl Book {
     /// Makes the firings of the draft, which was evaluated and suits the actor, where these are the
     /// tokens that they read. False where they are not; then nothing is made.
     fn make_suited(&mut self, alloc: Global, actor: u32, draft: &Draft) -> Result<bool, AllocError>
+        requires exists { actor < length self.old.shown.core.plan.sources }
+        requires some { 0 < draft.now.firings }
         requires suits { Suits self.old.shown actor draft.now }
         requires made { draft.now.is_made ≡ true }
         ensures made { IfOk result (λ is_made. IsTrue is_made
@@ -116,6 +134,7 @@ impl Book {
     /// where not; then nothing is made. An error comes only where the first may begin.
     fn make_drafted(&mut self, alloc: Global, actor: u32, draft: &Draft) -> Result<bool, AllocError>
         requires exists { actor < length self.old.shown.core.plan.sources }
+        requires some { 0 < draft.now.firings }
         ensures begins { IfOk result (λ is_made. IsTrue is_made
             → refusal self.old.shown.core.plan self.old.shown.core.now (Begin actor) ≡ None) }
         ensures may_begin { OnErr result (refusal self.old.shown.core.plan self.old.shown.core.now (Begin actor) ≡ None) }
@@ -176,9 +195,9 @@ impl Book {
         requires { actor < length self.now.shown.core.plan.sources }
         ensures some { IfSome result (λ block. 0 < block.firings) }
         ensures most { IfSome result (λ block. block.firings ≤ most) }
-        ensures can { IfSome result (λ block. CanFire self.now.shown.core.plan self.now.shown.core.now actor block.firings) }
-        ensures needed { IfSome result (λ block. block.needed
-            ≡ needs_of self.now.shown.core.plan.channels actor (count self.now.shown.core.now actor) block.firings) }
+        ensures block { IfSome result (IsBlock self.now.shown.core actor) }
+        ensures held { IfSome result (λ block. HoldAll self.now.shown.core.now.tokens
+            (takes_at self.now.shown.core.plan.channels (count self.now.shown.core.now actor) block.firings) (inputs_at self.now.shown.core.plan.channels actor)) }
         ensures phases { IfSome result (λ block. HasPhases self.now.shown.core.plan.channels actor 1) }
         ensures other { IfSome result (λ block. is_source (program self.now.shown.work).plan actor ≡ false) }
         ensures heavy { IfSome result (λ block. heavy ≤ block.firings * need actor (count self.now.shown.core.now actor) self.now.shown.core.plan.channels
@@ -195,6 +214,9 @@ impl Book {
         }
         let block = self.block(actor, most);
         if block.firings == 0 || self.products(actor, block.firings) < heavy {
+            return None;
+        }
+        if !self.core.holds(actor, block.firings) {
             return None;
         }
         Some(block)

@@ -9,7 +9,7 @@ use csdf_analysis::Accepted;
 use csdf_model::{Channel, Graph};
 
 /// How many tokens the actor's first `firings` firings put into the channel.
-fn given_to(channel: &Channel, actor: u32, firings: u32) -> u64
+pub fn given_to(channel: &Channel, actor: u32, firings: u32) -> u64
     ensures { result ≡ given_to actor firings (channel_view channel.now) }
 {
     if channel.from == actor {

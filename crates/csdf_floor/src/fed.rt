@@ -1,4 +1,4 @@
-//! What a floor is made over.
+//! What a floor is made over, and for how long it runs.
 
 ghost use Rattle.std.specs.Prelude.{◌≡◌, IfOk};
 ghost use Rattle.csdf_floor.specs.Work.{feeds_in};
@@ -13,6 +13,15 @@ pub struct Fed {
     pub accepted: Accepted,
     /// The tokens for each actor.
     pub feeds: Vec<Vec<i32>>,
+}
+
+/// How long a run goes on.
+#[derive(Clone, Copy, Debug)]
+pub struct RunBounds {
+    /// For how many periods, at most.
+    pub periods: u32,
+    /// The most firings of all actors together; no limit where it is absent.
+    pub firings: Option<u32>,
 }
 
 /// A copy of the lists.

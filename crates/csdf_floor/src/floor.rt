@@ -24,7 +24,7 @@ use crate::book::Book;
 use crate::draft::Draft;
 use crate::ending::ending_of;
 use crate::fault::{DeliverFault, RunFault, StartFault};
-use crate::fed::Fed;
+use crate::fed::{Fed, RunBounds};
 use crate::outcome::{Outcome, Settled};
 use csdf_analysis::Accepted;
 use csdf_core::{Core, Move};
@@ -80,7 +80,8 @@ impl Floor {
             ≡ closes floor.core.plan (present (opening floor.core.plan)) (range_with_len 0 (length floor.core.plan.channels))) }
         ensures keeps { IfOk result (λ floor. floor.keeps ≡ true) }
     {
-        Floor::with_journal(alloc, accepted, feeds, periods, firings, Keeping::Kept)
+        let bounds = RunBounds { periods, firings };
+        Floor::with_journal(alloc, accepted, feeds, bounds, Keeping::Kept)
     }
 
     /// As [`Floor::new`], with a journal that is kept or not. One that is not kept takes no memory.
@@ -88,21 +89,20 @@ impl Floor {
         alloc: Global,
         accepted: &Accepted,
         feeds: &[Vec<i32>],
-        periods: u32,
-        firings: Option<u32>,
+        bounds: RunBounds,
         keeping: Keeping,
     ) -> Result<Floor, AllocError>
         requires fed { AreFeeds accepted.now.graph (feeds_in feeds.now) }
-        requires some_period { 1 ≤ periods }
-        requires few_firings { HasFewFirings accepted.now periods }
+        requires some_period { 1 ≤ bounds.periods }
+        requires few_firings { HasFewFirings accepted.now bounds.periods }
         ensures work { IfOk result (λ floor. floor.work
-            ≡ record { accepted = accepted.now; feeds = feeds_in feeds.now; periods = periods; firings = firings }) }
+            ≡ record { accepted = accepted.now; feeds = feeds_in feeds.now; periods = bounds.periods; firings = bounds.firings }) }
         ensures journal { IfOk result (λ floor. floor.journal
             ≡ closes floor.core.plan (present (opening floor.core.plan)) (range_with_len 0 (length floor.core.plan.channels))) }
         ensures keeps { IfOk result (λ floor. floor.keeps ≡ is_kept keeping) }
     {
         let fed = Fed::copied(alloc, accepted, feeds)?;
-        match Floor::over(alloc, fed, periods, firings, keeping) {
+        match Floor::over(alloc, fed, bounds, keeping) {
             Ok(floor) => Ok(floor),
             Err(_fed) => Err(AllocError),
         }
@@ -112,28 +112,22 @@ impl Floor {
     /// [`settle_and_hand_back`](crate::settle_and_hand_back) and [`Floor::into_fed`] hand them back.
     ///
     /// An error says that memory ran out, and hands them back as well.
-    pub fn over(
-        alloc: Global,
-        fed: Fed,
-        periods: u32,
-        firings: Option<u32>,
-        keeping: Keeping,
-    ) -> Result<Floor, Fed>
+    pub fn over(alloc: Global, fed: Fed, bounds: RunBounds, keeping: Keeping) -> Result<Floor, Fed>
         requires fed { AreFeeds fed.accepted.graph (feeds_in fed.feeds.items) }
-        requires some_period { 1 ≤ periods }
-        requires few_firings { HasFewFirings fed.accepted periods }
+        requires some_period { 1 ≤ bounds.periods }
+        requires few_firings { HasFewFirings fed.accepted bounds.periods }
         ensures work { IfOk result (λ floor. floor.work
-            ≡ record { accepted = fed.accepted; feeds = feeds_in fed.feeds.items; periods = periods; firings = firings }) }
+            ≡ record { accepted = fed.accepted; feeds = feeds_in fed.feeds.items; periods = bounds.periods; firings = bounds.firings }) }
         ensures journal { IfOk result (λ floor. floor.journal
             ≡ closes floor.core.plan (present (opening floor.core.plan)) (range_with_len 0 (length floor.core.plan.channels))) }
         ensures keeps { IfOk result (λ floor. floor.keeps ≡ is_kept keeping) }
         ensures back { IfErr result (λ back. back ≡ fed) }
     {
-        let blank = match Blank::of(alloc, &fed, periods, firings, keeping) {
+        let blank = match Blank::of(alloc, &fed, bounds, keeping) {
             Ok(blank) => blank,
             Err(_error) => return Err(fed),
         };
-        let mut book = Book::open(fed, periods, firings, blank);
+        let mut book = Book::open(fed, bounds, blank);
         book.close_at_first();
         Ok(Floor { book })
     }
@@ -256,11 +250,8 @@ impl Floor {
     /// Makes the actor's next firings, where it stands at this firing, and closes its outputs where it
     /// makes no firing more. It answers how many they are: at most so many, and at least one where
     /// `most` is. It goes on until so many are made, the next one is refused, or memory runs out after
-    /// the first; an actor with a channel to itself may also be left after a block. Firings are made in
-    /// blocks by an actor of one phase, and by one of several phases that can make some; else one by one.
-    /// Of an actor with channels to itself a block has as many firings as the tokens in these suffice
-    /// for, unless they are the state of an actor of one phase; and where these are few, its firings are
-    /// made one by one.
+    /// the first. Those that find all that they read are made at once, and so are those of an actor that
+    /// keeps a state in one channel; any others are made one after the other.
     ///
     /// The refusals are those of [`Floor::start`], and a refusal changes nothing that a reader shows.
     /// The lists are only worked in.
@@ -400,17 +391,11 @@ impl Floor {
     }
 
     /// Whether this is a floor of such a run.
-    pub(crate) fn is_of(
-        &self,
-        accepted: &Accepted,
-        feeds: &[Vec<i32>],
-        periods: u32,
-        firings: Option<u32>,
-    ) -> bool
+    pub(crate) fn is_of(&self, accepted: &Accepted, feeds: &[Vec<i32>], bounds: RunBounds) -> bool
         ensures { IsTrue result ↔ (self.now.work
-            ≡ record { accepted = accepted.now; feeds = feeds_in feeds.now; periods = periods; firings = firings }) }
+            ≡ record { accepted = accepted.now; feeds = feeds_in feeds.now; periods = bounds.periods; firings = bounds.firings }) }
     {
-        self.book.work().is(accepted, feeds, periods, firings)
+        self.book.work().is(accepted, feeds, bounds)
     }
 
     /// Whether each actor has finished as many firings, and none can go on.
@@ -420,8 +405,9 @@ impl Floor {
         self.book.has_counts(totals) && self.book.core().is_quiet()
     }
 
-    /// What a floor that is quiet was made over, and its outcome.
-    pub(crate) fn into_settled(self, alloc: Global) -> Settled
+    /// What a floor that is quiet was made over, and its outcome: the end of a run whose firings the floor
+    /// alone counts. The error of the outcome says that memory ran out. See [`settle`](crate::settle).
+    pub fn into_settled(self, alloc: Global) -> Settled
         requires { IsQuiet self.core.plan self.core.now }
         ensures accepted { result.fed.accepted ≡ self.work.accepted }
         ensures feeds { feeds_in result.fed.feeds.items ≡ self.work.feeds }

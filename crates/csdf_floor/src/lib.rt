@@ -27,9 +27,9 @@ mod work;
 
 pub use draft::Draft;
 pub use ending::Ending;
-pub use exact::are_exact;
+pub use exact::{are_exact, given_to};
 pub use fault::{DeliverFault, RunFault, StartFault};
-pub use fed::Fed;
+pub use fed::{Fed, RunBounds};
 pub use floor::Floor;
 pub use laws::{
     agree, ask_as_at_first, begins_no_more, can_be_played_whole, capacities_do_not_show,
@@ -40,6 +40,7 @@ pub use laws::{
     segments_are_one_run, sequential_is_honest, stay_in_step, stays_counted, stays_within,
 };
 pub use limits::{MAX_FEED_TOKENS, few_in_thousand, may_run, most_periods};
+pub use lists::list_at;
 pub use outcome::{ChannelReport, Outcome, Settled};
 pub use printed::{ending_word, printed_report};
 pub use settling::{settle, settle_and_hand_back};

@@ -2,6 +2,7 @@
 
 ghost use Rattle.std.specs.Prelude.{◌≡◌, ◌<◌, ◌≤◌, ◌++◌, [], if◌then◌else◌, IsTrue, All, IfOk, OnOk, length, map, replicate, slice_index};
 ghost use Rattle.std.specs.Prelude.{slice_index_or, slice_set};
+ghost use Rattle.csdf_floor.specs.Work.{feeds_in};
 
 use std::alloc::{AllocError, Global};
 use std::marker::Model;
@@ -77,5 +78,15 @@ impl Lists {
         if wanted {
             self.append(actor, tokens);
         }
+    }
+}
+
+/// The list with this number; the empty list where there is none.
+pub fn list_at(lists: &[Vec<i32>], number: usize) -> &[i32]
+    ensures { result.now ≡ slice_index_or (feeds_in lists.now) number [] }
+{
+    match lists.get(number) {
+        Some(list) => list.as_slice(),
+        None => &[],
     }
 }

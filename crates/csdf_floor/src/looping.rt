@@ -58,25 +58,18 @@ fn own_values(
 }
 
 impl Book {
-    /// How many of its next firings an actor that keeps its state in a channel to itself can make at once, at most so
-    /// many and at least one, and that channel. `None` where it can't, and for a sink.
-    pub(crate) fn goes_on(&self, actor: u32, most: u32) -> Option<(Feedback, u32)>
+    /// The channel in which an actor keeps its state, where it can make its next n firings in one go. `None`
+    /// for a sink.
+    pub(crate) fn goes_on(&self, actor: u32, n: u32) -> Option<Feedback>
         requires { actor < length self.now.shown.core.plan.sources }
-        ensures most { IfSome result (λ r. r.1 ≤ most) }
-        ensures some { IfSome result (λ r. 0 < r.1) }
-        ensures feedback { IfSome result (λ r. IsFeedback self.now.shown.core.plan actor r.0) }
-        ensures can { IfSome result (λ r. CanGoOn self.now.shown.core.plan self.now.shown.core.now actor r.0.channel r.1) }
-        ensures other { IfSome result (λ r. is_sink_kernel (slice_index_or (program self.now.shown.work).kernels actor Sink) ≡ false) }
+        ensures feedback { IfSome result (IsFeedback self.now.shown.core.plan actor) }
+        ensures can { IfSome result (λ f. CanGoOn self.now.shown.core.plan self.now.shown.core.now actor f.channel n) }
+        ensures other { IfSome result (λ f. is_sink_kernel (slice_index_or (program self.now.shown.work).kernels actor Sink) ≡ false) }
     {
-        let feedback = self.work.feedback(actor)?;
         if self.work.is_sink(actor) {
             return None;
         }
-        let n = self.core.goes_on(actor, feedback, most);
-        if n == 0 {
-            return None;
-        }
-        Some((feedback, n))
+        self.core.goes_on(actor, n)
     }
 
     /// The kernel's values of the actor's next n firings, in the place of what the outputs hold. The buffer is long
@@ -131,6 +124,7 @@ impl Book {
         ensures made { OnOk result (HasMade self.old.shown self.new.shown actor n (made_moves self.old.shown actor n)) }
         ensures room { OnOk result (self.old.room ≤ self.new.room + 4 * n) }
         ensures unchanged { OnErr result (self.new.shown ≡ self.old.shown) }
+        ensures room_stays { OnErr result (self.old.room ≤ self.new.room) }
     {
         note_firings(&self.core, &mut self.journal, alloc, actor, n, tokens)?;
         self.core.go_on(actor, feedback, n, tokens);
@@ -138,7 +132,7 @@ impl Book {
     }
 
     /// Makes the actor's next n firings at once.
-    pub(crate) fn make_on(
+    pub(crate) fn make_with_state(
         &mut self,
         actor: u32,
         feedback: Feedback,
@@ -152,6 +146,7 @@ impl Book {
         ensures made { OnOk result (HasMade self.old.shown self.new.shown actor n (made_moves self.old.shown actor n)) }
         ensures room { OnOk result (length (outputs_at self.old.shown.core.plan.channels actor) ≤ self.new.room) }
         ensures unchanged { OnErr result (self.new.shown ≡ self.old.shown) }
+        ensures room_stays { OnErr result (self.old.room ≤ self.new.room) }
     {
         let taken = feedback.taken as usize;
         let each = feedback.each as usize;

@@ -1,32 +1,32 @@
-//! Several firings of one actor, made at once or one after another.
+//! Several firings of one actor, made at once.
 
 ghost use Rattle.std.specs.Prelude.{◌≡◌, ◌≤◌, ◌+◌, ◌*◌, ◌++◌, false, length, ◌↔◌, IsTrue, All, ◌<◌, [], None, true, IfOk, OnOk, OnErr, option_map, slice_index, slice_index_or};
-ghost use Rattle.csdf_floor.specs.Making.{HasMade, amount_of, made_moves, made_value};
+ghost use Rattle.csdf_floor.specs.Making.{HasMade, IsBlock, LeavesRest, amount_of, made_moves, made_value};
 ghost use Rattle.csdf_model.specs.declared.parts.Kernel.TheVariants.{Sink};
 ghost use Rattle.csdf_core.specs.declared.stage.Stage.TheVariants.{Idle};
-ghost use Rattle.csdf_core.specs.Blocks.{CanFire, AreReadEach, gifts_of, needs_of};
+ghost use Rattle.csdf_core.specs.Blocks.{AreReadEach, HoldAll, gifts_of, needs_of, takes_at};
+ghost use Rattle.csdf_core.specs.Engine.{CanFire};
 ghost use Rattle.csdf_core.specs.Moves.{Begin};
 ghost use Rattle.csdf_core.specs.Phases.{HasPhases};
-ghost use Rattle.csdf_core.specs.Ports.{outputs_at};
+ghost use Rattle.csdf_core.specs.Ports.{inputs_at, outputs_at};
 ghost use Rattle.csdf_core.specs.Rows.{need, gift};
 ghost use Rattle.csdf_core.specs.State.{present};
 ghost use Rattle.csdf_core.specs.Step.{count, given, is_source, stage, refusal};
-ghost use Rattle.csdf_floor.specs.Journal.{IsHonest, inputs, output_counts, value};
+ghost use Rattle.csdf_floor.specs.Journal.{IsHonest, inputs};
 ghost use Rattle.csdf_floor.specs.Work.{program, is_sink_kernel};
 ghost use Rattle.csdf_floor.specs.declared.fault.StartFault.TheVariants.{Refused};
 ghost use Rattle.csdf_floor.specs.Floor.{IsStartAnswer};
-ghost use Rattle.csdf_floor.specs.Inside.{HasRoom};
 
 use crate::book::Book;
 use crate::fault::StartFault;
 use crate::noting::note_firings;
 use csdf_core::Block;
 use csdf_kernel::{Counts, Outputs, eval_block};
-use csdf_model::{MAX_CHANNELS, MAX_TOKENS_PER_FIRING, MAX_TOTAL_PER_FIRING};
+use csdf_model::MAX_TOTAL_PER_FIRING;
 use std::alloc::{AllocError, Global};
 
-/// From how many firings on an actor with a channel to itself makes a block, where it could go on.
-const LONG_LOOP: u32 = 4;
+/// For so many firings a delay line holds the tokens where they are made at once and not one after the other.
+const LONG_DELAY: u32 = 16;
 
 impl Book {
     /// Makes the buffer of the actor, which is idle, this long.
@@ -58,7 +58,11 @@ impl Book {
 
     /// Copies what the actor's next n firings read into its buffer, which is as long.
     pub(crate) fn peek(&mut self, actor: u32, n: u32)
+        requires exists { actor < length self.old.shown.core.plan.sources }
+        requires some { 0 < n }
         requires can { CanFire self.old.shown.core.plan self.old.shown.core.now actor n }
+        requires held { HoldAll self.old.shown.core.now.tokens (takes_at self.old.shown.core.plan.channels (count self.old.shown.core.now actor) n)
+            (inputs_at self.old.shown.core.plan.channels actor) }
         requires buffer { length (slice_index_or self.old.reads actor [])
             ≡ needs_of self.old.shown.core.plan.channels actor (count self.old.shown.core.now actor) n }
         ensures shown { self.new.shown ≡ self.old.shown }
@@ -106,12 +110,15 @@ impl Book {
         counts: &mut Counts,
         outputs: &mut Outputs,
     ) -> Result<(), AllocError>
+        requires exists { actor < length self.now.shown.core.plan.sources }
+        requires some { 0 < n }
         requires can { CanFire self.now.shown.core.plan self.now.shown.core.now actor n }
         requires source { is_source (program self.now.shown.work).plan actor ≡ true }
         requires phases { HasPhases self.now.shown.core.plan.channels actor 1 }
         ensures { OnOk result (outputs.new.items ≡ made_value (program self.now.shown.work) actor (count self.now.shown.core.now actor) n
             (slice_index_or self.now.reads actor [])) }
     {
+        self.core.keeps_within(actor, n);
         self.counts_into(actor, counts)?;
         let kernel = self.work.kernel(actor);
         let each = self.core.gives(actor);
@@ -129,6 +136,8 @@ impl Book {
         counts: &mut Counts,
         outputs: &mut Outputs,
     ) -> Result<(), AllocError>
+        requires exists { actor < length self.now.shown.core.plan.sources }
+        requires some { 0 < block.firings }
         requires can { CanFire self.now.shown.core.plan self.now.shown.core.now actor block.firings }
         requires given { block.given ≡ gifts_of self.now.shown.core.plan.channels actor (count self.now.shown.core.now actor) block.firings }
         requires buffer { length (slice_index_or self.now.reads actor [])
@@ -154,6 +163,8 @@ impl Book {
         n: u32,
         tokens: &[i32],
     ) -> Result<(), AllocError>
+        requires exists { actor < length self.old.shown.core.plan.sources }
+        requires some { 0 < n }
         requires can { CanFire self.old.shown.core.plan self.old.shown.core.now actor n }
         requires buffer { length (slice_index_or self.old.reads actor [])
             ≡ needs_of self.old.shown.core.plan.channels actor (count self.old.shown.core.now actor) n }
@@ -164,10 +175,12 @@ impl Book {
         requires just { tokens.now ≡ made_value (program self.old.shown.work) actor (count self.old.shown.core.now actor) n
             (slice_index_or self.old.reads actor []) }
         ensures made { OnOk result (HasMade self.old.shown self.new.shown actor n (made_moves self.old.shown actor n)) }
+        ensures rest { OnOk result (n ≡ 1 → LeavesRest self.old.shown.core self.new.shown.core actor) }
         ensures room { OnOk result (self.old.room ≤ self.new.room + 4 * n) }
         ensures unchanged { OnErr result (self.new.shown ≡ self.old.shown) }
         ensures room_stays { OnErr result (self.old.room ≤ self.new.room) }
     {
+        self.core.keeps_within(actor, n);
         note_firings(&self.core, &mut self.journal, alloc, actor, n, tokens)?;
         self.core.fire(actor, n, tokens);
         let is_sink = self.work.is_sink(actor);
@@ -176,26 +189,20 @@ impl Book {
         Ok(())
     }
 
-    /// How many of its next firings the actor can make at once, at most so many. None of them reads what
-    /// another one writes (else see [`goes_on`](Book::goes_on)). With several phases it may be fewer than
-    /// it can make (see [`phased_block`](Book::phased_block)).
+    /// The actor's next firings that it can make one after another, at most so many.
     pub(crate) fn block(&self, actor: u32, most: u32) -> Block
         requires { actor < length self.now.shown.core.plan.sources }
         ensures most { result.firings ≤ most }
-        ensures can { 0 < result.firings → CanFire self.now.shown.core.plan self.now.shown.core.now actor result.firings }
-        ensures needed { 0 < result.firings → result.needed
-            ≡ needs_of self.now.shown.core.plan.channels actor (count self.now.shown.core.now actor) result.firings }
-        ensures given { 0 < result.firings → result.given
-            ≡ gifts_of self.now.shown.core.plan.channels actor (count self.now.shown.core.now actor) result.firings }
+        ensures some { 0 < most → refusal self.now.shown.core.plan self.now.shown.core.now (Begin actor) ≡ None → 0 < result.firings }
+        ensures block { IsBlock self.now.shown.core actor result }
     {
-        if self.core.has_one_phase(actor) || self.is_wide_and_long(actor) {
-            return self.core.block(actor, most);
-        }
-        self.phased_block(actor, most)
+        let _ = &self.work;
+        self.core.ahead(actor, most)
     }
 
     /// Makes room for the actor's next n firings, with a buffer for so many tokens, and the closing of its
     /// outputs.
+    #[inline(always)]
     pub(crate) fn make_room_for(
         &mut self,
         alloc: Global,
@@ -221,7 +228,7 @@ impl Book {
         self.reserve(4 * n as usize + closes)
     }
 
-    /// Makes the block: the actor's next firings, at once.
+    /// Makes the block at once: the actor's next firings, which find all that they read.
     pub(crate) fn make(
         &mut self,
         actor: u32,
@@ -229,10 +236,13 @@ impl Book {
         counts: &mut Counts,
         outputs: &mut Outputs,
     ) -> Result<(), AllocError>
-        requires can { CanFire self.old.shown.core.plan self.old.shown.core.now actor block.firings }
-        requires needed { block.needed ≡ needs_of self.old.shown.core.plan.channels actor (count self.old.shown.core.now actor) block.firings }
-        requires given { block.given ≡ gifts_of self.old.shown.core.plan.channels actor (count self.old.shown.core.now actor) block.firings }
+        requires exists { actor < length self.old.shown.core.plan.sources }
+        requires some { 0 < block.firings }
+        requires block { IsBlock self.old.shown.core actor block }
+        requires held { HoldAll self.old.shown.core.now.tokens (takes_at self.old.shown.core.plan.channels (count self.old.shown.core.now actor) block.firings)
+            (inputs_at self.old.shown.core.plan.channels actor) }
         ensures made { OnOk result (HasMade self.old.shown self.new.shown actor block.firings (made_moves self.old.shown actor block.firings)) }
+        ensures rest { OnOk result (block.firings ≡ 1 → LeavesRest self.old.shown.core self.new.shown.core actor) }
         ensures room { OnOk result (length (outputs_at self.old.shown.core.plan.channels actor) ≤ self.new.room) }
         ensures unchanged { OnErr result (self.new.shown ≡ self.old.shown) }
         ensures room_stays { OnErr result (self.old.room ≤ self.new.room) }
@@ -243,6 +253,98 @@ impl Book {
         self.peek(actor, n);
         self.block_values_into(actor, block, counts, outputs)?;
         self.fire(alloc, actor, n, outputs.as_slice())
+    }
+
+    /// Makes the actor's next firing, which it can make.
+    fn make_next(
+        &mut self,
+        actor: u32,
+        counts: &mut Counts,
+        outputs: &mut Outputs,
+    ) -> Result<(), AllocError>
+        requires exists { actor < length self.old.shown.core.plan.sources }
+        requires can { CanFire self.old.shown.core.plan self.old.shown.core.now actor 1 }
+        ensures made { OnOk result (HasMade self.old.shown self.new.shown actor 1 (made_moves self.old.shown actor 1)) }
+        ensures rest { OnOk result (LeavesRest self.old.shown.core self.new.shown.core actor) }
+        ensures room { OnOk result (length (outputs_at self.old.shown.core.plan.channels actor) ≤ self.new.room) }
+        ensures unchanged { OnErr result (self.new.shown ≡ self.old.shown) }
+        ensures room_stays { OnErr result (self.old.room ≤ self.new.room) }
+        ensures before { IsHonest (program self.old.shown.work) self.old.shown.journal }
+    {
+        let _held = self.core.holds(actor, 1);
+        let block = Block {
+            firings: 1,
+            needed: self.core.need(actor) as u64,
+            given: self.core.gives(actor) as u64,
+        };
+        self.make(actor, block, counts, outputs)
+    }
+
+    /// Makes the actor's next n firings, which it can make, one after the other: what one of them writes
+    /// may be read by a later one. It makes fewer where memory runs out after the first.
+    fn make_each(
+        &mut self,
+        actor: u32,
+        n: u32,
+        counts: &mut Counts,
+        outputs: &mut Outputs,
+    ) -> Result<u32, AllocError>
+        requires exists { actor < length self.old.shown.core.plan.sources }
+        requires some { 0 < n }
+        requires can { CanFire self.old.shown.core.plan self.old.shown.core.now actor n }
+        ensures some { IfOk result (λ made. 0 < made) }
+        ensures most { IfOk result (λ made. made ≤ n) }
+        ensures made { IfOk result (λ made. HasMade self.old.shown self.new.shown actor made (made_moves self.old.shown actor made)) }
+        ensures room { OnOk result (length (outputs_at self.old.shown.core.plan.channels actor) ≤ self.new.room) }
+        ensures unchanged { OnErr result (self.new.shown ≡ self.old.shown) }
+        ensures room_stays { OnErr result (self.old.room ≤ self.new.room) }
+    {
+        self.core.begins(actor);
+        self.make_next(actor, counts, outputs)?;
+        let mut made = 1;
+        while made < n {
+            if self.make_next(actor, counts, outputs).is_err() {
+                break;
+            }
+            made += 1;
+        }
+        Ok(made)
+    }
+
+    /// Makes the block: at once where its firings find all that they read, or keep a state in one channel.
+    /// Else it makes the first of them that find all, where these are many, or all of them one after the
+    /// other, and then fewer where memory runs out after the first.
+    fn make_block(
+        &mut self,
+        actor: u32,
+        block: Block,
+        counts: &mut Counts,
+        outputs: &mut Outputs,
+    ) -> Result<u32, AllocError>
+        requires exists { actor < length self.old.shown.core.plan.sources }
+        requires some { 0 < block.firings }
+        requires block { IsBlock self.old.shown.core actor block }
+        ensures some { IfOk result (λ made. 0 < made) }
+        ensures most { IfOk result (λ made. made ≤ block.firings) }
+        ensures made { IfOk result (λ made. HasMade self.old.shown self.new.shown actor made (made_moves self.old.shown actor made)) }
+        ensures room { OnOk result (length (outputs_at self.old.shown.core.plan.channels actor) ≤ self.new.room) }
+        ensures unchanged { OnErr result (self.new.shown ≡ self.old.shown) }
+        ensures room_stays { OnErr result (self.old.room ≤ self.new.room) }
+    {
+        if self.core.holds(actor, block.firings) {
+            self.make(actor, block, counts, outputs)?;
+            return Ok(block.firings);
+        }
+        if let Some(feedback) = self.goes_on(actor, block.firings) {
+            self.make_with_state(actor, feedback, block.firings, counts, outputs)?;
+            return Ok(block.firings);
+        }
+        let held = self.core.held(actor, block.firings);
+        if held.firings >= LONG_DELAY {
+            self.make(actor, held, counts, outputs)?;
+            return Ok(held.firings);
+        }
+        self.make_each(actor, block.firings, counts, outputs)
     }
 
     /// What the actor's present firing computes from.
@@ -261,79 +363,6 @@ impl Book {
         &self.reads[actor as usize]
     }
 
-    /// The kernel's value of the actor's present firing, which has read what is in its buffer, in the
-    /// place of what the outputs hold: they have room for it.
-    fn value_into(&self, actor: u32, counts: &Counts, outputs: &mut Outputs)
-        requires exists { actor < length self.now.shown.core.plan.sources }
-        requires counts { counts.now.items ≡ output_counts (program self.now.shown.work) actor (count self.now.shown.core.now actor) }
-        requires few_counts { length counts.now.items ≤ MAX_CHANNELS }
-        requires small_counts { All (λ n. n ≤ MAX_TOKENS_PER_FIRING) counts.now.items }
-        requires few { length (slice_index_or self.now.reads actor []) ≤ MAX_TOTAL_PER_FIRING }
-        requires room { gift actor (count self.now.shown.core.now actor) self.now.shown.core.plan.channels ≤ outputs.old.capacity }
-        ensures { outputs.new.items ≡ value (program self.now.shown.work) actor (count self.now.shown.core.now actor)
-            (slice_index_or self.now.reads actor []) }
-    {
-        let kernel = self.work.kernel(actor);
-        let inputs = self.firing_inputs(actor);
-        let need = inputs.len();
-        match eval_block(kernel, counts.as_slice(), need, 1, inputs, outputs) {
-            Ok(()) => {}
-            Err(_error) => unreachable!(),
-        }
-    }
-
-    /// All that the actor's next firing asks for: its counts, and room for its value, its moves and the
-    /// closing of its outputs.
-    fn prepare_one(
-        &mut self,
-        actor: u32,
-        counts: &mut Counts,
-        outputs: &mut Outputs,
-    ) -> Result<(), AllocError>
-        requires exists { actor < length self.old.shown.core.plan.sources }
-        requires idle { stage self.old.shown.core.now actor ≡ Idle }
-        ensures shown { self.new.shown ≡ self.old.shown }
-        ensures room { OnOk result (HasRoom self.new actor) }
-        ensures need { OnOk result (length (slice_index_or self.new.reads actor []) ≤ MAX_TOTAL_PER_FIRING) }
-        ensures moves { OnOk result (4 + length (outputs_at self.old.shown.core.plan.channels actor) ≤ self.new.room) }
-        ensures greater { self.old.room ≤ self.new.room }
-        ensures width { OnOk result (gift actor (count self.old.shown.core.now actor) self.old.shown.core.plan.channels ≤ self.new.width) }
-        ensures counts { OnOk result (counts.new.items ≡ output_counts (program self.old.shown.work) actor (count self.old.shown.core.now actor)) }
-        ensures few_counts { OnOk result (length counts.new.items ≤ MAX_CHANNELS) }
-        ensures small_counts { OnOk result (All (λ n. n ≤ MAX_TOKENS_PER_FIRING) counts.new.items) }
-        ensures outputs { OnOk result (gift actor (count self.old.shown.core.now actor) self.old.shown.core.plan.channels ≤ outputs.new.capacity) }
-    {
-        self.counts_into(actor, counts)?;
-        let each = self.core.gives(actor);
-        outputs.clear();
-        outputs.reserve(each)?;
-        let needed = self.core.need(actor);
-        self.make_room_for(*outputs.allocator(), actor, 1, needed)
-    }
-
-    /// Makes the actor's next firing, which may begin: the four moves one by one.
-    pub(crate) fn make_one(
-        &mut self,
-        actor: u32,
-        counts: &mut Counts,
-        outputs: &mut Outputs,
-    ) -> Result<(), AllocError>
-        requires exists { actor < length self.old.shown.core.plan.sources }
-        requires idle { stage self.old.shown.core.now actor ≡ Idle }
-        requires accepted { refusal self.old.shown.core.plan self.old.shown.core.now (Begin actor) ≡ None }
-        ensures made { OnOk result (HasMade self.old.shown self.new.shown actor 1 (made_moves self.old.shown actor 1)) }
-        ensures room { OnOk result (length (outputs_at self.old.shown.core.plan.channels actor) ≤ self.new.room) }
-        ensures unchanged { OnErr result (self.new.shown ≡ self.old.shown) }
-        ensures room_stays { OnErr result (self.old.room ≤ self.new.room) }
-    {
-        let _ = &self.work;
-        self.prepare_one(actor, counts, outputs)?;
-        self.take(actor);
-        self.value_into(actor, counts, outputs);
-        self.give(actor, outputs.as_slice());
-        Ok(())
-    }
-
     /// Whether the actor's next firing may begin.
     pub(crate) fn may_begin(&self, actor: u32) -> bool
         ensures { IsTrue result ↔ (refusal self.now.shown.core.plan self.now.shown.core.now (Begin actor) ≡ None) }
@@ -342,8 +371,8 @@ impl Book {
         self.core.can_begin(actor).is_ok()
     }
 
-    /// Makes the actor's next firing and tells 1, or 0 where none more is wanted, it may not begin, or memory
-    /// runs out: then nothing is made.
+    /// Makes some of the actor's next firings at once and tells how many, or 0 where none more is wanted, the
+    /// next one may not begin, or memory runs out: then nothing is made.
     fn make_more(
         &mut self,
         actor: u32,
@@ -352,7 +381,6 @@ impl Book {
         outputs: &mut Outputs,
     ) -> u32
         requires exists { actor < length self.old.shown.core.plan.sources }
-        requires idle { stage self.old.shown.core.now actor ≡ Idle }
         requires room { length (outputs_at self.old.shown.core.plan.channels actor) ≤ self.old.room }
         ensures most { result ≤ most }
         ensures made { HasMade self.old.shown self.new.shown actor result (made_moves self.old.shown actor result) }
@@ -360,28 +388,45 @@ impl Book {
         ensures before { IsHonest (program self.old.shown.work) self.old.shown.journal }
     {
         let _ = &self.work;
-        if most == 0 || !self.may_begin(actor) {
+        let block = self.block(actor, most);
+        if block.firings == 0 {
             return 0;
         }
-        match self.make_one(actor, counts, outputs) {
-            Ok(()) => 1,
+        match self.make_block(actor, block, counts, outputs) {
+            Ok(n) => n,
             Err(_error) => 0,
         }
     }
 
-    /// Makes the actor's next firings one by one, of which the first may begin, until so many are made or
-    /// the next one may not begin. It makes fewer where memory runs out after the first.
-    fn make_singly(
+    /// Whether the actor may begin again after a block of so many firings: one of several phases, since a
+    /// block ends with a cycle of them, and is shorter where the next firing is refused; and one with a
+    /// channel to itself, since its block may have been cut where that holds no more tokens. It decides no
+    /// more than how many firings one call makes.
+    fn may_go_on(&self, actor: u32, n: u32) -> bool
+        requires { actor < length self.now.shown.core.plan.sources }
+    {
+        if n >= LONG_DELAY && self.work.feeds_itself(actor) {
+            return true;
+        }
+        let phases = self.work.phases(actor);
+        phases > 1 && n >= phases
+    }
+
+    /// Makes the block and, where the actor may begin again after it, blocks that are no longer, until so
+    /// many firings are made or the next one may not begin. It makes fewer where memory runs out after the
+    /// first block.
+    fn make_on(
         &mut self,
         actor: u32,
+        block: Block,
         most: u32,
         counts: &mut Counts,
         outputs: &mut Outputs,
     ) -> Result<u32, AllocError>
         requires exists { actor < length self.old.shown.core.plan.sources }
-        requires idle { stage self.old.shown.core.now actor ≡ Idle }
-        requires accepted { refusal self.old.shown.core.plan self.old.shown.core.now (Begin actor) ≡ None }
-        requires some { 0 < most }
+        requires block { IsBlock self.old.shown.core actor block }
+        requires some { 0 < block.firings }
+        requires few { block.firings ≤ most }
         ensures some { IfOk result (λ n. 0 < n) }
         ensures most { IfOk result (λ n. n ≤ most) }
         ensures made { IfOk result (λ n. HasMade self.old.shown self.new.shown actor n (made_moves self.old.shown actor n)) }
@@ -389,37 +434,21 @@ impl Book {
         ensures unchanged { OnErr result (self.new.shown ≡ self.old.shown) }
     {
         let _ = &self.work;
-        self.make_one(actor, counts, outputs)?;
-        let mut made = 1;
-        for _firing in 1..most {
-            let more = self.make_more(actor, most - made, counts, outputs);
-            if more == 0 {
+        let n = self.make_block(actor, block, counts, outputs)?;
+        let mut made = n;
+        let mut more = n;
+        for _block in n..most {
+            if !self.may_go_on(actor, more) {
                 break;
             }
+            more = self.make_more(actor, n.min(most - made), counts, outputs);
             made += more;
         }
         Ok(made)
     }
 
-    /// Whether the actor makes the block, and does not make its firings one by one. An actor with a channel
-    /// to itself may begin again after a block, since its firings give back what they took. So a short
-    /// block is not worth a call of its own there.
-    fn takes_block(&self, actor: u32, block: Block, most: u32) -> bool
-        ensures { IsTrue result → 0 < block.firings }
-    {
-        if block.firings == 0 {
-            return false;
-        }
-        if block.firings < LONG_LOOP.min(most) {
-            return !self.work.feeds_itself(actor);
-        }
-        true
-    }
-
-    /// Makes the actor's next firings: as one block, as one that keeps a state, or, where no block can be
-    /// had or it is not worth it, one by one until so many are made or the next one may not begin, and then
-    /// fewer where memory runs out after the first. Whether the first may begin is asked only where no
-    /// block tells it.
+    /// Makes the actor's next firings, a block of them or several (see [`make_on`](Book::make_on)). Whether the
+    /// first may begin is asked only where no block tells it.
     pub(crate) fn make_many(
         &mut self,
         actor: u32,
@@ -437,17 +466,15 @@ impl Book {
         ensures unchanged { OnErr result (self.new.shown ≡ self.old.shown) }
     {
         self.core.begins(actor);
-        if let Some((feedback, firings)) = self.goes_on(actor, most) {
-            self.make_on(actor, feedback, firings, counts, outputs)?;
-            return Ok(firings);
-        }
         let block = self.block(actor, most);
-        if self.takes_block(actor, block, most) {
-            self.make(actor, block, counts, outputs)?;
-            return Ok(block.firings);
+        let firings = block.firings;
+        if firings == 0 {
+            self.core.can_begin(actor)?;
+            unreachable!();
         }
-        self.core.can_begin(actor)?;
-        let n = self.make_singly(actor, most, counts, outputs)?;
-        Ok(n)
+        match self.make_on(actor, block, most, counts, outputs) {
+            Ok(n) => Ok(n),
+            Err(_error) => Err(StartFault::Memory),
+        }
     }
 }

@@ -29,6 +29,7 @@ fn gifts_of(core: &Core, alloc: Global, actor: u32, n: u32) -> Result<Vec<usize>
 
 /// Notes the next n firings of an actor of the core, which write these tokens. Memory runs out only
 /// where the journal is kept; then nothing is noted.
+#[inline(always)]
 pub(crate) fn note_firings(
     core: &Core,
     journal: &mut Journal,

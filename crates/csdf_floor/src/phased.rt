@@ -1,9 +1,10 @@
-//! The next firings of an actor of several phases: how many are made at once, and their values, each with
-//! its own counts and its own part of the tokens.
+//! The values of the next firings of an actor of several phases, each with its own counts and its own part
+//! of the tokens.
 
 ghost use Rattle.std.specs.Prelude.{◌≡◌, ◌+◌, ◌++◌, ◌^◌, ◌<◌, ◌≤◌, [], false, true, IfOk, OnOk, length, slice_index_or, slice_range};
 ghost use Rattle.smallvec.specs.SmallVec.{HasRoomFor};
-ghost use Rattle.csdf_core.specs.Blocks.{CanFire, gifts_of, needs_of};
+ghost use Rattle.csdf_core.specs.Blocks.{gifts_of, needs_of};
+ghost use Rattle.csdf_core.specs.Engine.{CanFire};
 ghost use Rattle.csdf_core.specs.Phases.{IsInPhase};
 ghost use Rattle.csdf_core.specs.Rows.{gift};
 ghost use Rattle.csdf_core.specs.Step.{count, given, is_source};
@@ -18,9 +19,6 @@ use csdf_core::{Block, Core, Turn};
 use csdf_kernel::{Counts, Outputs, push_value};
 use csdf_model::{MAX_FIRINGS_PER_ACTOR, MAX_TOTAL_PER_FIRING};
 use std::alloc::AllocError;
-
-/// The least number of firings for which a block is looked for where there are several inputs or outputs.
-const LONG_BLOCK: u32 = 8;
 
 impl Work {
     /// How many tokens the firing computes from. The core is one of this work.
@@ -95,112 +93,7 @@ impl Work {
     }
 }
 
-/// How many of the actor's next firings, at most so many, read no more than `held` tokens in all and
-/// write no more than `room`, and what they move.
-fn reach(core: &Core, actor: u32, most: u32, held: u64, room: u64) -> Block
-    requires exists { actor < length core.now.plan.sources }
-    requires few { count core.now.now actor + most ≤ MAX_FIRINGS_PER_ACTOR }
-    ensures most { result.firings ≤ most }
-    ensures needed { result.needed ≡ needs_of core.now.plan.channels actor (count core.now.now actor) result.firings }
-    ensures given { result.given ≡ gifts_of core.now.plan.channels actor (count core.now.now actor) result.firings }
-{
-    let mut turn = core.turn(actor);
-    let mut needed = 0;
-    let mut given = 0;
-    for firings in 0..most {
-        let reads = needed + core.need_at(actor, turn) as u64;
-        let writes = given + core.gift_at(actor, turn) as u64;
-        if reads > held || writes > room {
-            return Block {
-                firings,
-                needed,
-                given,
-            };
-        }
-        needed = reads;
-        given = writes;
-        turn = core.turn_after(actor, turn);
-    }
-    Block {
-        firings: most,
-        needed,
-        given,
-    }
-}
-
 impl Book {
-    /// How many tokens the actor's only input holds; without an input more than can be read, and 0 where
-    /// it has several.
-    fn held(&self, actor: u32) -> u64
-        requires { actor < length self.now.shown.core.plan.sources }
-    {
-        let inputs = self.core.inputs(actor);
-        match inputs.len() {
-            0 => u64::MAX,
-            1 => u64::from(self.core.len(inputs[0])),
-            _ => 0,
-        }
-    }
-
-    /// For how many tokens the actor's only output has room; without an output for more than can be
-    /// written, and for 0 where it has several.
-    fn room(&self, actor: u32) -> u64
-        requires { actor < length self.now.shown.core.plan.sources }
-    {
-        let outputs = self.core.outputs(actor);
-        match outputs.len() {
-            0 => u64::MAX,
-            1 => {
-                let capacity = self.work.capacity(outputs[0]);
-                u64::from(capacity.saturating_sub(self.core.len(outputs[0])))
-            }
-            _ => 0,
-        }
-    }
-
-    /// Whether the actor has several inputs or outputs and can make [`LONG_BLOCK`]: fewer take longer to
-    /// find than to make.
-    pub(crate) fn is_wide_and_long(&self, actor: u32) -> bool
-        requires { actor < length self.now.shown.core.plan.sources }
-    {
-        if self.core.inputs(actor).len() <= 1 && self.core.outputs(actor).len() <= 1 {
-            return false;
-        }
-        self.core.can_fire(actor, LONG_BLOCK)
-    }
-
-    /// Of [`block`](Book::block) what is so of an actor of several phases: 0 where it can't make two, and
-    /// where it has several inputs or outputs.
-    pub(crate) fn phased_block(&self, actor: u32, most: u32) -> Block
-        requires { actor < length self.now.shown.core.plan.sources }
-        ensures most { result.firings ≤ most }
-        ensures can { 0 < result.firings → CanFire self.now.shown.core.plan self.now.shown.core.now actor result.firings }
-        ensures needed { 0 < result.firings → result.needed
-            ≡ needs_of self.now.shown.core.plan.channels actor (count self.now.shown.core.now actor) result.firings }
-        ensures given { 0 < result.firings → result.given
-            ≡ gifts_of self.now.shown.core.plan.channels actor (count self.now.shown.core.now actor) result.firings }
-    {
-        let none = Block {
-            firings: 0,
-            needed: 0,
-            given: 0,
-        };
-        let held = self.held(actor);
-        if held < 2 * self.core.need(actor) as u64 {
-            return none;
-        }
-        let room = self.room(actor);
-        if room < 2 * self.core.gives(actor) as u64 {
-            return none;
-        }
-        let left = MAX_FIRINGS_PER_ACTOR - self.core.fired(actor);
-        let block = reach(&self.core, actor, most.min(left), held, room);
-        if block.firings < 2 || !self.core.can_fire(actor, block.firings) {
-            return none;
-        }
-        block
-    }
-
     /// What the actor's next firings compute from, which write so many tokens: what is in its buffer, or
     /// for a source the next part of its file.
     fn block_inputs(&self, actor: u32, written: usize) -> &[i32]
@@ -228,6 +121,8 @@ impl Book {
         counts: &mut Counts,
         outputs: &mut Outputs,
     ) -> Result<(), AllocError>
+        requires exists { actor < length self.now.shown.core.plan.sources }
+        requires some { 0 < block.firings }
         requires can { CanFire self.now.shown.core.plan self.now.shown.core.now actor block.firings }
         requires given { block.given ≡ gifts_of self.now.shown.core.plan.channels actor (count self.now.shown.core.now actor) block.firings }
         requires buffer { length (slice_index_or self.now.reads actor [])
@@ -236,6 +131,7 @@ impl Book {
             (slice_index_or self.now.reads actor [])) }
     {
         let _ = &self.work;
+        self.core.keeps_within(actor, block.firings);
         let written = block.given as usize;
         outputs.clear();
         if written == 0 {

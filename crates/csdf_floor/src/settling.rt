@@ -8,6 +8,7 @@ ghost use Rattle.csdf_floor.specs.Outcome.{StaysWithinCapacities, LeavesClosedAl
 ghost use Rattle.csdf_floor.specs.Outcome.{IsAsSequentialRun, IsAsInAnyRoom, CompletesWhereAmple, journal_in};
 
 use crate::fault::RunFault;
+use crate::fed::RunBounds;
 use crate::floor::Floor;
 use crate::outcome::{Outcome, Settled};
 use csdf_analysis::Accepted;
@@ -55,7 +56,8 @@ pub fn settle(
     ensures rooms { IfOk result (IsAsInAnyRoom (program_for accepted.now (feeds_in feeds.now) periods firings)) }
     ensures complete { IfOk result (CompletesWhereAmple accepted.now (feeds_in feeds.now) periods firings) }
 {
-    if !floor.is_of(accepted, feeds, periods, firings) {
+    let bounds = RunBounds { periods, firings };
+    if !floor.is_of(accepted, feeds, bounds) {
         return Err(RunFault::Mixed);
     }
     let Settled { fed: _, outcome } = settle_and_hand_back(alloc, floor, totals);

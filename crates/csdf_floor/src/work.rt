@@ -1,24 +1,21 @@
 //! What a run is asked for, and what its firings compute from.
 
-ghost use Rattle.std.specs.Prelude.{◌≡◌, ◌↔◌, ◌+◌, ◌*◌, ◌^◌, ◌<◌, ◌≤◌, All, IsTrue, IfOk, IfSome, OnOk, Some, length, map, slice_get, slice_index_or, slice_range};
+ghost use Rattle.std.specs.Prelude.{◌≡◌, ◌↔◌, ◌+◌, ◌*◌, ◌^◌, ◌<◌, ◌≤◌, All, IsTrue, IfOk, OnOk, Some, length, map, slice_get, slice_index_or, slice_range};
 ghost use Rattle.csdf_model.specs.declared.parts.Kernel.TheVariants.{Sink};
 ghost use Rattle.csdf_model.specs.Graph.{channel_view};
 ghost use Rattle.csdf_model.specs.Rates.{total};
-ghost use Rattle.csdf_core.specs.Feedback.{IsFeedback};
 ghost use Rattle.csdf_core.specs.Headline.{capacity_of};
 ghost use Rattle.csdf_core.specs.Planned.{with_capacity};
 ghost use Rattle.csdf_core.specs.Plan.{consume_at, produce_at, to_at};
 ghost use Rattle.csdf_core.specs.Step.{is_source, producer};
 ghost use Rattle.csdf_kernel.specs.Value.{HasFilterInRange};
-ghost use Rattle.csdf_floor.specs.Inside.{AreFeedbacks};
-ghost use Rattle.csdf_floor.specs.Journal.{output_counts, program_for};
+ghost use Rattle.csdf_floor.specs.Journal.{output_counts};
 ghost use Rattle.csdf_floor.specs.Work.{AreFeeds, HasFewFirings, IsFeed, IsWork, feeds_in, feed_of, is_sink_kernel, program};
 
-use crate::fed::Fed;
+use crate::fed::{Fed, RunBounds};
 use crate::limits::MAX_FEED_TOKENS;
 use crate::same::{are_same_feeds, is_same_accepted, is_same_limit};
 use csdf_analysis::Accepted;
-use csdf_core::Feedback;
 use csdf_kernel::Counts;
 use csdf_model::{
     Actor, Channel, Graph, Kernel, MAX_CHANNELS, MAX_FIRINGS_PER_ACTOR, MAX_TOKENS_PER_FIRING,
@@ -28,31 +25,24 @@ use std::alloc::{AllocError, Global};
 use std::marker::Model;
 
 /// What is run: an accepted graph, the contents of its sources' files, for how many periods, and the
-/// limit on all firings where there is one. What each firing would have to look for in the graph again
-/// stands beside them: the channel in which an actor keeps its state, and whether it has a channel to
-/// itself at all.
+/// limit on all firings where there is one. Whether an actor has a channel to itself stands beside them,
+/// so that no firing looks for it in the graph again.
 #[derive(Drop)]
 pub(crate) struct Work {
     accepted: Accepted,
     feeds: Vec<Vec<i32>>,
-    periods: u32,
-    firings: Option<u32>,
-    feedbacks: Vec<Option<Feedback>>,
+    bounds: RunBounds,
     loops: Vec<bool>,
 }
 
 impl Model for Work {
-    ghost use Rattle.std.specs.Prelude.{length};
-    ghost use Rattle.csdf_floor.specs.Journal.{program_for};
-    ghost use Rattle.csdf_floor.specs.Inside.{AreFeedbacks};
     ghost use Rattle.csdf_floor.specs.Work.{Work as WorkModel, IsWork, feeds_in};
 
     ghost Value = { WorkModel };
 
-    ghost view = { λ w. record { accepted = w.accepted; feeds = feeds_in w.feeds.items; periods = w.periods; firings = w.firings } };
+    ghost view = { λ w. record { accepted = w.accepted; feeds = feeds_in w.feeds.items; periods = w.bounds.periods; firings = w.bounds.firings } };
 
-    ghost invariant = { λ w. IsWork (record { accepted = w.accepted; feeds = feeds_in w.feeds.items; periods = w.periods; firings = w.firings })
-        × AreFeedbacks (program_for w.accepted (feeds_in w.feeds.items) w.periods w.firings).plan (length w.accepted.graph.actors) w.feedbacks.items };
+    ghost invariant = { λ w. IsWork (record { accepted = w.accepted; feeds = feeds_in w.feeds.items; periods = w.bounds.periods; firings = w.bounds.firings }) };
 }
 
 /// The part of the list between these places, or as much of it as there is.
@@ -71,20 +61,12 @@ fn kernel_in(actor: &Actor) -> &Kernel
 }
 
 impl Work {
-    /// What is run, and the channel in which each actor keeps its state.
-    pub(crate) fn new(
-        fed: Fed,
-        periods: u32,
-        firings: Option<u32>,
-        feedbacks: Vec<Option<Feedback>>,
-        loops: Vec<bool>,
-    ) -> Work
+    /// What is run, and which actors have a channel to themselves.
+    pub(crate) fn new(fed: Fed, bounds: RunBounds, loops: Vec<bool>) -> Work
         requires fed { AreFeeds fed.accepted.graph (feeds_in fed.feeds.items) }
-        requires some_period { 1 ≤ periods }
-        requires few_firings { HasFewFirings fed.accepted periods }
-        requires feedbacks { AreFeedbacks (program_for fed.accepted (feeds_in fed.feeds.items) periods firings).plan
-            (length fed.accepted.graph.actors) feedbacks.items }
-        ensures value { result ≡ record { accepted = fed.accepted; feeds = feeds_in fed.feeds.items; periods = periods; firings = firings } }
+        requires some_period { 1 ≤ bounds.periods }
+        requires few_firings { HasFewFirings fed.accepted bounds.periods }
+        ensures value { result ≡ record { accepted = fed.accepted; feeds = feeds_in fed.feeds.items; periods = bounds.periods; firings = bounds.firings } }
         ensures work { IsWork result }
     {
         let Fed { accepted, feeds } = fed;
@@ -93,9 +75,7 @@ impl Work {
         Work {
             accepted,
             feeds,
-            periods,
-            firings,
-            feedbacks,
+            bounds,
             loops,
         }
     }
@@ -108,20 +88,10 @@ impl Work {
         let Work {
             accepted,
             feeds,
-            periods: _,
-            firings: _,
-            feedbacks: _,
+            bounds: _,
             loops: _,
         } = self;
         Fed { accepted, feeds }
-    }
-
-    /// The channel in which the actor keeps its state, where it has one.
-    pub(crate) fn feedback(&self, actor: u32) -> Option<Feedback>
-        requires { actor < length self.now.accepted.graph.actors }
-        ensures { IfSome result (IsFeedback (program self.now).plan actor) }
-    {
-        self.feedbacks[actor as usize]
     }
 
     /// Whether the actor has a channel to itself. It decides no more than how many firings are made at
@@ -137,6 +107,13 @@ impl Work {
         ensures in_range { HasFilterInRange result.now }
     {
         kernel_in(&self.accepted.graph().actors()[actor as usize])
+    }
+
+    /// How many phases the actor has.
+    pub(crate) fn phases(&self, actor: u32) -> u32
+        requires { actor < length self.now.accepted.graph.actors }
+    {
+        self.accepted.graph().actors()[actor as usize].phases
     }
 
     /// Whether the actor is a source.
@@ -220,17 +197,11 @@ impl Work {
     }
 
     /// Whether it is this work.
-    pub(crate) fn is(
-        &self,
-        accepted: &Accepted,
-        feeds: &[Vec<i32>],
-        periods: u32,
-        firings: Option<u32>,
-    ) -> bool
-        ensures { IsTrue result ↔ (self.now ≡ record { accepted = accepted.now; feeds = feeds_in feeds.now; periods = periods; firings = firings }) }
+    pub(crate) fn is(&self, accepted: &Accepted, feeds: &[Vec<i32>], bounds: RunBounds) -> bool
+        ensures { IsTrue result ↔ (self.now ≡ record { accepted = accepted.now; feeds = feeds_in feeds.now; periods = bounds.periods; firings = bounds.firings }) }
     {
-        self.periods == periods
-            && is_same_limit(self.firings, firings)
+        self.bounds.periods == bounds.periods
+            && is_same_limit(self.bounds.firings, bounds.firings)
             && are_same_feeds(&self.feeds, feeds)
             && is_same_accepted(&self.accepted, accepted)
     }

@@ -5,7 +5,7 @@ ghost use Rattle.csdf_floor.specs.Floor.{IsReady};
 
 use crate::rows::{SIZES, Size, accepted_of, expect_eq};
 use csdf_analysis::Accepted;
-use csdf_floor::{Floor, Outcome, RunFault, are_feeds, may_run, printed_report, settle};
+use csdf_floor::{Floor, Outcome, RunBounds, RunFault, are_feeds, may_run, printed_report, settle};
 use csdf_journal::Keeping;
 use csdf_kernel::{Done, Job, eval};
 use std::alloc::{AllocError, Global};
@@ -46,7 +46,11 @@ fn floor_for(
     assert!(rt; are_feeds(accepted.graph(), feeds));
     assert!(rt; 1 <= periods);
     assert!(rt; may_run(accepted, periods));
-    Ok(Floor::with_journal(alloc, accepted, feeds, periods, None, keeping)?)
+    let bounds = RunBounds {
+        periods,
+        firings: None,
+    };
+    Ok(Floor::with_journal(alloc, accepted, feeds, bounds, keeping)?)
 }
 
 fn started(alloc: Global, floor: &mut Floor, actor: u32) -> Result<Job, Fail>

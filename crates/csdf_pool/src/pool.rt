@@ -11,9 +11,11 @@ use crate::iters::{Cells, Tokens};
 use csdf_model::{MAX_CELLS, MAX_CHANNELS};
 use std::alloc::{AllocError, Global};
 use std::marker::Model;
+use thiserror::Error;
 
 /// No cell is free.
-#[derive(Clone, Copy, Debug, PartialEq, Eq)]
+#[derive(Clone, Copy, Debug, PartialEq, Eq, Error)]
+#[error("no cell is free")]
 pub struct NoCell;
 
 /// Queues of tokens, the chains, that share the cells of one pool: eight bytes a cell. A cell is

@@ -121,11 +121,18 @@ done_made v w c d h is =
     subst (λ (z : View). HasFinished z c.actor c.firing) (sym is)
     (finished_at v.tracks c.actor c.firing t h.first (ends_with c.firing (track_of v c.actor).finished))
 
--- the claim was given up
-pub given_up_just : (v w : View) (d : Claim) → HoldsJust v None (Some d) → w ≡ handed_back v d.actor → HoldsJust w None None
-given_up_just v w d h is =
-    let t : Track = record (track_of v d.actor) { held = [] } in
-    nothing_just w (λ b. ap (λ (z : View). (track_of z b).held) is ∙ cleared v.tracks d.actor b t refl (h.no_more b tt))
+-- the first claim was given up
+pub given_up_just : (v w : View) (c : Claim) (d : Option Claim) → HoldsJust v (Some c) d → w ≡ handed_back v c.actor → HoldsJust w None d
+given_up_just v w c d h is =
+    let t : Track = record (track_of v c.actor) { held = [] } in
+    let ts : w.tracks ≡ set v.tracks c.actor t = ap (λ (z : View). z.tracks) is in
+    record {
+      first = tt;
+      second = other_claim v c d t w ts h.apart h.second;
+      apart = tt;
+      no_more =
+          λ b p q. ap (λ (xs : List Track). (get_or xs b blank).held) ts ∙ cleared v.tracks c.actor b t refl (λ ne. h.no_more b ne q);
+    }
 
 pub given_up_finished : (v w : View) (a : ℕ) → w ≡ handed_back v a → (b k : ℕ) → HasFinished v b k → HasFinished w b k
 given_up_finished v w a is b k h =
@@ -149,10 +156,10 @@ opening_nothing n w is = subst HoldsNothing (sym is) (λ a. ap (λ (t : Track). 
 held_once : (v : View) (a j k : ℕ) → Holds v a j → Holds v a k → j ≡ k
 held_once v a j k one other = cc
 
--- d is the claim that is held, and n firings from it on are finished
-module _ (v : View) (c d : Claim) (n m : ℕ) (h : HoldsJust v None (Some c)) (same : d ≡ c) (as_many : m ≡ n) where
+-- d is the claim that is held beside e, and n firings from it on are finished
+module _ (v : View) (c d : Claim) (e : Option Claim) (n m : ℕ) (h : HoldsJust v (Some c) e) (same : d ≡ c) (as_many : m ≡ n) where
   held_first : Holds v d.actor c.firing
-  held_first = subst (λ (x : Claim). Holds v x.actor c.firing) (sym same) h.second
+  held_first = subst (λ (x : Claim). Holds v x.actor c.firing) (sym same) h.first
 
   pub block_held : IsHolding v d.actor
   block_held = (c.firing, held_first)
@@ -163,11 +170,17 @@ module _ (v : View) (c d : Claim) (n m : ℕ) (h : HoldsJust v None (Some c)) (s
       let within = ends (subst (λ (x : ℕ). 1 < x) as_many several) in omega arith
 
   module _ (w : View) (is : (k : ℕ) → Holds v d.actor k → w ≡ finished_block v d.actor k m) where
-    pub block_just : HoldsJust w None None
+    pub block_just : HoldsJust w None e
     block_just =
         let t : Track = record { held = []; finished = (track_of v d.actor).finished ++ range_with_len c.firing m; seen = c.firing + m } in
-        nothing_just w (λ b. ap (λ (z : View). (track_of z b).held) (is c.firing held_first)
-        ∙ cleared v.tracks d.actor b t refl (λ ne. h.no_more b tt (λ e. ne (e ∙ ap (λ (x : Claim). x.actor) (sym same)))))
+        let ts : w.tracks ≡ set v.tracks d.actor t = ap (λ (z : View). z.tracks) (is c.firing held_first) in
+        record {
+          first = tt;
+          second = other_claim v d e t w ts (subst (λ (x : Claim). AreApart (Some x) e) (sym same) h.apart) h.second;
+          apart = tt;
+          no_more = λ b p q. ap (λ (xs : List Track). (get_or xs b blank).held) ts
+              ∙ cleared v.tracks d.actor b t refl (λ ne. h.no_more b (λ x. ne (x ∙ ap (λ (y : Claim). y.actor) (sym same))) q);
+        }
 
   pub block_made : (w : View) → ((k x : ℕ) → Holds v d.actor k → k ≤ x → x < k + m → times x (track_of w d.actor).finished ≡ 1)
       → (x : ℕ) → c.firing ≤ x → x < c.firing + n → HasFinished w c.actor x

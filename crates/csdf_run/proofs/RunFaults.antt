@@ -58,3 +58,9 @@ is_run_cause workers (Err why) (Err f) failed memory cause =
 pub where_ok : {A E : Type 0} → (P : Type 0) (result : Result A E) → P → IfOk result (λ _. P)
 where_ok P (Ok x) p = p
 where_ok P (Err e) p = tt
+
+-- what holds of an outcome holds of it as it is told
+pub told_ok : {T E F : Type 0} → (P : T → Type 0) (outcome : Result T E) (told : Result T F) (none : F) → IfOk outcome (λ o. told ≡ Ok o)
+    → IfErr outcome (λ _. told ≡ Err none) → IfOk outcome P → IfOk told P
+told_ok {T = T} {F = F} P (Ok o) told none ok err known = subst (λ (r : Result T F). IfOk r P) (sym ok) known
+told_ok {T = T} {F = F} P (Err why) told none ok err known = subst (λ (r : Result T F). IfOk r P) (sym err) tt

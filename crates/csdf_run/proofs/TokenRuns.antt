@@ -9,9 +9,9 @@ use Rattle.csdf_analysis.specs.Acceptance.{Accepted}
 use Rattle.csdf_analysis.specs.declared.room.Room.{Room}
 use Rattle.csdf_analysis.specs.Room.{IsWithRoom}
 use Rattle.csdf_core.specs.Planned.{is_source_kernel}
-use Rattle.csdf_floor.specs.declared.fault.RunFault.{RunFault}
 use Rattle.csdf_floor.specs.declared.outcome.Outcome.{Outcome}
 use Rattle.csdf_floor.specs.Work.{feeds_in}
+use Rattle.csdf_run.specs.declared.no_outcome.NoOutcome.{NoOutcome}
 use Rattle.csdf_run.specs.declared.tokens.TokensFault.{TokensFault}
 use Rattle.csdf_run.specs.declared.tokens.TokensFault.TheVariants as fault
 use Rattle.csdf_run.specs.Texts.{◌>>=◌, AreTextsOf, IsInRoom, feed_in, feeds_from, source_count}
@@ -84,21 +84,21 @@ fed_of_read room g texts a feeds is read =
       tokens = ap (λ (xs : List Actor). feeds_from 0 xs texts) same ∙ read.tokens;
     }
 
-module _ (outcome : Result Outcome RunFault) (told : Result Outcome TokensFault) (same : IfOk outcome (λ o. told ≡ Ok o))
+module _ (outcome : Result Outcome NoOutcome) (told : Result Outcome TokensFault) (same : IfOk outcome (λ o. told ≡ Ok o))
     (failed : IfErr outcome (λ why. told ≡ Err (fault.Run why))) where
   -- what holds of an outcome holds of the one that is told
   pub told_ok : (P : Outcome → Type 0) → IfOk outcome P → IfOk told P
   told_ok P = by outcome same failed
     where
-      by : (r : Result Outcome RunFault) → IfOk r (λ o. told ≡ Ok o) → IfErr r (λ why. told ≡ Err (fault.Run why)) → IfOk r P → IfOk told P
+      by : (r : Result Outcome NoOutcome) → IfOk r (λ o. told ≡ Ok o) → IfErr r (λ why. told ≡ Err (fault.Run why)) → IfOk r P → IfOk told P
       by (Ok o) is failing holds = subst (λ (t : Result Outcome TokensFault). IfOk t P) (sym is) holds
       by (Err why) is failing holds = subst (λ (t : Result Outcome TokensFault). IfOk t P) (sym failing) tt
 
   -- what holds of a fault of the run holds of the one that is told
-  pub told_err : (Q : RunFault → Type 0) (P : TokensFault → Type 0) → ((why : RunFault) → Q why → P (fault.Run why)) → IfErr outcome Q → IfErr told P
+  pub told_err : (Q : NoOutcome → Type 0) (P : TokensFault → Type 0) → ((why : NoOutcome) → Q why → P (fault.Run why)) → IfErr outcome Q → IfErr told P
   told_err Q P more = by outcome same failed
     where
-      by : (r : Result Outcome RunFault) → IfOk r (λ o. told ≡ Ok o) → IfErr r (λ why. told ≡ Err (fault.Run why)) → IfErr r Q → IfErr told P
+      by : (r : Result Outcome NoOutcome) → IfOk r (λ o. told ≡ Ok o) → IfErr r (λ why. told ≡ Err (fault.Run why)) → IfErr r Q → IfErr told P
       by (Ok o) is failing holds = subst (λ (t : Result Outcome TokensFault). IfErr t P) (sym is) tt
       by (Err why) is failing holds = subst (λ (t : Result Outcome TokensFault). IfErr t P) (sym failing) (more why holds)
 

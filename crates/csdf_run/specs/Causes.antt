@@ -6,6 +6,8 @@ use Rattle.csdf_floor.specs.declared.fault.RunFault.{RunFault}
 use Rattle.csdf_floor.specs.declared.fault.RunFault.TheVariants.{Memory, Mixed, Worker}
 use Rattle.csdf_floor.specs.declared.fault.StartFault.{StartFault}
 use Rattle.csdf_floor.specs.declared.fault.StartFault.TheVariants as start
+use Rattle.csdf_run.specs.declared.no_outcome.NoOutcome.{NoOutcome}
+use Rattle.csdf_run.specs.declared.no_outcome.NoOutcome.TheVariants as none
 
 -- why a worker gives up whose start was not made: memory ran out, or the floor does not stand at the claimed firing; one that the core
 -- refuses is no cause
@@ -20,7 +22,12 @@ abbrev pub cause_untaken : DeliverFault → RunFault
 cause_untaken delivery.Stranger = Mixed
 cause_untaken delivery.Memory = Memory
 
--- why a run by so many workers can have no outcome: one alone starts no thread
+-- why a run by so many workers that a watch is told of can have no outcome: one alone starts no thread
+abbrev pub IsWantAmong : ℕ → NoOutcome → Type 0
+IsWantAmong workers none.Memory = Unit {0}
+IsWantAmong workers none.Worker = 2 ≤ workers
+
+-- why a run by so many workers can have no outcome
 abbrev pub IsCauseAmong : ℕ → RunFault → Type 0
 IsCauseAmong workers Memory = Unit {0}
 IsCauseAmong workers Mixed = Unit {0}

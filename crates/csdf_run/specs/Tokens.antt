@@ -16,7 +16,7 @@ use Rattle.csdf_floor.specs.Work.{feeds_in}
 use Rattle.csdf_run.specs.declared.tokens.FeedFault.{FeedFault}
 use Rattle.csdf_run.specs.declared.tokens.TokensFault.{TokensFault}
 use Rattle.csdf_run.specs.declared.tokens.TokensFault.TheVariants as fault
-use Rattle.csdf_run.specs.Causes.{IsCauseAmong}
+use Rattle.csdf_run.specs.Causes.{IsWantAmong}
 use Rattle.csdf_run.specs.Texts.{◌>>=◌, AreTextsBeside, AreTextsOf, GoesOnFor, IsFileWhere, IsInRoom, feeds_from, sink_texts, sinks_among, source_count, work_for}
 
 -- ---- what is read
@@ -91,4 +91,4 @@ IsTokensRefusalOf room bytes texts why = IsFileWhere bytes (λ g. IsTokensRefusa
 abbrev pub IsTokensCause : ℕ → TokensFault → Type 0
 IsTokensCause workers (fault.Accept why) = Unit {0}
 IsTokensCause workers (fault.Feed why) = Unit {0}
-IsTokensCause workers (fault.Run why) = IsCauseAmong workers why
+IsTokensCause workers (fault.Run why) = IsWantAmong workers why

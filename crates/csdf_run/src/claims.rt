@@ -116,31 +116,44 @@ pub(crate) fn most_from(firing: u32) -> u32
 }
 
 /// Marks the firings done that the floor has made, of which the first is the claimed one, and tells of
-/// them.
-pub(crate) fn finish_block<G: Told>(board: &Board, gate: &G, place: &mut Place, made: Made)
+/// them. What is held beside it stays so.
+pub(crate) fn finish_block<G: Told>(
+    board: &Board,
+    gate: &G,
+    place: &mut Place,
+    made: Made,
+    beside: Option<Claim>,
+)
     requires place { place.old.board ≡ board.now.id }
     requires actor { made.claim.actor < board.now.actors }
-    requires holds { HoldsJust place.old.view None (Some made.claim) }
+    requires holds { HoldsJust place.old.view (Some made.claim) beside }
     requires some { 0 < made.count }
     requires fits { CanEnd made.claim made.count }
     ensures board { place.new.board ≡ board.now.id }
-    ensures holds { HoldsJust place.new.view None None }
+    ensures holds { HoldsJust place.new.view None beside }
     ensures made { HasMadeAll place.new.view made }
     ensures told { G.knows_made gate.now made.count }
 {
+    let _ = beside;
     board.done_many(place, made.claim().actor, made.count());
     gate.tell_made(made.count());
 }
 
-/// The claim is given up: nothing is held any more.
-pub(crate) fn give_back(board: &Board, place: &mut Place, claim: Option<Claim>)
+/// The claim is given up: it is held no longer. What is held beside it stays so.
+pub(crate) fn give_back(
+    board: &Board,
+    place: &mut Place,
+    claim: Option<Claim>,
+    beside: Option<Claim>,
+)
     requires place { place.old.board ≡ board.now.id }
     requires actor { IsActor board.now.actors claim }
-    requires holds { HoldsJust place.old.view None claim }
+    requires holds { HoldsJust place.old.view claim beside }
     ensures board { place.new.board ≡ board.now.id }
-    ensures holds { HoldsJust place.new.view None None }
+    ensures holds { HoldsJust place.new.view None beside }
     ensures finished { (a k : ℕ) → HasFinished place.old.view a k → HasFinished place.new.view a k }
 {
+    let _ = beside;
     if let Some(claim) = claim {
         board.hand_back(place, claim.actor);
     }

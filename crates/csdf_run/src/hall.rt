@@ -1,6 +1,6 @@
 //! The floor behind its lock, and how the workers meet there.
 
-ghost use Rattle.std.specs.Prelude.{◌≡◌, ◌<◌, ℕ, IfOk, Some, false};
+ghost use Rattle.std.specs.Prelude.{◌≡◌, ◌<◌, ℕ, IfOk, IfSome, None, Some, false};
 ghost use Rattle.csdf_run.specs.Hand.{claim_in};
 ghost use Rattle.csdf_run.specs.Workers.{CanEnd, HasClaim, IsStartOf};
 
@@ -18,11 +18,17 @@ use csdf_floor::Floor;
 use std::alloc::Global;
 use std::sync::atomic::Ordering::SeqCst;
 use std::sync::atomic::{AtomicU32, AtomicU64};
-use std::sync::{Condvar, Mutex, Wait};
-use std::thread;
+use std::sync::{Condvar, Mutex, MutexGuard, Wait};
+use std::{hint, thread};
 
 /// How often a worker yields before it sleeps.
 const YIELDS: u32 = 100;
+
+/// How often it looks for the lock before it sleeps.
+const TRIES: u32 = 100;
+
+/// How long it waits between two looks, since each takes the memory of the lock away from who holds it.
+const PAUSES: u32 = 64;
 
 /// What the workers share: the floor behind its lock; what wakes a worker that sleeps; and, to be read
 /// without the lock, which actors can begin, which of them are spare, how many workers look for one, and
@@ -48,11 +54,12 @@ pub(crate) struct Turn {
     pub(crate) wakes: bool,
 }
 
-/// What came of a look for several firings of an actor: those that were made, and whether another worker
-/// is to be woken.
+/// What came of a hold of the lock in which firings of an actor were made: which these were; whether those of
+/// another one, which was claimed beside it, are drafted; and whether another worker is to be woken.
 #[derive(Drop)]
 pub(crate) struct BlockTurn {
     pub(crate) made: Result<Made, NotStarted>,
+    pub(crate) is_drafted: bool,
     pub(crate) wakes: bool,
 }
 
@@ -60,6 +67,13 @@ pub(crate) struct BlockTurn {
 fn put(word: &AtomicU64, value: u64) {
     if word.load(SeqCst) != value {
         word.store(value, SeqCst);
+    }
+}
+
+/// Waits for a microsecond or so.
+fn pause() {
+    for _ in 0..PAUSES {
+        hint::spin_loop();
     }
 }
 
@@ -105,6 +119,18 @@ impl<K: Asked> Hall<K> {
             policy: _,
         } = watched.into_inner();
         floor.into_floor()
+    }
+
+    /// Holds the lock. It is held for some microseconds at a time, which is less than it takes to sleep and to
+    /// be woken: so a worker looks for it a while before it sleeps.
+    fn hold<R: Wait>(&self, rt: &R) -> MutexGuard<'_, Watched<K>> {
+        for _ in 0..TRIES {
+            if let Some(guard) = self.watched.try_lock() {
+                return guard;
+            }
+            pause();
+        }
+        self.watched.lock(rt)
     }
 
     /// A worker comes in.
@@ -179,7 +205,7 @@ impl<K: Asked> Hall<K> {
         ensures started { IfOk result.started (λ is_started. IsStartOf next is_started hand.new.job) }
     {
         let _ = place;
-        let mut guard = self.watched.lock(rt);
+        let mut guard = self.hold(rt);
         let watched = &mut *guard;
         let delivered = watched.deliver(alloc, hand);
         let started = watched.start_next(next, hand);
@@ -197,43 +223,85 @@ impl<K: Asked> Hall<K> {
         }
     }
 
-    /// The worker leaves the lock to evaluate what it has drafted, and tends no longer. The lock is held.
-    fn leave(&self, watched: &mut Watched<K>, stand: &mut Stand) {
-        watched.policy.rests(stand.tends);
-        stand.tends = false;
-        if self.tell(watched, Teller::Fires) {
-            self.wake();
-        }
-    }
-
-    /// Evaluates the firings of an actor that were drafted, the claimed one first, and makes them in one
-    /// hold of the lock.
-    fn make_drafted<R: Wait, G: Gate>(
+    /// Drafts firings of a claimed actor where they are heavy. Then the worker tends no longer, since it
+    /// leaves the lock to evaluate them. The lock is held.
+    fn draft(
         &self,
-        rt: &R,
-        gate: &G,
+        watched: &mut Watched<K>,
         stand: &mut Stand,
         hand: &mut Hand,
         claim: Claim,
+    ) -> bool
+        ensures { hand.new ≡ hand.old }
+    {
+        if !self.drafts || !watched.draft(claim, hand) {
+            return false;
+        }
+        watched.policy.rests(stand.tends);
+        stand.tends = false;
+        true
+    }
+
+    /// Drafts those of an actor that was claimed beside another, where the worker makes blocks of it.
+    fn draft_next(
+        &self,
+        watched: &mut Watched<K>,
+        stand: &mut Stand,
+        hand: &mut Hand,
+        next: Option<Claim>,
+    ) -> bool
+        ensures { hand.new ≡ hand.old }
+    {
+        match next {
+            Some(claim) => {
+                self.makes_blocks(stand, claim.actor) && self.draft(watched, stand, hand, claim)
+            }
+            None => false,
+        }
+    }
+
+    /// Makes the firings of an actor that were drafted and evaluated, the claimed one first, and drafts those
+    /// of another one, which is claimed beside it, in one hold of the lock.
+    pub(crate) fn make_drafted<R: Wait, G: Gate>(
+        &self,
+        rt: &R,
+        gate: &G,
+        place: &Place,
+        stand: &mut Stand,
+        hand: &mut Hand,
+        claim: Claim,
+        next: Option<Claim>,
     ) -> BlockTurn
         requires open { (a k : ℕ) → G.passed gate.now a k }
+        requires claim { HasClaim place.now.view (Some claim) }
+        requires next { HasClaim place.now.view next }
         ensures idle { hand.new.is_made ≡ false }
         ensures claim { IfOk result.made (λ made. made.claim ≡ claim) }
         ensures some { IfOk result.made (λ made. 0 < made.count) }
         ensures fits { IfOk result.made (λ made. CanEnd claim made.count) }
     {
-        hand.evaluate_draft(gate);
-        let mut guard = self.watched.lock(rt);
+        let _ = place;
+        let mut guard = self.hold(rt);
         let watched = &mut *guard;
         let made = watched.make_drafted(gate, claim, hand);
         *stand = watched.stand(stand.tends, None);
-        let wakes = self.tell(watched, Teller::Looks);
-        BlockTurn { made, wakes }
+        let is_drafted = self.draft_next(watched, stand, hand, next);
+        let teller = if is_drafted {
+            Teller::Fires
+        } else {
+            Teller::Looks
+        };
+        let wakes = self.tell(watched, teller);
+        BlockTurn {
+            made,
+            is_drafted,
+            wakes,
+        }
     }
 
-    /// Makes firings of an actor one after another, the claimed one first: light ones in one hold of the
-    /// lock, heavy ones in two, and evaluates them in between. All of them pass the gate. Nothing is in
-    /// hand then.
+    /// Makes firings of an actor one after another, the claimed one first, in one hold of the lock, where
+    /// they are light. All of them pass the gate. Nothing is in hand then. Where they are heavy they are
+    /// drafted, and nothing is answered.
     pub(crate) fn make<R: Wait, G: Gate>(
         &self,
         rt: &R,
@@ -242,26 +310,32 @@ impl<K: Asked> Hall<K> {
         stand: &mut Stand,
         hand: &mut Hand,
         claim: Claim,
-    ) -> BlockTurn
+    ) -> Option<BlockTurn>
         requires open { (a k : ℕ) → G.passed gate.now a k }
         requires claim { HasClaim place.now.view (Some claim) }
-        ensures idle { hand.new.is_made ≡ false }
-        ensures claim { IfOk result.made (λ made. made.claim ≡ claim) }
-        ensures some { IfOk result.made (λ made. 0 < made.count) }
-        ensures fits { IfOk result.made (λ made. CanEnd claim made.count) }
+        ensures idle { IfSome result (λ _. hand.new.is_made ≡ false) }
+        ensures drafted { result ≡ None → hand.new ≡ hand.old }
+        ensures claim { IfSome result (λ turn. IfOk turn.made (λ made. made.claim ≡ claim)) }
+        ensures some { IfSome result (λ turn. IfOk turn.made (λ made. 0 < made.count)) }
+        ensures fits { IfSome result (λ turn. IfOk turn.made (λ made. CanEnd claim made.count)) }
     {
         let _ = place;
-        let mut guard = self.watched.lock(rt);
+        let mut guard = self.hold(rt);
         let watched = &mut *guard;
-        if self.drafts && watched.draft(claim, hand) {
-            self.leave(watched, stand);
-            drop(guard);
-            return self.make_drafted(rt, gate, stand, hand, claim);
+        if self.draft(watched, stand, hand, claim) {
+            if self.tell(watched, Teller::Fires) {
+                self.wake();
+            }
+            return None;
         }
         let made = watched.make(gate, claim, hand);
         *stand = watched.stand(stand.tends, None);
         let wakes = self.tell(watched, Teller::Looks);
-        BlockTurn { made, wakes }
+        Some(BlockTurn {
+            made,
+            is_drafted: false,
+            wakes,
+        })
     }
 
     /// Wakes a worker.
@@ -271,7 +345,7 @@ impl<K: Asked> Hall<K> {
 
     /// Ends the run for all workers, for this cause.
     pub(crate) fn give_up<R: Wait>(&self, rt: &R, cause: EndCause<'_>) {
-        let _watched = self.watched.lock(rt);
+        let _watched = self.hold(rt);
         let _ = self.end(cause);
     }
 
@@ -296,7 +370,7 @@ impl<K: Asked> Hall<K> {
 
     /// The worker tends no longer. The end of the run, where all is over.
     fn rest<R: Wait>(&self, rt: &R, stand: &mut Stand) -> Option<RunEnd> {
-        let mut guard = self.watched.lock(rt);
+        let mut guard = self.hold(rt);
         let watched = &mut *guard;
         watched.policy.rests(stand.tends);
         stand.tends = false;
@@ -328,7 +402,7 @@ impl<K: Asked> Hall<K> {
             return None;
         }
         self.linger();
-        let mut watched = self.watched.lock(rt);
+        let mut watched = self.hold(rt);
         for _ in rt.forever() {
             if let Some(end) = self.end.get() {
                 return Some(end);

@@ -2,12 +2,14 @@
 #![tactic(auto)]
 
 mod actors;
+mod alone;
 mod claims;
 mod gate;
 mod gave_up;
 mod hall;
 mod hand;
 mod hints;
+mod no_outcome;
 mod options;
 mod periods;
 mod policy;
@@ -21,10 +23,12 @@ mod texts;
 mod tokens;
 mod told;
 mod totals;
+mod watch;
 mod watched;
 mod worker;
 
 pub use gate::{Gate, Open};
+pub use no_outcome::NoOutcome;
 pub use options::RunOptions;
 pub use running::run;
 pub use script::kept_script;
@@ -34,3 +38,4 @@ pub use texts::{
 };
 pub use tokens::{FeedFault, TokensFault, TokensRun, run_tokens};
 pub use totals::ChannelTotal;
+pub use watch::Watch;

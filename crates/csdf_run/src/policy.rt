@@ -22,6 +22,8 @@ const ONE_IN: u32 = 17;
 pub(crate) struct Crew {
     /// How many there are.
     pub(crate) workers: u32,
+    /// How many of them can be busy at a time: as many as there are processors for them.
+    pub(crate) busy: u32,
     /// Whether one may have to wait for another at the gate.
     pub(crate) may_wait: bool,
 }
@@ -32,10 +34,9 @@ impl Crew {
         self.workers <= 1
     }
 
-    /// Whether blocks of firings that are heavy are evaluated without the lock: where there are two. With
-    /// more they wait for the lock, and for each other to wake up, longer than they evaluate.
+    /// Whether blocks of firings that are heavy are evaluated without the lock.
     pub(crate) fn drafts(self) -> bool {
-        self.workers == 2
+        self.workers > 1
     }
 }
 
@@ -66,19 +67,29 @@ pub(crate) enum Teller {
 /// No wake-up is lost: what is spare changes under the lock alone, and whoever changes it tells: it wakes a
 /// worker where more is spare than there are workers who look, or were woken to look. Each of those sees
 /// under the lock that nothing is spare before it sleeps, or starts a firing and tells in its turn.
+///
 /// Firings of a light actor are made one after another under the lock by the one who tends, or by the one
 /// worker that there is, which makes those of all. An actor is light once it is seen to be so.
-/// Where there are two workers, one leaves the lock to evaluate a block of firings that is heavy: it has
-/// *drafted* it, and tends no longer. Whose last block was drafted is spare too; while it is, nobody looks
-/// for the actor.
-/// None is woken in vain: it is woken for an actor that nobody else looks for, once the claims of the one
-/// who wakes it have ended, and finds it unless another was faster or its start is refused.
+///
+/// A block of firings that is heavy is evaluated without the lock: a worker *drafts* it, tends no longer,
+/// and in its next hold of the lock makes it and drafts the next one. Whose firings were drafted once is
+/// spare too, since they may be heavy again, and nobody looks for the actor while they are drafted.
+///
+/// As many workers are busy as there are processors: where so many draft or tend, nothing is spare but
+/// heavy firings, since more workers would only wait for the lock. No wake-up is lost by that: each of these
+/// comes back soon, and tells what is spare then.
+///
+/// None is woken in vain: it is woken for an actor that nobody else looks for and for which there is a
+/// processor, once the claims of the one who wakes it have ended, and finds it unless another was faster or
+/// its start is refused.
 #[derive(Drop)]
 pub(crate) struct Policy {
     heavy: u64,
     light: u64,
     blocks: u64,
     drafted: u64,
+    drafting: u32,
+    busy: u32,
     looks: u32,
     is_tended: bool,
     sleeping: u32,
@@ -107,6 +118,8 @@ impl Policy {
             light: if crew.is_alone() { u64::MAX } else { 0 },
             blocks: 0,
             drafted: 0,
+            drafting: 0,
+            busy: crew.busy,
             looks: 0,
             is_tended: false,
             sleeping: 0,
@@ -154,12 +167,12 @@ impl Policy {
         self.light
     }
 
-    /// The actors whose last firings were drafted.
+    /// The actors of whom firings were drafted.
     pub(crate) fn blocks(&self) -> u64 {
         self.blocks
     }
 
-    /// Whether to look if the actor's next firings are heavy: where its last ones were, and else not each
+    /// Whether to look if the actor's next firings are heavy: where some of them were, and else not each
     /// time, since a look costs a tenth of a light firing.
     pub(crate) fn looks_at(&mut self, actor: u32) -> bool {
         if self.blocks & bit_of(actor) != 0 {
@@ -169,20 +182,21 @@ impl Policy {
         self.looks <= LOOKED_AT || self.looks % ONE_IN == 0
     }
 
-    /// A worker has claimed an actor, and drafts firings of it, or finds that they are light.
+    /// A worker has claimed an actor, and drafts firings of it, or finds that they are light. Who has drafted
+    /// some may draft again, however few firings there are in between.
     pub(crate) fn drafts(&mut self, actor: u32, is_drafted: bool) {
-        let bit = bit_of(actor);
         if is_drafted {
+            let bit = bit_of(actor);
             self.blocks |= bit;
             self.drafted |= bit;
-        } else {
-            self.blocks &= !bit;
+            self.drafting = self.drafting.saturating_add(1);
         }
     }
 
     /// The drafted firings of an actor are about to be made.
     pub(crate) fn has_drafted(&mut self, actor: u32) {
         self.drafted &= !bit_of(actor);
+        self.drafting = self.drafting.saturating_sub(1);
     }
 
     /// Those of these actors of whom no firings are drafted.
@@ -195,21 +209,42 @@ impl Policy {
         self.is_tended = self.is_tended && !tended;
     }
 
+    /// How many workers more can be busy, beside those who draft and the one who tends.
+    fn slots(&self) -> u32 {
+        let tending = if self.is_tended { 1 } else { 0 };
+        self.busy
+            .saturating_sub(self.drafting)
+            .saturating_sub(tending)
+    }
+
     /// The spare ones of the actors that can begin.
     pub(crate) fn spare(&self, ready: u64) -> u64 {
         let free = self.undrafted(ready);
-        if self.is_tended {
+        if self.slots() == 0 {
+            free & self.heavy
+        } else if self.is_tended {
             free & (self.heavy | self.blocks)
         } else {
             free
         }
     }
 
+    /// How many workers find something among these, which are spare: one for each heavy firing, one for
+    /// each block while there are processors for them, and one for all light ones.
+    fn places(&self, spare: u64) -> u32 {
+        let blocks = spare & self.blocks & !self.heavy;
+        let light = spare & !self.blocks & !self.heavy;
+        let tends = if light == 0 { 0 } else { 1 };
+        (spare & self.heavy).count_ones().saturating_add(
+            blocks.count_ones().saturating_add(tends).min(self.slots()),
+        )
+    }
+
     /// Whether the teller is to wake a worker, which then counts as woken.
     pub(crate) fn wakes_one(&mut self, spare: u64, looking: u32, teller: Teller) -> bool {
         let own = if teller == Teller::Looks { 1 } else { 0 };
         let awake = looking.saturating_add(self.woken).saturating_add(own);
-        if self.sleeping == 0 || spare.count_ones() <= awake {
+        if self.sleeping == 0 || self.places(spare) <= awake {
             return false;
         }
         self.sleeping -= 1;

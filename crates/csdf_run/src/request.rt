@@ -9,7 +9,7 @@ ghost use Rattle.csdf_run.specs.Texts.{GoesOnFor, MayGoOnOver, work_for};
 use crate::hints::Hints;
 use crate::options::RunOptions;
 use crate::periods::periods_of;
-use csdf_floor::{Fed, Floor};
+use csdf_floor::{Fed, Floor, RunBounds};
 use csdf_model::{MAX_ACTORS, MAX_FIRINGS_PER_ACTOR};
 use std::alloc::{AllocError, Global};
 use std::marker::Model;
@@ -45,6 +45,13 @@ impl Model for Request {
         × HasFewFirings r.fed.accepted r.periods };
 }
 
+/// How a request is carried out: for so many periods, and as its options say.
+#[derive(Clone, Copy)]
+pub(crate) struct Terms {
+    pub(crate) periods: u32,
+    pub(crate) options: RunOptions,
+}
+
 /// How many firings the actors make in so many periods, all together.
 fn firings_in(periods: u32, q: &[u32]) -> u64
     requires few { All (λ n. periods * n ≤ MAX_FIRINGS_PER_ACTOR) q.now }
@@ -72,6 +79,38 @@ impl Request {
             fed,
             periods,
             options,
+        }
+    }
+
+    /// A request that is carried out so.
+    pub(crate) fn on(fed: Fed, terms: Terms) -> Request
+        requires fed { AreFeeds fed.accepted.graph (feeds_in fed.feeds.items) }
+        requires some_period { 1 ≤ terms.periods }
+        requires few_firings { HasFewFirings fed.accepted terms.periods }
+        ensures work { result.work ≡ work_for fed.accepted (feeds_in fed.feeds.items) terms.periods terms.options.firings }
+        ensures workers { result.workers ≡ terms.options.workers }
+        ensures keeps { result.keeps ≡ is_kept terms.options.keeping }
+    {
+        let Terms { periods, options } = terms;
+        Request {
+            fed,
+            periods,
+            options,
+        }
+    }
+
+    /// How it is carried out.
+    pub(crate) fn terms(&self) -> Terms
+        ensures work { self.now.work ≡ work_for self.now.work.accepted self.now.work.feeds result.periods result.options.firings }
+        ensures workers { result.options.workers ≡ self.now.workers }
+        ensures keeps { is_kept result.options.keeping ≡ self.now.keeps }
+        ensures fed { AreFeeds self.now.work.accepted.graph self.now.work.feeds }
+        ensures some_period { 1 ≤ result.periods }
+        ensures few_firings { HasFewFirings self.now.work.accepted result.periods }
+    {
+        Terms {
+            periods: self.periods,
+            options: self.options,
         }
     }
 
@@ -125,6 +164,10 @@ impl Request {
             periods,
             options,
         } = self;
-        Floor::over(alloc, fed, periods, options.firings, options.keeping)
+        let bounds = RunBounds {
+            periods,
+            firings: options.firings,
+        };
+        Floor::over(alloc, fed, bounds, options.keeping)
     }
 }

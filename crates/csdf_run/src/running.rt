@@ -6,19 +6,22 @@ ghost use Rattle.csdf_floor.specs.Journal.{program_for};
 ghost use Rattle.csdf_floor.specs.Work.{AreFeeds, HasFewFirings, feeds_in};
 ghost use Rattle.csdf_floor.specs.Outcome.{HasHonestJournal, EndsSettled, TakesInOrder, StaysWithinCapacities, LeavesClosedAlone};
 ghost use Rattle.csdf_floor.specs.Outcome.{TellsSinks, TellsReport, TellsLeft, TellsEnding, IsAsSequentialRun, IsAsInAnyRoom, CompletesWhereAmple, IsOutcome};
-ghost use Rattle.csdf_run.specs.Causes.{IsCauseAmong};
+ghost use Rattle.csdf_run.specs.Causes.{IsCauseAmong, IsWantAmong};
 ghost use Rattle.csdf_run.specs.Requests.{IsFedOf, most_firings};
 ghost use Rattle.csdf_run.specs.Workers.{AnswersForAll, HoldsNothing, IsEndAt, TakesIn, both};
 
+use crate::alone::outcome_alone;
 use crate::gate::Gate;
 use crate::gave_up::GaveUp;
 use crate::hall::Hall;
+use crate::no_outcome::{NoOutcome, Ran};
 use crate::options::RunOptions;
 use crate::policy::Crew;
 use crate::request::Request;
 use crate::run_end::{EndCause, RunEnd, Unstarted};
 use crate::run_floor::{Asked, RunFloor};
 use crate::told::{Telling, Told};
+use crate::watch::{Watch, Watching};
 use crate::worker::{Ended, work};
 use csdf_analysis::{Accepted, Length, Room};
 use csdf_claims::{Board, Place};
@@ -29,7 +32,7 @@ use std::alloc::{AllocError, Global};
 use std::marker::Brand;
 use std::sync::Wait;
 use std::thread;
-use std::thread::{Promise, PromisedHandle, Threads};
+use std::thread::{Promise, PromisedHandle, Threads, available_parallelism};
 
 /// The place that a worker hands back is one of this board, and holds nothing where the worker did not give up.
 #[derive(Clone, Copy)]
@@ -300,6 +303,14 @@ fn hall_of<K: Asked>(alloc: Global, request: Request, crew: Crew) -> Result<Hall
     }
 }
 
+/// How many processors there are for threads of the program, as far as that is known.
+fn processors(rt: &impl Threads) -> u32 {
+    match available_parallelism(rt) {
+        Ok(count) => u32::try_from(count.get()).unwrap_or(u32::MAX),
+        Err(_) => u32::MAX,
+    }
+}
+
 /// What [`outcome_of`] answers, where the type `K` says what is asked.
 fn outcome_as<K: Asked + Send + Sync, R: Threads + Wait + Sync, G: Told>(
     rt: &R,
@@ -317,6 +328,7 @@ fn outcome_as<K: Asked + Send + Sync, R: Threads + Wait + Sync, G: Told>(
 {
     let crew = Crew {
         workers: request.workers(),
+        busy: processors(rt),
         may_wait: gate.may_wait(),
     };
     let actors = request.actors();
@@ -355,6 +367,45 @@ pub(crate) fn outcome_of<R: Threads + Wait + Sync, G: Gate>(
 {
     let told = Telling { gate };
     outcome_as::<Brand, R, Telling<'_, G>>(rt, alloc, request, &told)
+}
+
+/// What a request comes to of which a watch is told, and what was run, which comes back.
+///
+/// One worker needs no lock and no board. Where the floor and the board of several do not fit together, which
+/// is not seen, the calling thread makes the run anew: so this is no fault.
+pub(crate) fn watched_outcome_of<R: Threads + Wait + Sync, W: Watch>(
+    rt: &R,
+    alloc: Global,
+    request: Request,
+    watch: &W,
+) -> Ran
+    ensures fed { IsFedOf request.work result.fed }
+    ensures outcome { IfOk result.outcome (IsOutcome request.work) }
+    ensures cause { IfErr result.outcome (IsWantAmong request.workers) }
+    ensures keeps { IfOk result.outcome (λ o. o.journal.keeps ≡ request.keeps) }
+{
+    let gate = Watching { watch };
+    let told = Telling { gate: &gate };
+    if request.workers() <= 1 {
+        return outcome_alone(rt, alloc, request, &told);
+    }
+    let terms = request.terms();
+    let Settled { fed, outcome } = outcome_of(rt, alloc, request, &gate);
+    match outcome {
+        Ok(outcome) => Ran {
+            fed,
+            outcome: Ok(outcome),
+        },
+        Err(RunFault::Memory) => Ran {
+            fed,
+            outcome: Err(NoOutcome::Memory),
+        },
+        Err(RunFault::Worker) => Ran {
+            fed,
+            outcome: Err(NoOutcome::Worker),
+        },
+        Err(RunFault::Mixed) => outcome_alone(rt, alloc, Request::on(fed, terms), &told),
+    }
 }
 
 /// Runs so many periods of an accepted graph over these feeds by worker threads: each firing is computed

@@ -6,16 +6,17 @@ ghost use Rattle.csdf_analysis.specs.Acceptance.{IsAccepted};
 ghost use Rattle.csdf_model.specs.Holding.{HaveAsMany};
 ghost use Rattle.csdf_floor.specs.declared.ending.Ending.TheVariants.{Complete};
 ghost use Rattle.csdf_floor.specs.Work.{AreFeeds, HasFewFirings, feeds_in};
-ghost use Rattle.csdf_run.specs.Causes.{IsCauseAmong};
+ghost use Rattle.csdf_run.specs.Causes.{IsWantAmong};
 ghost use Rattle.csdf_run.specs.Totals.{totals_of, with_report};
 
-use crate::gate::Gate;
+use crate::no_outcome::{NoOutcome, Ran};
 use crate::options::RunOptions;
 use crate::request::Request;
-use crate::running::outcome_of;
+use crate::running::watched_outcome_of;
 use crate::totals::{ChannelTotal, add_report, no_totals};
+use crate::watch::Watch;
 use csdf_analysis::{Accepted, Length, Room};
-use csdf_floor::{ChannelReport, Ending, Fed, Outcome, RunFault, Settled, are_exact};
+use csdf_floor::{ChannelReport, Ending, Fed, Outcome, are_exact};
 use csdf_journal::Keeping;
 use std::alloc::{AllocError, Global};
 use std::marker::Model;
@@ -75,7 +76,7 @@ pub struct Stretch {
     /// The tokens for each actor, as they were handed in.
     pub feeds: Vec<Vec<i32>>,
     /// What the segment answers.
-    pub part: Result<Part, RunFault>,
+    pub part: Result<Part, NoOutcome>,
 }
 
 /// Whether a stream goes on after a segment that ended so.
@@ -176,15 +177,15 @@ impl Stream {
     /// a front of what it takes in the one long run over all feeds so far; and it is the same where the last
     /// one ended complete or dry.
     ///
-    /// The faults are those of [`run`](crate::run). Where there is one, the stream stands where it stood.
-    pub fn segment<R: Threads + Wait + Sync, G: Gate>(
+    /// The watch is told how far the segment has come. Where there is a fault, the stream stands where it stood.
+    pub fn segment<R: Threads + Wait + Sync, W: Watch>(
         self,
         rt: &R,
         alloc: Global,
         feeds: Vec<Vec<i32>>,
         workers: u32,
         periods: u32,
-        gate: &G,
+        watch: &W,
     ) -> Stretch
         requires goes_on { self.is_over ≡ false }
         requires fed { AreFeeds self.accepted.graph (feeds_in feeds.items) }
@@ -195,7 +196,7 @@ impl Stream {
         ensures feeds { feeds_in result.feeds.items ≡ feeds_in feeds.items }
         ensures part { IfOk result.part (IsStretch self (feeds_in feeds.items) periods result.stream) }
         ensures stands { IfErr result.part (λ _. result.stream ≡ self) }
-        ensures cause { IfErr result.part (IsCauseAmong workers) }
+        ensures cause { IfErr result.part (IsWantAmong workers) }
     {
         let Stream {
             accepted,
@@ -213,7 +214,7 @@ impl Stream {
             keeping: Keeping::NotKept,
         };
         let request = Request::new(Fed { accepted, feeds }, options);
-        let Settled { fed, outcome } = outcome_of(rt, alloc, request, gate);
+        let Ran { fed, outcome } = watched_outcome_of(rt, alloc, request, watch);
         let Fed { accepted, feeds } = fed;
         match outcome {
             Ok(outcome) => {

@@ -21,13 +21,14 @@ use crate::running::outcome_of;
 use crate::script::kept_script;
 use csdf_analysis::{AcceptFault, Length, Room, accept_or_hand_back};
 use csdf_bytes::{Slice, TokenFault, read_tokens};
-use csdf_floor::{ChannelReport, Ending, Fed, Outcome, RunFault, Settled, printed_report};
+use csdf_floor::{ChannelReport, Ending, Fed, Outcome, RunFault, Settled, list_at, printed_report};
 use csdf_graph::{GraphFault, read_graph};
 use csdf_journal::Keeping;
 use csdf_model::{Actor, Graph, MAX_ACTORS};
 use std::alloc::{AllocError, Global};
 use std::sync::Wait;
 use std::thread::Threads;
+use thiserror::Error;
 
 /// What is told of a run.
 #[derive(Debug, Drop)]
@@ -47,17 +48,22 @@ pub struct Texts {
 /// Why texts make no run: the first that applies.
 ///
 /// Want of memory is told where it was met.
-#[derive(Clone, Copy, Debug, PartialEq, Eq)]
+#[derive(Clone, Copy, Debug, PartialEq, Eq, Error)]
 pub enum TextsFault {
     /// The graph file is refused.
+    #[error("{0}")]
     Graph(GraphFault),
     /// Its graph is not accepted.
+    #[error("{0}")]
     Accept(AcceptFault),
     /// There is not one text for each source.
+    #[error("there is not one text for each source")]
     FeedCount,
     /// The text of this source, the first such one, is refused.
+    #[error("tokens of actor {0}: {1}")]
     Feed(u32, TokenFault),
     /// The run has no outcome.
+    #[error("{0}")]
     Run(RunFault),
 }
 
@@ -203,16 +209,6 @@ fn text_of(alloc: Global, tokens: &[i32]) -> Result<Vec<u8>, AllocError>
         push_token(&mut text, *token)?;
     }
     Ok(text.into_bytes())
-}
-
-/// The list with this number; the empty list where there is none.
-fn list_at(lists: &[Vec<i32>], number: usize) -> &[i32]
-    ensures { result.now ≡ slice_index_or (feeds_in lists.now) number [] }
-{
-    match lists.get(number) {
-        Some(list) => list.as_slice(),
-        None => &[],
-    }
 }
 
 /// The written text of each sink's list.

@@ -5,24 +5,26 @@ ghost use Rattle.csdf_analysis.specs.Room.{HasSomePeriod};
 ghost use Rattle.csdf_floor.specs.declared.outcome.Outcome.{Outcome as OutcomeCode};
 ghost use Rattle.csdf_floor.specs.Work.{feeds_in};
 ghost use Rattle.csdf_journal.specs.View.{is_kept};
-ghost use Rattle.csdf_run.specs.Causes.{IsCauseAmong};
 ghost use Rattle.csdf_run.specs.Texts.{AreTextsOf, IsHandedBack, MayGraphGoOn};
 ghost use Rattle.csdf_run.specs.Tokens.{AreReadOf, IsGraphRun, IsGraphRunSameInAnyRoom, IsSequentialGraphRun, IsTokensCause, IsTokensRefusal};
 
-use crate::gate::Gate;
+use crate::no_outcome::{NoOutcome, Ran};
 use crate::options::RunOptions;
 use crate::request::Request;
-use crate::running::outcome_of;
+use crate::running::watched_outcome_of;
+use crate::watch::Watch;
 use csdf_analysis::{AcceptFault, Room, accept_or_hand_back};
 use csdf_bytes::TokenFault;
-use csdf_floor::{Fed, Outcome, RunFault, Settled};
+use csdf_floor::{Fed, Outcome};
 use csdf_model::Graph;
 use std::alloc::Global;
 use std::sync::Wait;
 use std::thread::Threads;
+use thiserror::Error;
 
 /// Why the text of a source holds no tokens.
-#[derive(Clone, Copy, Debug, PartialEq, Eq)]
+#[derive(Clone, Copy, Debug, PartialEq, Eq, Error)]
+#[error("tokens of actor {actor}: {fault}")]
 pub struct FeedFault {
     /// The source, by its number in the graph.
     pub actor: u32,
@@ -31,14 +33,17 @@ pub struct FeedFault {
 }
 
 /// Why what was read makes no run: the first that applies.
-#[derive(Clone, Copy, Debug, PartialEq, Eq)]
+#[derive(Clone, Copy, Debug, PartialEq, Eq, Error)]
 pub enum TokensFault {
     /// The graph is not accepted.
+    #[error("{0}")]
     Accept(AcceptFault),
     /// The text of a source, the first such one, is refused.
+    #[error("{0}")]
     Feed(FeedFault),
     /// The run has no outcome.
-    Run(RunFault),
+    #[error("{0}")]
+    Run(NoOutcome),
 }
 
 /// What came of a run over tokens, and the graph, which is handed back.
@@ -92,7 +97,7 @@ fn fed_with(
 }
 
 /// An outcome, or why there is none, as that of tokens.
-fn told_of(outcome: Result<Outcome, RunFault>) -> Result<Outcome, TokensFault>
+fn told_of(outcome: Result<Outcome, NoOutcome>) -> Result<Outcome, TokensFault>
     ensures told { IfOk outcome (λ o. result ≡ Ok o) }
     ensures failed { IfErr outcome (λ why. result ≡ Err (TokensFault.Run why)) }
 {
@@ -107,18 +112,18 @@ fn told_of(outcome: Result<Outcome, RunFault>) -> Result<Outcome, TokensFault>
 /// the first such one is handed in, and is told once the graph was accepted.
 ///
 /// The refusals come in the order of [`TokensFault`]: those of [`accept`](csdf_analysis::accept), the
-/// text, and those of [`run`](crate::run), whose gate each worker passes.
+/// text, and why the run itself has no outcome. The watch is told how far the run has come.
 ///
 /// What the sinks take does not depend on the number of workers: it is what they take in the sequential
 /// run (the determinacy of dataflow graphs: Lee and Messerschmitt 1987), or a front of it where the limit
 /// on all firings or want of cells held the run back.
-pub fn run_tokens<R: Threads + Wait + Sync, G: Gate>(
+pub fn run_tokens<R: Threads + Wait + Sync, W: Watch>(
     rt: &R,
     alloc: Global,
     graph: Graph,
     feeds: Result<Vec<Vec<i32>>, FeedFault>,
     options: RunOptions,
-    gate: &G,
+    watch: &W,
 ) -> TokensRun
     requires some_worker { 1 ≤ options.workers }
     requires few_workers { options.workers ≤ 8 }
@@ -147,7 +152,7 @@ pub fn run_tokens<R: Threads + Wait + Sync, G: Gate>(
         }
     };
     let request = Request::new(fed, options);
-    let Settled { fed, outcome } = outcome_of(rt, alloc, request, gate);
+    let Ran { fed, outcome } = watched_outcome_of(rt, alloc, request, watch);
     TokensRun {
         graph: fed.accepted.into_graph(),
         outcome: told_of(outcome),

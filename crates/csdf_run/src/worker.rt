@@ -5,7 +5,7 @@ ghost use Rattle.csdf_claims.specs.Board.{HasFinished};
 ghost use Rattle.csdf_floor.specs.Floor.{IsReady};
 ghost use Rattle.csdf_floor.specs.declared.fault.RunFault.TheVariants.{Memory};
 ghost use Rattle.csdf_run.specs.Hand.{claim_for, claim_if, claim_in};
-ghost use Rattle.csdf_run.specs.Workers.{HasMade, HoldsJust, HoldsNothing, IsActor, IsStartOf};
+ghost use Rattle.csdf_run.specs.Workers.{CanEnd, HasMade, HoldsJust, HoldsNothing, IsActor, IsStartOf};
 
 use crate::claims::{Claim, claim_among, finish, finish_block, give_back};
 use crate::gate::Gate;
@@ -13,7 +13,7 @@ use crate::gave_up::{GaveUp, refused, unevaluated, untaken};
 use crate::hall::{BlockTurn, Hall, Turn};
 use crate::hand::Hand;
 use crate::run_end::{EndCause, RunEnd};
-use crate::run_floor::{Asked, NotStarted};
+use crate::run_floor::{Asked, Made, NotStarted};
 use crate::told::Told;
 use crate::watched::Stand;
 use csdf_claims::{Board, Place};
@@ -79,7 +79,7 @@ fn settle_start(
     if matches!(&started, Ok(true)) {
         return Ok(true);
     }
-    give_back(board, place, next);
+    give_back(board, place, next, None);
     match started {
         Ok(_) => Ok(false),
         Err(why) => refused(why),
@@ -160,9 +160,84 @@ fn fire<G: Gate>(board: &Board, gate: &G, place: &mut Place, hand: &mut Hand) ->
     }
 }
 
-/// Makes firings of an actor one after another, the claimed one first, in one hold of the lock. Behind it
-/// the claim ends: what was made is finished, and a claim that was refused is given up. Only then another
-/// worker is woken. True where some were made.
+/// Ends the claim of firings that were looked for in a hold of the lock: what was made is finished, and a
+/// claim that was refused is given up. What is held beside it stays so. True where some were made.
+fn settle_block<G: Told>(
+    board: &Board,
+    gate: &G,
+    place: &mut Place,
+    claim: Claim,
+    made: Result<Made, NotStarted>,
+    beside: Option<Claim>,
+) -> Result<bool, GaveUp>
+    requires place { place.old.board ≡ board.now.id }
+    requires actor { claim.actor < board.now.actors }
+    requires holds { HoldsJust place.old.view (Some claim) beside }
+    requires claim { IfOk made (λ made. made.claim ≡ claim) }
+    requires some { IfOk made (λ made. 0 < made.count) }
+    requires fits { IfOk made (λ made. CanEnd claim made.count) }
+    ensures board { place.new.board ≡ board.now.id }
+    ensures holds { HoldsJust place.new.view None beside }
+{
+    match made {
+        Ok(made) => {
+            finish_block(board, gate, place, made, beside);
+            Ok(true)
+        }
+        Err(why) => {
+            give_back(board, place, Some(claim), beside);
+            refused(why)
+        }
+    }
+}
+
+/// Evaluates what is drafted and makes it, and goes on so with what was drafted in the same hold of the lock,
+/// of an actor that was claimed beside. Behind each hold the claim ends; only then another worker is woken.
+/// True where the last one made some.
+fn make_drafted<K: Asked, R: Wait, G: Told>(
+    rt: &R,
+    hall: &Hall<K>,
+    board: &Board,
+    gate: &G,
+    place: &mut Place,
+    stand: &mut Stand,
+    hand: &mut Hand,
+    claim: Claim,
+) -> Result<bool, GaveUp>
+    requires place { place.old.board ≡ board.now.id }
+    requires actor { claim.actor < board.now.actors }
+    requires holds { HoldsJust place.old.view (Some claim) None }
+    requires open { (a k : ℕ) → G.passed gate.now a k }
+    ensures board { place.new.board ≡ board.now.id }
+    ensures idle { hand.new.is_made ≡ false }
+    ensures holds { HoldsJust place.new.view None None }
+{
+    let mut claim = claim;
+    for _ in rt.forever() {
+        hand.evaluate_draft(gate);
+        let beside = claim_next(hall, board, place, stand, Some(claim), false);
+        let BlockTurn {
+            made,
+            is_drafted,
+            wakes,
+        } = hall.make_drafted(rt, gate, place, stand, hand, claim, beside);
+        let answer = settle_block(board, gate, place, claim, made, beside);
+        if wakes {
+            hall.wake();
+        }
+        match beside {
+            Some(next) if is_drafted && answer.is_ok() => claim = next,
+            _ => {
+                give_back(board, place, beside, None);
+                return answer;
+            }
+        }
+    }
+    unreachable!()
+}
+
+/// Makes firings of an actor one after another, the claimed one first, in one hold of the lock, or drafts them
+/// where they are heavy. True where some were made.
 fn make<K: Asked, R: Wait, G: Told>(
     rt: &R,
     hall: &Hall<K>,
@@ -175,27 +250,22 @@ fn make<K: Asked, R: Wait, G: Told>(
 ) -> Result<bool, GaveUp>
     requires place { place.old.board ≡ board.now.id }
     requires actor { claim.actor < board.now.actors }
-    requires holds { HoldsJust place.old.view None (Some claim) }
+    requires holds { HoldsJust place.old.view (Some claim) None }
     requires open { (a k : ℕ) → G.passed gate.now a k }
     ensures board { place.new.board ≡ board.now.id }
     ensures idle { hand.new.is_made ≡ false }
     ensures holds { HoldsJust place.new.view None None }
 {
-    let BlockTurn { made, wakes } = hall.make(rt, gate, place, stand, hand, claim);
-    let answer = match made {
-        Ok(made) => {
-            finish_block(board, gate, place, made);
-            Ok(true)
+    match hall.make(rt, gate, place, stand, hand, claim) {
+        Some(turn) => {
+            let answer = settle_block(board, gate, place, claim, turn.made, None);
+            if turn.wakes {
+                hall.wake();
+            }
+            answer
         }
-        Err(why) => {
-            give_back(board, place, Some(claim));
-            refused(why)
-        }
-    };
-    if wakes {
-        hall.wake();
+        None => make_drafted(rt, hall, board, gate, place, stand, hand, claim),
     }
-    answer
 }
 
 /// Delivers what is in hand, and makes the next firing, up to its delivery, or some firings one after

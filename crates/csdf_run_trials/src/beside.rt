@@ -40,17 +40,12 @@ pub(crate) struct Beside {
     pub(crate) at_once: u32,
 }
 
-/// How many of the actor's next firings can be made at once, as its next block or, where it keeps a state,
-/// as those that go on with it.
-fn block_of(core: &Core, actor: u32, most: u32) -> u32 {
-    let firings = core.block(actor, most).firings;
+/// How many of the actor's next firings can be made one after another, with none of others between.
+pub(crate) fn block_of(core: &Core, actor: u32, most: u32) -> u32 {
     if core.actors() <= actor {
-        return firings;
+        return 0;
     }
-    match core.feedback(actor) {
-        Some(feedback) => core.goes_on(actor, feedback, most).max(firings),
-        None => firings,
-    }
+    core.ahead(actor, most).firings
 }
 
 impl Beside {

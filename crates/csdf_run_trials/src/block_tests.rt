@@ -3,6 +3,7 @@
 
 ghost use Rattle.std.specs.Prelude.{IfOk};
 
+use crate::beside::block_of;
 use crate::shared::{
     Asked, asked_for, deliver, done_of, expect_eq, fired_by, floor_that_keeps, moves_of,
 };
@@ -225,10 +226,12 @@ fn made_singly(rt: &impl Abort, alloc: Global, asked: &Asked) -> Result<String, 
     moves_of(alloc, &floor)
 }
 
-/// Graphs of one phase, and what comes of them. Three firings fill a channel, so three are made at once,
-/// and then the fourth.
-const GRAPHS: [(&str, &str); 3] = [
-    (LINE, "3 3 3 1 1 1 [][][5, -6, 7, 8]"),
+/// What comes of a graph of one phase. Three firings fill a channel, so three are made at once, and then
+/// the fourth.
+const OF_LINE: &str = "3 3 3 1 1 1 [][][5, -6, 7, 8]";
+
+/// Graphs of one phase whose middle actor keeps a state, and what comes of them.
+const GRAPHS: [(&str, &str); 2] = [
     // running sums: each firing reads what the one before it wrote to itself
     (SUMS, "3 3 3 1 1 1 [][][5, -1, 6, 14]"),
     // from 1, 1 and 5: 3 goes to the sink, and 3, 11 are the next state; then 25, and 25, -1; 23, and
@@ -252,6 +255,7 @@ fn firings_are_made_at_once(rt: HostRuntime) -> Result<(), Fail> {
     for (graph, wanted) in &GRAPHS {
         check_not_kept(&rt, rt.alloc(), *graph, *wanted)?;
     }
+    check_not_kept(&rt, rt.alloc(), LINE, OF_LINE)?;
     check_not_kept(&rt, rt.alloc(), PHASES, OF_PHASES)
 }
 
@@ -266,21 +270,28 @@ fn check_kept(rt: &impl Abort, alloc: Global, graph: &str, wanted: &str) -> Resu
 
 #[test]
 fn moves_of_firings_are_kept(rt: HostRuntime) -> Result<(), Fail> {
+    check_kept(&rt, rt.alloc(), LINE, OF_LINE)
+}
+
+/// Each firing of these reads what the one before it wrote. Some are made one after the other, and then fewer
+/// where memory runs out after the first: `tests/memory/run` leaves this one out.
+#[test]
+fn moves_of_states_are_kept(rt: HostRuntime) -> Result<(), Fail> {
     for (graph, wanted) in &GRAPHS {
         check_kept(&rt, rt.alloc(), *graph, *wanted)?;
     }
     Ok(())
 }
 
-/// The copy makes its firings one by one here, and fewer where memory runs out after the first. So
-/// `tests/memory/run` leaves this one out.
+/// A block ends with a cycle of phases here, and others are made after it, or not, where memory runs out.
+/// So `tests/memory/run` leaves this one out.
 #[test]
 fn moves_of_phases_are_kept(rt: HostRuntime) -> Result<(), Fail> {
     check_kept(&rt, rt.alloc(), PHASES, OF_PHASES)
 }
 
-/// A graph whose middle actor has delay lines, what the source reads, how many firings the middle actor's
-/// first block has, and what comes of four periods.
+/// A graph whose middle actor has delay lines, what the source reads, how many firings the middle actor
+/// can make then, and what comes of four periods.
 struct Delayed {
     graph: &'static str,
     feed: &'static [i32],
@@ -299,14 +310,14 @@ const DELAYS: [Delayed; 5] = [
     Delayed {
         graph: WIDE_DELAY,
         feed: &[5, -6, 7, 8],
-        block: 2,
+        block: 3,
         wanted: "3 3 3 1 1 1 [][][11, 9, 33, 39]",
     },
     // the same and 10, 20, 21 and 29 of the second line: 21, 29, 7 + 7 + 8 + 21 + 21, 8 + 21 + 21 + 29 + 29
     Delayed {
         graph: TWO_DELAYS,
         feed: &[5, -6, 7, 8],
-        block: 2,
+        block: 3,
         wanted: "3 3 3 1 1 1 [][][21, 29, 64, 108]",
     },
     // 5 - 6 + 1 and 7 + 8 + 2, and then the source's file is at its end
@@ -316,22 +327,23 @@ const DELAYS: [Delayed; 5] = [
         block: 2,
         wanted: "2 2 2 [][][0, 17]",
     },
-    // 5 + 1 + 2, -6 + 3, 7 + 4 + 5, 8 + 6, 1 + 7 + 8, 2 + 9, 3 + 10 + 11, 4 + 12
+    // 5 + 1 + 2, -6 + 3, 7 + 4 + 5, 8 + 6, 1 + 7 + 8, 2 + 9, 3 + 10 + 11, 4 + 12. There are eight cells for the
+    // five tokens that a cycle gives, and not for those of two
     Delayed {
         graph: DELAY_OF_PHASES,
         feed: &[5, -6, 7, 8, 1, 2, 3, 4],
-        block: 8,
+        block: 2,
         wanted: "8 8 8 [][][8, -3, 16, 14, 16, 11, 24, 16]",
     },
 ];
 
-/// How many firings the middle actor's block has once the source has made all that it can.
+/// How many firings the middle actor can make once the source has made all that it can.
 fn first_block(rt: &impl Abort, alloc: Global, asked: &Asked) -> Result<u32, Fail> {
     let mut floor = floor_that_keeps(rt, alloc, asked, 4, Keeping::NotKept)?;
     let mut counts = Counts::new(alloc);
     let mut outputs = Outputs::new(alloc);
     floor.make(0, 0, 10, &mut counts, &mut outputs)?;
-    Ok(floor.core().block(1, 10).firings)
+    Ok(block_of(floor.core(), 1, 10))
 }
 
 fn check_delayed(rt: &impl Abort, alloc: Global, delayed: &Delayed) -> Result<(), Fail> {

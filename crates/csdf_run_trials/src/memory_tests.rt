@@ -11,8 +11,8 @@ use crate::shared::{
 use csdf_analysis::Accepted;
 use csdf_core::Core;
 use csdf_floor::{
-    DeliverFault, Fed, Floor, Outcome, RunFault, Settled, StartFault, are_feeds, may_run,
-    settle_and_hand_back,
+    DeliverFault, Fed, Floor, Outcome, RunBounds, RunFault, Settled, StartFault, are_feeds,
+    may_run, settle_and_hand_back,
 };
 use csdf_journal::Keeping;
 use csdf_kernel::{Done, Job, Outputs, eval, eval_into};
@@ -249,7 +249,11 @@ fn floor_over<R: Abort>(rt: &R, alloc: Global, asked: Asked) -> Result<Floor, Fa
     let Asked { accepted, feeds } = asked;
     assert!(rt; are_feeds(accepted.graph(), &feeds));
     assert!(rt; may_run(&accepted, 1));
-    match Floor::over(alloc, Fed { accepted, feeds }, 1, None, Keeping::Kept) {
+    let bounds = RunBounds {
+        periods: 1,
+        firings: None,
+    };
+    match Floor::over(alloc, Fed { accepted, feeds }, bounds, Keeping::Kept) {
         Ok(floor) => Ok(floor),
         Err(fed) => {
             check_fed(rt, &fed);

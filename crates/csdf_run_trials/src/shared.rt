@@ -5,7 +5,7 @@ ghost use Rattle.csdf_kernel.specs.Value.{HasFilterInRange};
 ghost use Rattle.csdf_floor.specs.Floor.{IsReady};
 
 use csdf_analysis::{Accepted, accept};
-use csdf_floor::{Floor, Outcome, RunFault, are_feeds, may_run, printed_report, settle};
+use csdf_floor::{Floor, Outcome, RunBounds, RunFault, are_feeds, may_run, printed_report, settle};
 use csdf_graph::read_graph;
 use csdf_journal::Keeping;
 use csdf_kernel::{Counts, Done, Inputs, Job, eval};
@@ -102,7 +102,8 @@ pub(crate) fn limited_floor(
     assert!(rt; are_feeds(accepted.graph(), feeds));
     assert!(rt; 1 <= periods);
     assert!(rt; may_run(accepted, periods));
-    Ok(Floor::with_journal(alloc, accepted, feeds, periods, firings, keeping)?)
+    let bounds = RunBounds { periods, firings };
+    Ok(Floor::with_journal(alloc, accepted, feeds, bounds, keeping)?)
 }
 
 /// How many firings the actor has made, where there is one.

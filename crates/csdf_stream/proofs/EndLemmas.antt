@@ -19,7 +19,7 @@ use Rattle.csdf_floor.specs.Floor.{sinks_of}
 use Rattle.csdf_floor.specs.Work.{AreFeeds, feed_of, feeds_in}
 use Rattle.csdf_run.specs.declared.stream.Part.{Part}
 use Rattle.csdf_run.specs.Streaming.{IsAsLongRun, IsPartOf, IsStretch, StandsAfter, StreamView}
-use Rattle.csdf_run.specs.Causes.{IsCauseAmong}
+use Rattle.csdf_run.specs.Causes.{IsWantAmong}
 use Rattle.csdf_run.specs.Totals.{capped}
 use Rattle.csdf_stream.specs.declared.end.StreamEnd.{StreamEnd}
 use Rattle.csdf_stream.specs.declared.end.StreamFault.{StreamFault}
@@ -31,7 +31,7 @@ use Rattle.csdf_stream.specs.declared.options.TokenFormat.{TokenFormat}
 use Rattle.csdf_stream.specs.declared.options.TokenFormat.TheVariants.{Text}
 use Rattle.csdf_stream.specs.declared.reader.Reader.{Reader}
 use Rattle.csdf_stream.specs.Feeding.{AreFull, AreRead, IsCauseAt, left_at, reader_at, source_at}
-use Rattle.csdf_stream.specs.Flowing.{Devices, GoesOnTo, IsAlike, IsBegun, HasRead, HaveClipped, HaveRead, HaveWritten, IsNoneFed, IsPlanOf, IsReady, IsUnfedBy}
+use Rattle.csdf_stream.specs.Flowing.{Devices, GoesOnTo, HasFailedAt, HasNotRun, HasRead, HasRun, HaveClipped, HaveRead, HaveWritten, IsAlike, IsBegun, IsNoneFed, IsPlanOf, IsReady, IsSegmentOf, IsUnfedBy}
 use Rattle.csdf_stream.specs.Flowing.{IsStopped, IsStreamed, StopsAt, StopsBefore, devices, fed, sunk}
 use Rattle.csdf_stream.specs.Lengths.{IsUsualLength}
 use Rattle.csdf_stream.specs.Ports.{sinks_in, sources_in}
@@ -284,7 +284,7 @@ module _ (a : Accepted) (p : Plan) (asked : Option ℕ) (d now : Devices) (past 
     whole = stands.stream.whole;
     read = some_read is.given is.read;
     left = unwritten is.unwritten;
-    cause = subst (λ (n : ℕ). IsCauseAmong n fault) many is.cause;
+    cause = subst (λ (n : ℕ). IsWantAmong n fault) many is.cause;
   }
   stopped_of why.Memory is = record {
     past = past;
@@ -328,6 +328,65 @@ stops_unfed p old new d (why.TooMany i) same given read kept is =
 stops_unfed p old new d (why.Sink t) same given read kept is = absurd is.3
 stops_unfed p old new d (why.Run fault) same given read kept is = absurd is.3
 stops_unfed p old new d why.Memory same given read kept is = absurd is.3
+
+-- ---- a segment that was read, and then run
+
+-- a flow whose tokens were read
+abbrev pub read_flow : Flow → Vec Reader → Vec (Vec ℤ) → Flow
+read_flow old readers feeds = record {
+  stream = old.stream;
+  buffers = record { readers = readers; feeds = feeds; clipped = old.buffers.clipped };
+  left = old.left;
+}
+
+-- the readers have given these tokens
+abbrev HaveGiven : Plan → Flow → Vec Reader → Devices → (ℕ → List ℤ) → Type 0
+HaveGiven p old readers d given =
+    (k : ℕ) → k < length p.sources.items → Reads (reader_at old.buffers.readers.items k) (reader_at readers.items k) (left_at d.lefts k) (left_at d.rests k) (given k)
+
+pub goes_on_run : (p : Plan) (old new : Flow) (rs : Vec Reader) (fs : Vec (Vec ℤ)) (d : Devices) (periods : ℕ) (part : Part)
+    → IsSegmentOf old.stream.accepted p old.left periods
+    → HaveGiven p old rs d (λ k. feed_of (feeds_in fs.items) (source_at p.sources.items k))
+    → AreFull old.stream.accepted periods p.sources.items rs.items d.rests (feeds_in fs.items)
+    → length rs.items ≡ length p.sources.items → new.buffers.readers ≡ rs → HasRun p (read_flow old rs fs) new periods d.before d.after part → GoesOnTo p old new d part
+goes_on_run p old new rs fs d periods part segment read full many same run = record {
+  periods = periods;
+  feeds = feeds_in fs.items;
+  segment = segment;
+  stretch = run.stretch;
+  read = subst (λ (xs : Vec Reader). HaveGiven p old xs d (λ k. feed_of (feeds_in fs.items) (source_at p.sources.items k))) (sym same) read;
+  full = subst (λ (xs : Vec Reader). AreFull old.stream.accepted periods p.sources.items xs.items d.rests (feeds_in fs.items)) (sym same) full;
+  written = run.written;
+  clipped = run.clipped;
+  left = run.left;
+  readers = ap (λ (xs : Vec Reader). length xs.items) same ∙ many;
+  counts = run.counts;
+  feeds_each = run.feeds_each;
+}
+
+pub stops_run : (p : Plan) (old new : Flow) (rs : Vec Reader) (fs : Vec (Vec ℤ)) (d : Devices) (periods : ℕ) (fault : StreamFault)
+    → HaveGiven p old rs d (λ k. feed_of (feeds_in fs.items) (source_at p.sources.items k)) → new.buffers.readers ≡ rs
+    → HasNotRun p (read_flow old rs fs) new periods d.before d.after fault → StopsAt p old new d fault
+stops_run p old new rs fs d periods (why.Sink t) read same not = record {
+  periods = periods;
+  feeds = feeds_in fs.items;
+  part = not.part;
+  stretch = not.stretch;
+  given = λ k. feed_of (feeds_in fs.items) (source_at p.sources.items k);
+  read = subst (λ (xs : Vec Reader). HaveGiven p old xs d (λ k. feed_of (feeds_in fs.items) (source_at p.sources.items k))) (sym same) read;
+  begun = not.begun;
+  sink = not.sink;
+}
+stops_run p old new rs fs d periods (why.Run fault) read same not = record {
+  stream = not.0;
+  given = λ k. feed_of (feeds_in fs.items) (source_at p.sources.items k);
+  read = subst (λ (xs : Vec Reader). HaveGiven p old xs d (λ k. feed_of (feeds_in fs.items) (source_at p.sources.items k))) (sym same) read;
+  unwritten = not.1;
+  cause = not.2;
+}
+stops_run p old new rs fs d periods (why.Source i fault) read same not = absurd not
+stops_run p old new rs fs d periods (why.TooMany i) read same not = absurd not
+stops_run p old new rs fs d periods why.Memory read same not = absurd not
 
 -- ---- a plan
 

@@ -11,7 +11,7 @@ use Rattle.csdf_floor.specs.Endings.{IsEnding}
 use Rattle.csdf_floor.specs.Outcome.{report_on}
 use Rattle.csdf_floor.specs.Sequential.{IsSequential}
 use Rattle.csdf_floor.specs.Work.{AreFeeds, HasFewFirings, feed_of, feeds_in}
-use Rattle.csdf_run.specs.Causes.{IsCauseAmong}
+use Rattle.csdf_run.specs.Causes.{IsWantAmong}
 use Rattle.csdf_run.specs.declared.stream.Part.{Part}
 use Rattle.csdf_run.specs.Streaming.{IsAsLongRun, IsStretch, StreamView}
 use Rattle.csdf_run.specs.Totals.{capped, totals_of}
@@ -130,7 +130,7 @@ IsCauseOf a workers readers d (why.Source i fault) =
 IsCauseOf a workers readers d (why.TooMany i) =
     (k : ℕ) × (periods : ℕ) × (k < length (sources_in a.graph)) × IsCauseAt a periods (source_at (sources_in a.graph) k) (reader_at readers k) (left_at d.rests k) (why.TooMany i)
 IsCauseOf a workers readers d (why.Sink t) = (k : ℕ) × (k < length (sinks_in a.graph)) × (source_at (sinks_in a.graph) k ≡ t)
-IsCauseOf a workers readers d (why.Run fault) = IsCauseAmong workers fault
+IsCauseOf a workers readers d (why.Run fault) = IsWantAmong workers fault
 IsCauseOf a workers readers d why.Memory = Unit {0}
 
 pub record IsStopped (a : Accepted) (format : TokenFormat) (workers : ℕ) (d : Devices) (fault : StreamFault) : Type 0 where
@@ -227,8 +227,30 @@ pub record StopsBySink (p : Plan) (old new : Flow) (d : Devices) (t : ℕ) : Typ
   pub begun : AreBegun p.format p.sinks.items (feeds_in part.sinks.items) d.before d.after
   pub sink : (k : ℕ) × (k < length p.sinks.items) × (source_at p.sinks.items k ≡ t)
 
+-- a segment whose tokens were there was run, and what the sinks took is written
+pub record HasRun (p : Plan) (old new : Flow) (periods : ℕ) (before after : List (Option (List ℕ))) (part : Part) : Type 0 where
+  pub stretch : IsStretch old.stream (feeds_in old.buffers.feeds.items) periods new.stream part
+  pub written : AreWritten p.format p.sinks.items (feeds_in part.sinks.items) before after
+  pub clipped : AreClipped p.format p.sinks.items (feeds_in part.sinks.items) old.buffers.clipped.items new.buffers.clipped.items
+  pub left : new.left ≡ left_after old.left periods
+  pub counts : length new.buffers.clipped.items ≡ length p.sinks.items
+  pub feeds_each : AreFeeds old.stream.accepted.graph (feeds_in new.buffers.feeds.items)
+
+-- it was run, and a sink's device failed
+pub record HasFailedAt (p : Plan) (old new : Flow) (periods : ℕ) (before after : List (Option (List ℕ))) (t : ℕ) : Type 0 where
+  pub part : Part
+  pub stretch : IsStretch old.stream (feeds_in old.buffers.feeds.items) periods new.stream part
+  pub begun : AreBegun p.format p.sinks.items (feeds_in part.sinks.items) before after
+  pub sink : (k : ℕ) × (k < length p.sinks.items) × (source_at p.sinks.items k ≡ t)
+
+-- that, or it was not run
+abbrev pub HasNotRun : Plan → Flow → Flow → ℕ → List (Option (List ℕ)) → List (Option (List ℕ)) → StreamFault → Type 0
+HasNotRun p old new periods before after (why.Sink t) = HasFailedAt p old new periods before after t
+HasNotRun p old new periods before after (why.Run fault) = (new.stream ≡ old.stream) × (after ≡ before) × IsWantAmong p.workers fault
+HasNotRun p old new periods before after fault = ⊥
+
 -- a flow that is stopped: by a fault of a source, by one of the run, or since a sink's device failed after a segment
 abbrev pub StopsAt : Plan → Flow → Flow → Devices → StreamFault → Type 0
 StopsAt p old new d (why.Sink t) = StopsBySink p old new d t
-StopsAt p old new d (why.Run fault) = StopsBefore p old new d (IsCauseAmong p.workers fault)
+StopsAt p old new d (why.Run fault) = StopsBefore p old new d (IsWantAmong p.workers fault)
 StopsAt p old new d fault = StopsBefore p old new d (IsUnfedBy old.stream.accepted p new.buffers.readers.items d.rests fault)

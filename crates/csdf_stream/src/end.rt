@@ -1,8 +1,9 @@
 //! What a stream answers.
 
 use crate::reader::ReaderFault;
-use csdf_floor::{ChannelReport, Ending, RunFault};
-use csdf_run::Stream;
+use csdf_floor::{ChannelReport, Ending};
+use csdf_run::{NoOutcome, Stream};
+use thiserror::Error;
 
 /// What a stream answers that has ended.
 #[derive(Debug, Drop)]
@@ -17,17 +18,22 @@ pub struct StreamEnd {
 }
 
 /// Why a stream has no end. The sinks' devices have the tokens of all segments before.
-#[derive(Clone, Copy, Debug, PartialEq, Eq)]
+#[derive(Clone, Copy, Debug, PartialEq, Eq, Error)]
 pub enum StreamFault {
     /// No tokens came for this actor, a source.
+    #[error("tokens of actor {0}: {1}")]
     Source(u32, ReaderFault),
     /// A segment takes more than 1,000,000 tokens of this actor, a source.
+    #[error("a segment takes too many tokens of actor {0}")]
     TooMany(u32),
     /// The device of this actor, a sink, failed.
+    #[error("the device of actor {0} failed")]
     Sink(u32),
     /// A segment was not run.
-    Run(RunFault),
+    #[error("{0}")]
+    Run(NoOutcome),
     /// Memory ran out, which says nothing of the input.
+    #[error("out of memory")]
     Memory,
 }
 

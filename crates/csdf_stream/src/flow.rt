@@ -1,11 +1,11 @@
 //! A stream, from the devices of its sources to those of its sinks.
 
-ghost use Rattle.std.specs.Prelude.{◌≡◌, ◌≤◌, ◌<◌, ℕ, false, true, [], length, map, max, min, All, IfErr, IfOk, IfSome, IsTrue, OnErr, ◌↔◌, ◌⊎◌, Some, replicate};
+ghost use Rattle.std.specs.Prelude.{◌≡◌, ◌≤◌, ◌<◌, ℕ, Bool, List, false, true, [], length, map, max, min, All, IfErr, IfOk, IfSome, IsTrue, OnErr, ◌↔◌, ◌⊎◌, Some, replicate};
 ghost use Rattle.csdf_analysis.specs.Acceptance.{Accepted};
 ghost use Rattle.csdf_floor.specs.Work.{AreFeeds, HasFewFirings, feed_of, feeds_in};
 ghost use Rattle.csdf_run.specs.Streaming.{StandsAfter};
 ghost use Rattle.csdf_stream.specs.Feeding.{AreFull, AreRead, IsUnfed};
-ghost use Rattle.csdf_stream.specs.Flowing.{AreBuffersFor, GoesOnTo, IsAlike, IsNoneFed, IsPlanOf, IsReady, IsSegmentOf, IsStopped, IsStreamed, IsUnfedBy, StopsAt, devices};
+ghost use Rattle.csdf_stream.specs.Flowing.{AreBuffersFor, GoesOnTo, HasNotRun, HasRun, IsAlike, IsNoneFed, IsPlanOf, IsReady, IsSegmentOf, IsStopped, IsStreamed, IsUnfedBy, StopsAt, devices};
 ghost use Rattle.csdf_stream.specs.Lengths.{left_after, shortest};
 ghost use Rattle.csdf_stream.specs.Marks.{IsMarked, IsReadMarked};
 ghost use Rattle.csdf_stream.specs.Ports.{sinks_in, sources_in};
@@ -21,7 +21,7 @@ use crate::writer::write_sinks;
 use csdf_analysis::Accepted;
 use csdf_bytes::{Intake, Outlet};
 use csdf_floor::are_exact;
-use csdf_run::{Gate, Part, Stream, Stretch};
+use csdf_run::{Part, Stream, Stretch, Watch};
 use std::alloc::{AllocError, Global};
 use std::sync::Wait;
 use std::thread::Threads;
@@ -200,15 +200,85 @@ fn without(left: Option<u32>, periods: u32) -> Option<u32>
     }
 }
 
+/// Runs a segment whose tokens were read, and writes what its sinks took.
+fn run_segment<R: Threads + Wait + Sync, O: Outlet, W: Watch>(
+    rt: &R,
+    alloc: Global,
+    plan: &Plan,
+    flow: Flow,
+    periods: u32,
+    outlets: &mut [O],
+    watch: &W,
+) -> (Flow, Result<Part, StreamFault>)
+    requires goes_on { flow.stream.is_over ≡ false }
+    requires plan { IsReady flow.stream.accepted plan.now }
+    requires segment { IsSegmentOf flow.stream.accepted plan.now flow.left periods }
+    requires buffers { AreBuffersFor flow.stream.accepted plan.now flow.buffers }
+    requires outlets { length outlets.old ≡ length plan.now.sinks.items }
+    ensures many { length outlets.new ≡ length outlets.old }
+    ensures readers { result.0.buffers.readers ≡ flow.buffers.readers }
+    ensures runs { IfOk result.1 (HasRun plan.now flow result.0 periods (map O.written outlets.old) (map O.written outlets.new)) }
+    ensures stops { IfErr result.1 (HasNotRun plan.now flow result.0 periods (map O.written outlets.old) (map O.written outlets.new)) }
+    ensures marked { (ins : List Bool) → IfErr result.1 (IsMarked plan.now.sources.items plan.now.sinks.items ins (map O.failed outlets.new)) }
+{
+    let Flow {
+        stream,
+        buffers,
+        left,
+    } = flow;
+    let Buffers {
+        readers,
+        feeds,
+        mut clipped,
+    } = buffers;
+    let Stretch {
+        stream,
+        feeds,
+        part,
+    } = stream.segment(rt, alloc, feeds, plan.workers, periods, watch);
+    let part = match part {
+        Ok(part) => part,
+        Err(fault) => {
+            let buffers = Buffers {
+                readers,
+                feeds,
+                clipped,
+            };
+            let flow = Flow {
+                stream,
+                buffers,
+                left,
+            };
+            return (flow, Err(StreamFault::Run(fault)));
+        }
+    };
+    let written = write_sinks(plan.format, &plan.sinks, &part.sinks, outlets, &mut clipped);
+    let buffers = Buffers {
+        readers,
+        feeds,
+        clipped,
+    };
+    let left = without(left, periods);
+    let flow = Flow {
+        stream,
+        buffers,
+        left,
+    };
+    match written {
+        Ok(()) => (flow, Ok(part)),
+        Err(sink) => (flow, Err(StreamFault::Sink(sink))),
+    }
+}
+
 /// Makes a segment: reads its tokens, runs it, and writes what its sinks took.
-fn advance<R: Threads + Wait + Sync, I: Intake, O: Outlet, G: Gate>(
+fn advance<R: Threads + Wait + Sync, I: Intake, O: Outlet, W: Watch>(
     rt: &R,
     alloc: Global,
     plan: &Plan,
     flow: Flow,
     intakes: &mut [I],
     outlets: &mut [O],
-    gate: &G,
+    watch: &W,
 ) -> (Flow, Result<Part, StreamFault>)
     requires goes_on { flow.stream.is_over ≡ false }
     requires plan { IsReady flow.stream.accepted plan.now }
@@ -229,7 +299,7 @@ fn advance<R: Threads + Wait + Sync, I: Intake, O: Outlet, G: Gate>(
         left,
     } = flow;
     clear(&mut buffers.feeds);
-    let periods = match read_segment(
+    let read = read_segment(
         rt,
         stream.accepted(),
         plan,
@@ -237,55 +307,15 @@ fn advance<R: Threads + Wait + Sync, I: Intake, O: Outlet, G: Gate>(
         &mut buffers.readers,
         intakes,
         &mut buffers.feeds,
-    ) {
-        Ok(periods) => periods,
-        Err(fault) => {
-            let flow = Flow {
-                stream,
-                buffers,
-                left,
-            };
-            return (flow, Err(fault));
-        }
-    };
-    let Buffers {
-        readers,
-        feeds,
-        mut clipped,
-    } = buffers;
-    let Stretch {
-        stream,
-        feeds,
-        part,
-    } = stream.segment(rt, alloc, feeds, plan.workers, periods, gate);
-    let part = match part {
-        Ok(part) => part,
-        Err(fault) => {
-            let flow = Flow {
-                stream,
-                buffers: Buffers {
-                    readers,
-                    feeds,
-                    clipped,
-                },
-                left,
-            };
-            return (flow, Err(StreamFault::Run(fault)));
-        }
-    };
-    let written = write_sinks(plan.format, &plan.sinks, &part.sinks, outlets, &mut clipped);
+    );
     let flow = Flow {
         stream,
-        buffers: Buffers {
-            readers,
-            feeds,
-            clipped,
-        },
-        left: without(left, periods),
+        buffers,
+        left,
     };
-    match written {
-        Ok(()) => (flow, Ok(part)),
-        Err(sink) => (flow, Err(StreamFault::Sink(sink))),
+    match read {
+        Ok(periods) => run_segment(rt, alloc, plan, flow, periods, outlets, watch),
+        Err(fault) => (flow, Err(fault)),
     }
 }
 
@@ -331,14 +361,14 @@ fn flow_of(alloc: Global, plan: &Plan, stream: Stream, left: Option<u32>) -> Res
 }
 
 /// Runs a stream of which nothing has run, segment after segment, until none follows or there is a fault.
-fn run_new<R: Threads + Wait + Sync, I: Intake, O: Outlet, G: Gate>(
+fn run_new<R: Threads + Wait + Sync, I: Intake, O: Outlet, W: Watch>(
     rt: &R,
     alloc: Global,
     stream: Stream,
     options: StreamOptions,
     intakes: &mut [I],
     outlets: &mut [O],
-    gate: &G,
+    watch: &W,
 ) -> StreamRun
     requires goes_on { stream.is_over ≡ false }
     requires new { StandsAfter stream.accepted [] stream }
@@ -371,7 +401,7 @@ fn run_new<R: Threads + Wait + Sync, I: Intake, O: Outlet, G: Gate>(
         }
     };
     for _ in rt.forever() {
-        let (next, answer) = advance(rt, alloc, &plan, flow, intakes, outlets, gate);
+        let (next, answer) = advance(rt, alloc, &plan, flow, intakes, outlets, watch);
         match answer {
             Ok(part) => {
                 if next.is_done() {
@@ -404,14 +434,14 @@ fn run_new<R: Threads + Wait + Sync, I: Intake, O: Outlet, G: Gate>(
 /// failed, beginnings of those of one segment more.
 ///
 /// An error says that memory ran out before anything was read.
-pub fn run_stream<R: Threads + Wait + Sync, I: Intake, O: Outlet, G: Gate>(
+pub fn run_stream<R: Threads + Wait + Sync, I: Intake, O: Outlet, W: Watch>(
     rt: &R,
     alloc: Global,
     accepted: Accepted,
     options: StreamOptions,
     intakes: &mut [I],
     outlets: &mut [O],
-    gate: &G,
+    watch: &W,
 ) -> Result<StreamRun, AllocError>
     requires intakes { length intakes.old ≡ length (sources_in accepted.graph) }
     requires outlets { length outlets.old ≡ length (sinks_in accepted.graph) }
@@ -427,5 +457,5 @@ pub fn run_stream<R: Threads + Wait + Sync, I: Intake, O: Outlet, G: Gate>(
     // Called for the prover: what the graph keeps.
     let _ = accepted.graph();
     let stream = Stream::new(alloc, accepted)?;
-    Ok(run_new(rt, alloc, stream, options, intakes, outlets, gate))
+    Ok(run_new(rt, alloc, stream, options, intakes, outlets, watch))
 }

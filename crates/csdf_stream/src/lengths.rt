@@ -4,12 +4,12 @@ ghost use Rattle.std.specs.Prelude.{All, ◌<◌, ◌≡◌, ◌↔◌, ◌*◌,
 ghost use Rattle.csdf_analysis.specs.Acceptance.{Accepted};
 ghost use Rattle.csdf_floor.specs.Work.{HasFewFirings};
 ghost use Rattle.csdf_model.specs.Graph.{channel_view};
-ghost use Rattle.csdf_floor.specs.Continuing.{given_in, given_to};
+ghost use Rattle.csdf_floor.specs.Continuing.{given_in};
 ghost use Rattle.csdf_run.specs.Totals.{capped};
 ghost use Rattle.csdf_stream.specs.Lengths.{FitsBelow, IsMostBelow, IsLastLength, IsUsualLength};
 
 use csdf_analysis::Accepted;
-use csdf_floor::{MAX_FEED_TOKENS, most_periods};
+use csdf_floor::{MAX_FEED_TOKENS, given_to, most_periods};
 use csdf_model::Channel;
 
 /// How many tokens a segment takes of a source where its length is not given, at most.
@@ -17,17 +17,6 @@ pub const SEGMENT_TOKENS: u64 = 65_536;
 
 // In digits, as documents tell it: a limit that is changed fails here.
 const _: () = prove!(SEGMENT_TOKENS == 65_536);
-
-/// How many tokens the actor's first `firings` firings put into the channel.
-fn given_to(channel: &Channel, actor: u32, firings: u32) -> u64
-    ensures { result ≡ given_to actor firings (channel_view channel.now) }
-{
-    if channel.from == actor {
-        channel.produced(firings)
-    } else {
-        0
-    }
-}
 
 /// How many tokens the actor's first `firings` firings put into these channels, or 2^64 - 1 where they are
 /// more.

@@ -7,19 +7,25 @@ use crate::options::TokenFormat;
 use csdf_bytes::{Intake, ReadFault, Reading, SampleFault, SampleReader, TokenReader};
 use std::alloc::{AllocError, Global};
 use std::sync::Wait;
+use thiserror::Error;
 
 /// Why a reader gave no token.
-#[derive(Clone, Copy, Debug, PartialEq, Eq)]
+#[derive(Clone, Copy, Debug, PartialEq, Eq, Error)]
 pub enum ReaderFault {
     /// The device failed.
+    #[error("the device failed")]
     Read,
     /// The line of this number is no number.
+    #[error("line {0} is no whole number")]
     Syntax(u64),
     /// The number in this line is no token.
+    #[error("the number in line {0} is out of range")]
     Range(u64),
     /// The bytes end within this sample.
+    #[error("sample {0} is cut off")]
     CutOff(u64),
     /// A growth was refused.
+    #[error("out of memory")]
     Memory,
 }
 

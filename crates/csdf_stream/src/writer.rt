@@ -9,6 +9,7 @@ ghost use Rattle.csdf_stream.specs.Writing.{AreBegun, AreClipped, AreWritten, by
 
 use crate::options::TokenFormat;
 use csdf_bytes::{Outlet, WriteFault, write_samples, write_tokens};
+use csdf_floor::list_at;
 
 /// Writes the tokens in a format, and tells how many of them are none of it.
 fn write_in<O: Outlet>(
@@ -27,16 +28,6 @@ fn write_in<O: Outlet>(
             Err(fault) => Err(fault),
         },
         TokenFormat::Samples(format) => write_samples(device, format, tokens),
-    }
-}
-
-/// The list with this number; the empty list where there is none.
-fn list_at(lists: &[Vec<i32>], number: u32) -> &[i32]
-    ensures { result.now ≡ slice_index_or (feeds_in lists.now) number [] }
-{
-    match lists.get(number as usize) {
-        Some(list) => list.as_slice(),
-        None => &[],
     }
 }
 
@@ -59,7 +50,7 @@ pub(crate) fn write_sinks<O: Outlet>(
     ensures marked { IfErr result (HasFailed sinks.now (map O.failed devices.new)) }
 {
     for k in 0..sinks.len() {
-        let tokens = list_at(lists, sinks[k]);
+        let tokens = list_at(lists, sinks[k] as usize);
         match write_in(&mut devices[k], format, tokens) {
             Ok(count) => clipped[k] = clipped[k].saturating_add(count as u64),
             Err(_) => return Err(sinks[k]),

@@ -7,10 +7,10 @@ use Rattle.std.proofs.lemmas.List.{take-append-drop, take_more}
 use Rattle.csdf_model.specs.Graph.{Actor}
 use Rattle.csdf_answers.specs.declared.fault.ToolFault.{ToolFault}
 use Rattle.csdf_answers.specs.declared.fault.ToolFault.TheVariants.{InUse, Memory}
-use Rattle.csdf_tool.specs.Acts.{Act, Asks, IsRead, Locate, OnlyReads}
+use Rattle.csdf_disk.specs.Acts.{Act, Asks, IsRead, Locate, OnlyReads}
 use Rattle.csdf_tool.specs.Places.{Apart, AreApart, IsInUse, Listed, file_on, files_on, is_in_use, located, more, none}
 use Rattle.csdf_tool.specs.declared.apart.Side.{Side}
-use Rattle.csdf_tool.specs.declared.place.Place.{Place}
+use Rattle.csdf_disk.specs.declared.place.Place.{Place}
 use Rattle.csdf_tool.proofs.DiskLemmas.{asks_more, asks_none, both_read}
 
 -- ---- the files of a run

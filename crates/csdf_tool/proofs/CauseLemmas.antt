@@ -11,7 +11,7 @@ use Rattle.csdf_answers.specs.declared.fault.Stream.TheVariants as stream
 use Rattle.csdf_answers.specs.declared.fault.ToolFault.{ToolFault}
 use Rattle.csdf_answers.specs.declared.fault.ToolFault.TheVariants as fault
 use Rattle.csdf_words.specs.CommandLine.{Asked, Input, Moves, Ask, Explain, Run, Flow, FolderNames}
-use Rattle.csdf_tool.specs.Acts.{Act, Asks, Devices, Marks, Read, devices}
+use Rattle.csdf_disk.specs.Acts.{Act, Asks, Devices, Marks, Read, devices}
 use Rattle.csdf_tool.specs.Carried.{IsCauseOf, LacksAnswer, PutsOut}
 use Rattle.csdf_tool.specs.Flows.{StopsOver, Through}
 use Rattle.csdf_tool.specs.GraphFiles.{IsGivenBy, IsInputFault, IsNamed, IsNotGiven, graph_reads, is_input}
@@ -38,7 +38,6 @@ which (fault.TokenCutOff name number) = inr (inr (λ e. cc, λ e. cc))
 which (fault.TooManyTokens name) = inr (inr (λ e. cc, λ e. cc))
 which (fault.InUse name) = inr (inr (λ e. cc, λ e. cc))
 which (fault.Lacks lack) = inr (inr (λ e. cc, λ e. cc))
-which fault.Mixed = inr (inr (λ e. cc, λ e. cc))
 which fault.Worker = inr (inr (λ e. cc, λ e. cc))
 which (fault.Device stream.Input) = inr (inr (λ e. cc, λ e. cc))
 which (fault.Device stream.Output) = inr (inl refl)
@@ -182,7 +181,7 @@ pub memory_causes : (asks : Asked) (left : Option (List ℕ)) (acts : Option (Li
 memory_causes Input left acts t m = inl (inl refl)
 memory_causes (Moves path) left acts t m = inl (inl refl)
 memory_causes (Ask question form room path) left acts t m = inl (inl refl)
-memory_causes (Explain path folder) left acts t m = inl (inl refl)
+memory_causes (Explain path folder) left acts t m = inl (inl refl, refl)
 memory_causes (Run order) left acts t m = inl (record { only = only_none acts; why = inl (inl refl) })
 memory_causes (Flow order) left acts t m = by order.folders
   where

@@ -9,7 +9,7 @@ use Rattle.std.proofs.lemmas.List.Elements.{filter-append}
 use Rattle.csdf_model.specs.Graph.{Actor, Graph}
 use Rattle.csdf_core.specs.Planned.{is_source_kernel}
 use Rattle.csdf_bytes.specs.declared.intake.InputFault.{InputFault}
-use Rattle.csdf_tool.specs.Acts.{Act, Asks, IsRead, OnlyReads, Read}
+use Rattle.csdf_disk.specs.Acts.{Act, Asks, IsRead, OnlyReads, Read}
 use Rattle.csdf_tool.specs.GraphFiles.{graph_reads, is_input}
 use Rattle.csdf_answers.specs.declared.fault.ToolFault.{ToolFault}
 use Rattle.csdf_answers.specs.declared.fault.ToolFault.TheVariants.{Memory}

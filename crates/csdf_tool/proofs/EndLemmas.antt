@@ -10,7 +10,7 @@ use Rattle.clap.specs.declared.error.kind.ErrorKind.TheVariants.{DisplayHelp, Di
 use Rattle.csdf_words.specs.declared.command.Unread.{Unread}
 use Rattle.csdf_words.specs.declared.command.Unread.TheVariants as unread
 use Rattle.csdf_words.specs.CommandLine.{Asked, IsUnread, program, words_ask}
-use Rattle.csdf_tool.specs.Acts.{Devices}
+use Rattle.csdf_disk.specs.Acts.{Devices}
 use Rattle.csdf_tool.specs.Ends.{AreTaken, Ended, Ending, EndsAs, EndsBy, EndsFor, EndsForOneOf, EndsHelp, EndsInForm, EndsTelling, EndsTold, EndsUnread, TellsLine, told_in}
 use Rattle.std.specs.Io.KnownBytes.{Appends}
 use Rattle.csdf_answers.specs.declared.fault.Lack.{Lack}
@@ -40,7 +40,6 @@ one_to_three (fault.TokenCutOff name number) = inl refl
 one_to_three (fault.TooManyTokens name) = inl refl
 one_to_three (fault.InUse name) = inr (inl refl)
 one_to_three (fault.Lacks lack) = inr (inl refl)
-one_to_three fault.Mixed = inr (inr refl)
 one_to_three fault.Worker = inr (inr refl)
 one_to_three (fault.Device d) = inr (inr refl)
 one_to_three fault.Memory = inr (inr refl)
@@ -68,7 +67,6 @@ use_at (fault.TokenSyntax name line) two = absurd (cc)
 use_at (fault.TokenRange name line) two = absurd (cc)
 use_at (fault.TokenCutOff name number) two = absurd (cc)
 use_at (fault.TooManyTokens name) two = absurd (cc)
-use_at fault.Mixed two = absurd (cc)
 use_at fault.Worker two = absurd (cc)
 use_at (fault.Device d) two = absurd (cc)
 use_at fault.Memory two = absurd (cc)
@@ -222,18 +220,21 @@ module _ (words : List Text) (e : Ending) where
   pub unread_ends : (u : Unread) → IsUnread words u → EndsUnread u e → fault_of program words ≢ [] → EndsForOneOf (fault_of program words) e
   unread_ends (unread.Parse error) why ends some = by_kind error e (fault_of program words) why.0 ends
   unread_ends (unread.Room text) why ends some = absurd (some why.taken)
+  unread_ends (unread.Workers text) why ends some = absurd (some why.taken)
   unread_ends unread.Lengths why ends some = absurd (some why.taken)
   unread_ends unread.OutAlone why ends some = absurd (some why.taken)
 
   pub taken_ends : (u : Unread) → IsUnread words u → EndsUnread u e → AreTaken words → words_ask words ≢ None → EndsTold e fault.Memory
   taken_ends (unread.Parse error) why ends taken asks = memory_ends error e (of_taken words error why taken) ends
   taken_ends (unread.Room text) why ends taken asks = absurd (asks why.nothing)
+  taken_ends (unread.Workers text) why ends taken asks = absurd (asks why.nothing)
   taken_ends unread.Lengths why ends taken asks = absurd (asks why.nothing)
   taken_ends unread.OutAlone why ends taken asks = absurd (asks why.nothing)
 
   pub nothing_ends : (u : Unread) → IsUnread words u → EndsUnread u e → AreTaken words → (e.status ≡ 2) ⊎ EndsTold e fault.Memory
   nothing_ends (unread.Parse error) why ends taken = inr (memory_ends error e (of_taken words error why taken) ends)
   nothing_ends (unread.Room text) why ends taken = inl ends.status
+  nothing_ends (unread.Workers text) why ends taken = inl ends.status
   nothing_ends unread.Lengths why ends taken = inl ends.status
   nothing_ends unread.OutAlone why ends taken = inl ends.status
 

@@ -1,5 +1,5 @@
 -- The lines on the token files of sources, actor after actor, and why there is no explanation.
-use Rattle.std.proofs.Common.{◌≡◌, ◌<◌, ◌+◌, ℕ, suc, Bool, true, false, cond, List, [], ◌∷◌, ◌++◌, length, map, drop, drop-cons, get_or, append_assoc, refl, ap, sym, subst, ◌∙◌, inl, inr, arith}
+use Rattle.std.proofs.Common.{◌≡◌, ◌≢◌, ◌<◌, ◌+◌, ℕ, suc, Bool, true, false, cond, List, [], ◌∷◌, ◌++◌, length, map, drop, drop-cons, get_or, append_assoc, refl, ap, sym, subst, ◌∙◌, inl, inr, arith}
 use Rattle.std.specs.Prelude.{◌⊎◌, ◌≤◌, Option, Some, None, Result, Ok, Err, IfErr, OnOk, string_bytes}
 use Rattle.std.specs.Io.KnownBytes.{Appends}
 use Rattle.clap.specs.Words.{Text}
@@ -9,12 +9,16 @@ use Rattle.csdf_core.specs.Planned.{is_source_kernel}
 use Rattle.csdf_answers.specs.Explained.{IsExplained}
 use Rattle.csdf_answers.specs.declared.fault.ToolFault.{ToolFault}
 use Rattle.csdf_answers.specs.declared.fault.ToolFault.TheVariants as fault
-use Rattle.csdf_answers.specs.declared.fault.Stream.TheVariants.{Output}
+use Rattle.csdf_answers.specs.declared.fault.Stream.TheVariants.{Input, Output, File}
 use Rattle.csdf_answers.specs.declared.token_note.TokenFile.{TokenFile}
-use Rattle.csdf_tool.specs.Acts.{Act, Asks, Look, Marks, devices}
+use Rattle.csdf_bytes.specs.declared.intake.InputFault.{InputFault}
+use Rattle.csdf_bytes.specs.declared.intake.InputFault.TheVariants as input
+use Rattle.csdf_disk.specs.Acts.{Act, Asks, Devices, Look, Marks, Read, devices}
 use Rattle.csdf_tool.specs.Carried.{LacksExplanation}
-use Rattle.csdf_tool.specs.GraphFiles.{IsNamed, graph_reads}
-use Rattle.csdf_tool.specs.Explaining.{Looked, AreNotes, AreNotesOf, ExplainsFiles, IsExplanation, IsNotedAfter, look_of, note_of, source_names, token_path}
+use Rattle.csdf_answers.specs.Faults.{unread}
+use Rattle.csdf_answers.specs.declared.fault.Stream.{Stream}
+use Rattle.csdf_tool.specs.GraphFiles.{IsNamed, IsNotGiven, graph_misses, graph_reads, is_input, stream_of}
+use Rattle.csdf_tool.specs.Explaining.{Explains, FindsThen, LacksWhy, Looked, AreNotes, AreNotesOf, IsExplanation, IsNotedAfter, IsUnreadAs, is_of_file, look_of, note_of, source_names, token_path, unread_text}
 use Rattle.csdf_tool.proofs.DiskLemmas.{asks_more, asks_none}
 use Rattle.std.proofs.lemmas.List.{append-nil, drop_all, map-append}
 
@@ -146,8 +150,8 @@ module _ (r : Result (Unit {0}) ToolFault) (bytes : List ℕ) (asked answered : 
 pub explains_files : (r : Result (Unit {0}) ToolFault) (word : Text) (folder : Option Text) (left : Option (List ℕ)) (asked mid answered : Option (List Act))
     (before after : Option (List ℕ)) (bytes seen : List ℕ) → IsNamed word left bytes → Asks asked mid (graph_reads word bytes) → bytes ≡ seen
     → OnOk r ((looks : List Act) × (text : List ℕ) × IsExplanation folder seen looks text × Asks mid answered looks × Appends before after text)
-    → OnOk r (ExplainsFiles word folder (devices left asked answered) before after)
-explains_files (Ok u) word folder left asked mid answered before after bytes seen named read same h = record {
+    → OnOk r (Explains word folder (devices left asked answered) before after)
+explains_files (Ok u) word folder left asked mid answered before after bytes seen named read same h = inl (record {
   bytes = seen;
   looks = h.0;
   text = h.1;
@@ -155,10 +159,14 @@ explains_files (Ok u) word folder left asked mid answered before after bytes see
   explanation = h.2;
   files = asks_more asked mid answered (graph_reads word seen) h.0 (subst (λ bs. Asks asked mid (graph_reads word bs)) same read) h.3;
   written = h.4;
-}
+})
 explains_files (Err f) word folder left asked mid answered before after bytes seen named read same h = tt
 
 -- ---- no answer
+
+-- want of memory may stand for any
+pub memory_lacks : (word : Text) (folder : Option Text) (d : Devices) (m : Marks) (f : ToolFault) → f ≡ fault.Memory → LacksExplanation word folder d m f
+memory_lacks word folder d m f memory = inl (inl memory, ap is_of_file memory)
 
 module _ (folder : Option Text) (bytes : List ℕ) (asked answered : Option (List Act)) where
   -- an explanation that was not written
@@ -188,10 +196,10 @@ lacks_explanation (Ok u) word folder left asked mid answered m bytes seen named 
 lacks_explanation (Err f) word folder left asked mid answered m bytes seen named read same caused failed = by caused
   where
     by : (f ≡ fault.Memory) ⊎ (f ≡ fault.Device Output) → LacksExplanation word folder (devices left asked answered) m f
-    by (inl memory) = inl (inl memory)
+    by (inl memory) = memory_lacks word folder (devices left asked answered) m f memory
     by (inr output) =
         let told = failed (ap Err output) in
-        inr (record {
+        inr (inl (record {
           bytes = seen;
           looks = told.0.0;
           text = told.0.1;
@@ -200,4 +208,70 @@ lacks_explanation (Err f) word folder left asked mid answered m bytes seen named
           files = asks_more asked mid answered (graph_reads word seen) told.0.0 (subst (λ bs. Asks asked mid (graph_reads word bs)) same read) told.0.3;
           told = output;
           failed = told.1;
-        })
+        }))
+
+-- ---- a graph file that could not be read
+
+-- a fault of a file is that of reading one, and not that of standard output
+of_reading : (s : Stream) (why : InputFault) → is_of_file (unread s why) ≡ true → why ≡ input.Read
+of_reading s input.Read is = refl
+of_reading s input.TooLong is = cc
+of_reading s input.Memory is = cc
+
+pub file_or_output : (f : ToolFault) → is_of_file f ≡ true → f ≢ fault.Device Output
+file_or_output f is = λ output. let no : true ≡ false = sym is ∙ ap is_of_file output in cc
+
+module _ (word : Text) (left : Option (List ℕ)) (asked mid : Option (List Act)) (failed : Bool) where
+  -- the word names the file, and it was asked for
+  pub record IsUnread (f : ToolFault) : Type 0 where
+    pub named : is_input word ≡ false
+    pub asked_for : Asks asked mid (Read word (Err input.Read) ∷ [])
+    pub told : f ≡ fault.Device (File word)
+
+  pub is_unread : (f : ToolFault) → is_of_file f ≡ true → IsNotGiven word (devices left asked mid) failed f → IsUnread f
+  is_unread f is (inl memory) = absurd (let no : true ≡ false = sym is ∙ ap is_of_file memory in cc)
+  is_unread f is (inr (why, missing, told)) = by (is_input word) refl
+    where
+      read : why ≡ input.Read
+      read = of_reading (stream_of word) why (sym (ap is_of_file told) ∙ is)
+
+      files : Asks asked mid (graph_misses word input.Read)
+      files = subst (λ w. Asks asked mid (graph_misses word w)) read missing.files
+
+      of : f ≡ unread (stream_of word) input.Read
+      of = told ∙ ap (unread (stream_of word)) read
+
+      by : (b : Bool) → is_input word ≡ b → IsUnread f
+      by true at = absurd (let no : true ≡ false = sym is ∙ ap is_of_file (of ∙ ap (λ (b : Bool). unread (cond b Input (File word)) input.Read) at) in cc)
+      by false at = record {
+        named = at;
+        asked_for = subst (λ (b : Bool). Asks asked mid (cond b [] (Read word (Err input.Read) ∷ []))) at files;
+        told = of ∙ ap (λ (b : Bool). unread (cond b Input (File word)) input.Read) at;
+      }
+
+  module _ (answered : Option (List Act)) (f : ToolFault) (h : IsUnread f) where
+    found_then : (why : Option TokenFile) → FindsThen word mid answered why → IsUnreadAs word (devices left asked answered) why
+    found_then why then = record {
+      file = then.0;
+      named = h.named;
+      files = asks_more asked mid answered (Read word (Err input.Read) ∷ []) (Look word (Some then.0) ∷ []) h.asked_for then.1;
+      told = then.2;
+    }
+
+    -- why is told
+    pub explains_unread : (r : Result (Unit {0}) ToolFault) (folder : Option Text) (before after : Option (List ℕ))
+        → OnOk r ((why : TokenFile) × FindsThen word mid answered (Some why) × Appends before after (unread_text word why))
+        → OnOk r (Explains word folder (devices left asked answered) before after)
+    explains_unread (Ok u) folder before after then = inr (then.0, found_then (Some then.0) then.1, then.2)
+    explains_unread (Err g) folder before after then = tt
+
+    -- or it is not
+    pub lacks_unread : (r : Result (Unit {0}) ToolFault) (folder : Option Text) (m : Marks)
+        → IfErr r (λ g. (g ≡ fault.Memory) ⊎ LacksWhy word mid answered f m.output g) → IfErr r (LacksExplanation word folder (devices left asked answered) m)
+    lacks_unread (Ok u) folder m caused = tt
+    lacks_unread (Err g) folder m caused = by caused
+      where
+        by : (g ≡ fault.Memory) ⊎ LacksWhy word mid answered f m.output g → LacksExplanation word folder (devices left asked answered) m g
+        by (inl memory) = memory_lacks word folder (devices left asked answered) m g memory
+        by (inr (inl (then, same))) = inr (inr (inl (found_then None then, same ∙ h.told)))
+        by (inr (inr (why, then, output, failed))) = inr (inr (inr (why, found_then (Some why) then, output, failed)))

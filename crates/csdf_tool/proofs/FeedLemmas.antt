@@ -13,8 +13,6 @@ use Rattle.csdf_analysis.specs.declared.fault.AcceptFault.{AcceptFault}
 use Rattle.csdf_analysis.specs.declared.fault.AcceptFault.TheVariants as accept
 use Rattle.csdf_analysis.specs.declared.room.Room.{Room}
 use Rattle.csdf_core.specs.Planned.{is_source_kernel}
-use Rattle.csdf_floor.specs.declared.fault.RunFault.{RunFault}
-use Rattle.csdf_floor.specs.declared.fault.RunFault.TheVariants as run
 use Rattle.csdf_run.specs.declared.tokens.TokensFault.{TokensFault}
 use Rattle.csdf_run.specs.declared.tokens.TokensFault.TheVariants as tokens
 use Rattle.csdf_run.specs.Texts.{◌>>=◌, feed_in, feeds_from}
@@ -23,6 +21,8 @@ use Rattle.csdf_answers.specs.Faults.{accept_fault}
 use Rattle.csdf_answers.specs.declared.fault.Stream.{Stream}
 use Rattle.csdf_answers.specs.declared.fault.ToolFault.{ToolFault}
 use Rattle.csdf_answers.specs.declared.fault.ToolFault.TheVariants.{Device}
+use Rattle.csdf_run.specs.declared.no_outcome.NoOutcome.{NoOutcome}
+use Rattle.csdf_run.specs.declared.no_outcome.NoOutcome.TheVariants as run
 use Rattle.csdf_tool.specs.Running.{RefusesGraphRun, run_fault, token_fault, tokens_fault}
 
 -- ---- one text
@@ -120,9 +120,8 @@ accept_no_stream names accept.Deadlock s e = cc
 accept_no_stream names accept.TooTight s e = cc
 accept_no_stream names accept.Memory s e = cc
 
-run_no_stream : (f : RunFault) (s : Stream) → run_fault f ≢ Device s
+run_no_stream : (f : NoOutcome) (s : Stream) → run_fault f ≢ Device s
 run_no_stream run.Memory s e = cc
-run_no_stream run.Mixed s e = cc
 run_no_stream run.Worker s e = cc
 
 token_no_stream : (name : List ℕ) (why : TokenFault) → IsOfText why → (s : Stream) → token_fault name why ≢ Device s

@@ -10,8 +10,6 @@ use Rattle.csdf_json.specs.Lines.{IsLineOf, list_member, text_member}
 use Rattle.csdf_model.specs.Graph.{Actor, Graph}
 use Rattle.csdf_model.specs.Kernels.{is_sink_kernel, is_source_kernel}
 use Rattle.csdf_analysis.specs.Acceptance.{Accepted}
-use Rattle.csdf_floor.specs.declared.fault.RunFault.{RunFault}
-use Rattle.csdf_floor.specs.declared.fault.RunFault.TheVariants as run
 use Rattle.csdf_run.specs.declared.totals.ChannelTotal.{ChannelTotal}
 use Rattle.csdf_stream.specs.declared.end.StreamEnd.{StreamEnd}
 use Rattle.csdf_stream.specs.declared.end.StreamFault.{StreamFault}
@@ -28,7 +26,9 @@ use Rattle.csdf_answers.specs.declared.fault.ToolFault.TheVariants as fault
 use Rattle.csdf_answers.specs.declared.question.Form.{Form}
 use Rattle.csdf_answers.specs.declared.question.Form.TheVariants as forms
 use Rattle.csdf_words.specs.CommandLine.{StreamOrder}
-use Rattle.csdf_tool.specs.Acts.{Act, Asks, Keep}
+use Rattle.csdf_run.specs.declared.no_outcome.NoOutcome.{NoOutcome}
+use Rattle.csdf_run.specs.declared.no_outcome.NoOutcome.TheVariants as run
+use Rattle.csdf_disk.specs.Acts.{Act, Asks, Keep}
 use Rattle.csdf_tool.specs.Flows.{IsFlow, IsStoppedBy, IsUnkept, IsUnkeptAt, IsUnmade, IsUnopened, Placed, count_of, flow_file_view, keep_of, keeps, leave_of, make_of, miss_of, one_for, open_of, placed, sinks_at, sources_at}
 use Rattle.csdf_tool.specs.Flows.{source_fault, stream_fault, unmade_of}
 use Rattle.csdf_tool.specs.Places.{in_file, out_file}
@@ -38,7 +38,7 @@ use Rattle.csdf_tool.specs.declared.flow_fault.Side.{Side}
 use Rattle.csdf_tool.specs.declared.flow_fault.Side.TheVariants as side
 use Rattle.csdf_tool.specs.declared.flow_files.FlowFile.{FlowFile}
 use Rattle.csdf_tool.specs.declared.flow_files.Unkept.{Unkept}
-use Rattle.csdf_tool.specs.declared.put_fault.PutFault.{PutFault}
+use Rattle.csdf_disk.specs.declared.put_fault.PutFault.{PutFault}
 use Rattle.csdf_tool.proofs.DiskLemmas.{asks_more}
 
 -- ---- one file after another
@@ -242,9 +242,8 @@ module _ (names : List (List ℕ)) (sources sinks : List ℕ) (ins : List Bool) 
   by_source name (reading.CutOff number) e = cc
   by_source name reading.Memory e = cc
 
-  by_run : (f : RunFault) → run_fault f ≡ fault.Device Output → ⊥
+  by_run : (f : NoOutcome) → run_fault f ≡ fault.Device Output → ⊥
   by_run run.Memory e = cc
-  by_run run.Mixed e = cc
   by_run run.Worker e = cc
 
   marked_one : (actors : List ℕ) (k : ℕ) → k < length actors → length actors ≤ 1 → get_or (one_for actors mark) k false ≡ true → mark ≡ true
@@ -271,6 +270,5 @@ files_stop names (why.Source i reading.Memory) e = cc
 files_stop names (why.TooMany i) e = cc
 files_stop names (why.Sink t) e = cc
 files_stop names (why.Run run.Memory) e = cc
-files_stop names (why.Run run.Mixed) e = cc
 files_stop names (why.Run run.Worker) e = cc
 files_stop names why.Memory e = cc

@@ -1,5 +1,6 @@
 pub mod ApartLemmas
 pub mod CauseLemmas
+pub mod CrewLemmas
 pub mod DiskLemmas
 pub mod EndLemmas
 pub mod ExplainingLemmas
@@ -7,8 +8,6 @@ pub mod FaultLemmas
 pub mod FeedLemmas
 pub mod FlowLemmas
 pub mod InputExamples
-pub mod MakeLemmas
-pub mod PutLemmas
 pub mod ReportLemmas
 pub mod RunLemmas
 pub mod StreamLemmas

@@ -37,14 +37,14 @@ use Rattle.csdf_answers.specs.declared.question.Form.TheVariants as forms
 use Rattle.csdf_answers.specs.Described.{actor_names}
 use Rattle.csdf_answers.specs.Faults.{accept_fault, fault_of}
 use Rattle.csdf_answers.specs.Printed.{name_at, names_of}
-use Rattle.csdf_tool.specs.Acts.{Act, Asks, Marks, OnlyReads, devices}
+use Rattle.csdf_disk.specs.Acts.{Act, Asks, Marks, OnlyReads, devices}
 use Rattle.csdf_tool.specs.Reports.{TellsReport, report_object}
 use Rattle.csdf_tool.specs.Running.{AreNamedAlike, EndsBeforeFiles, EndsOnFiles, IsCutShort, IsKeptFrom, IsUnput, LacksFeed, RefusesGraphRun, RefusesRun, RunsOn, StopsOnPlaces, StopsOnTexts, StopsRun, Written}
 use Rattle.csdf_tool.specs.GraphFiles.{graph_reads}
 use Rattle.csdf_tool.specs.Running.{feed_fault, feed_paths, feed_reads, files_of, journal_files, out_file, put_fault, put_whole, run_asks, run_reads, sink_files_from, tokens_fault, token_fault}
 use Rattle.csdf_tool.specs.declared.run_files.Ran.{Ran}
-use Rattle.csdf_tool.specs.declared.put_fault.PutFault.{PutFault}
-use Rattle.csdf_tool.specs.declared.put_fault.PutFault.TheVariants as put
+use Rattle.csdf_disk.specs.declared.put_fault.PutFault.{PutFault}
+use Rattle.csdf_disk.specs.declared.put_fault.PutFault.TheVariants as put
 use Rattle.csdf_tool.proofs.CauseLemmas.{memory_or_not}
 use Rattle.csdf_tool.proofs.FeedLemmas.{no_stream}
 use Rattle.csdf_tool.specs.Places.{Apart, IsInUse, Listed, listed_files}

@@ -1,5 +1,5 @@
 -- What comes of a stream, from what came of its parts.
-use Rattle.std.proofs.Common.{◌≡◌, ℕ, ◌≤◌, Bool, true, false, nat_lt, List, length, map, take, refl, ap, sym, subst, ◌∙◌, inl, inr}
+use Rattle.std.proofs.Common.{◌≡◌, ℕ, ◌≤◌, Bool, true, false, nat_lt, List, length, map, take, refl, ap, sym, subst, ◌∙◌, inl, inr, arith}
 use Rattle.std.proofs.Common.{Option, None, Result, Ok, Err}
 use Rattle.std.specs.Prelude.{◌⊎◌, IfErr, IfOk, OnErr, OnOk, is_none}
 use Rattle.std.specs.Global.{Vec}
@@ -12,7 +12,12 @@ use Rattle.csdf_analysis.specs.declared.fault.AcceptFault.{AcceptFault}
 use Rattle.csdf_run.specs.Streaming.{StreamView}
 use Rattle.csdf_run.specs.declared.totals.ChannelTotal.{ChannelTotal}
 use Rattle.csdf_stream.specs.declared.end.StreamEnd.{StreamEnd}
-use Rattle.csdf_stream.specs.Flowing.{Devices as Flow, IsAlike}
+use Rattle.csdf_floor.specs.Continuing.{at_last}
+use Rattle.csdf_run.specs.declared.no_outcome.NoOutcome.TheVariants as run
+use Rattle.csdf_stream.specs.declared.end.StreamFault.{StreamFault}
+use Rattle.csdf_stream.specs.declared.end.StreamFault.TheVariants as why
+use Rattle.csdf_stream.specs.declared.options.TokenFormat.{TokenFormat}
+use Rattle.csdf_stream.specs.Flowing.{Devices as Flow, IsAlike, IsCauseOf, IsStopped}
 use Rattle.csdf_stream.specs.Ports.{numbers_from, sinks_in, sources_in}
 use Rattle.csdf_model.specs.Kernels.{is_sink_kernel, is_source_kernel}
 use Rattle.csdf_answers.specs.declared.fault.Stream.TheVariants.{Output}
@@ -22,7 +27,7 @@ use Rattle.csdf_answers.specs.declared.question.Form.{Form}
 use Rattle.csdf_answers.specs.Faults.{accept_fault}
 use Rattle.csdf_answers.specs.Printed.{names_of}
 use Rattle.csdf_words.specs.CommandLine.{FolderNames, StreamOrder}
-use Rattle.csdf_tool.specs.Acts.{Act, Asks, Devices, Marks, devices}
+use Rattle.csdf_disk.specs.Acts.{Act, Asks, Devices, Marks, devices}
 use Rattle.csdf_tool.specs.Flows.{AreReady, FlowsOverFiles, IsAcceptedOf, IsFlow, IsStoppedBy, IsUnkept, IsUnmade, Placed, RefusesStream, StopsFiles, StopsMade}
 use Rattle.csdf_tool.specs.Flows.{Through, StopsOverFiles, StopsOverStandard, flow_file_view, keeps, lack_by, lack_of, leave_of, make_of, one_for, open_of, sinks_at, sources_at, standard_flow}
 use Rattle.csdf_tool.specs.GraphFiles.{IsGivenBy}
@@ -201,3 +206,24 @@ tells_as form a s end g totals text alike graph all told =
     report_alike a s.accepted alike form s.totals end text
     (subst (λ (ts : List ChannelTotal). TellsStream form s.accepted.graph ts end text) all
     (subst (λ (x : Graph). TellsStream form x totals end text) graph told))
+
+-- ---- workers
+
+-- what stops a stream by so many workers may stop one by more
+pub stopped_by_more : (k m : ℕ) (a : Accepted) (format : TokenFormat) (d : Flow) (f : StreamFault) → k ≤ m → IsStopped a format k d f → IsStopped a format m d f
+stopped_by_more k m a format d f more h = record {
+  past = h.past;
+  readers = h.readers;
+  whole = h.whole;
+  read = h.read;
+  left = h.left;
+  cause = by f h.cause;
+}
+  where
+    by : (g : StreamFault) → IsCauseOf (at_last a h.past) k h.readers d g → IsCauseOf (at_last a h.past) m h.readers d g
+    by (why.Source i fault) c = c
+    by (why.TooMany i) c = c
+    by (why.Sink t) c = c
+    by (why.Run run.Memory) c = c
+    by (why.Run run.Worker) c = omega (arith, c, more)
+    by why.Memory c = c

@@ -16,28 +16,27 @@ use Rattle.csdf_answers.specs.Faults.{◌>>=◌, fault_of, accept_fault, status_
 use Rattle.csdf_answers.specs.declared.fault.Lack.{Lack}
 use Rattle.csdf_answers.specs.Lines.{Line, line_in}
 use Rattle.csdf_answers.specs.Session.{IsAnswer, IsReplay, IsReplayOf, RefusesGraph, lines_from, or_line}
-use Rattle.csdf_answers.specs.Described.{IsTold}
-use Rattle.csdf_answers.specs.Objects.{IsDescriptionAs, IsObjectTold}
+use Rattle.csdf_answers.specs.Described.{Refuses}
+use Rattle.csdf_answers.specs.Objects.{IsDescriptionAs}
 use Rattle.csdf_answers.specs.declared.question.Form.{Form}
-use Rattle.csdf_answers.specs.declared.question.Form.TheVariants as form
 use Rattle.csdf_answers.specs.declared.question.Question.{Question}
 use Rattle.csdf_answers.specs.declared.question.Question.TheVariants as question
 use Rattle.csdf_analysis.specs.declared.room.Room.{Room}
 use Rattle.csdf_bytes.specs.declared.tokens.TokenFault.{TokenFault}
 use Rattle.csdf_bytes.specs.declared.tokens.TokenFault.TheVariants as token
-use Rattle.csdf_floor.specs.declared.fault.RunFault.{RunFault}
-use Rattle.csdf_floor.specs.declared.fault.RunFault.TheVariants as run
 use Rattle.csdf_run.specs.declared.tokens.TokensFault.{TokensFault}
 use Rattle.csdf_run.specs.declared.tokens.TokensFault.TheVariants as tokens
 use Rattle.csdf_words.specs.CommandLine.{Asked, Input, Moves, Ask, Explain, Run, Flow, Order}
-use Rattle.csdf_tool.specs.Acts.{Act, Devices, Marks}
+use Rattle.csdf_run.specs.declared.no_outcome.NoOutcome.{NoOutcome}
+use Rattle.csdf_run.specs.declared.no_outcome.NoOutcome.TheVariants as run
+use Rattle.csdf_disk.specs.Acts.{Act, Devices, Marks}
 use Rattle.csdf_tool.specs.Carried.{IsCauseOf, IsUnanswered, LacksAnswer, LacksExplanation, asks_files, asks_stream}
 use Rattle.csdf_tool.specs.Ends.{EndsAs, EndsInUse, EndsLacking}
 use Rattle.csdf_tool.specs.Flows.{Through}
 use Rattle.csdf_tool.specs.GraphFiles.{IsNotGiven}
 use Rattle.csdf_tool.specs.Running.{EndsOnFiles, IsUnput, StopsOnGraph, StopsRun, Written, feed_fault, files_of, put_fault, run_fault, token_fault, tokens_fault}
-use Rattle.csdf_tool.specs.declared.put_fault.PutFault.{PutFault}
-use Rattle.csdf_tool.specs.declared.put_fault.PutFault.TheVariants as put
+use Rattle.csdf_disk.specs.declared.put_fault.PutFault.{PutFault}
+use Rattle.csdf_disk.specs.declared.put_fault.PutFault.TheVariants as put
 use Rattle.csdf_tool.proofs.EndLemmas.{IsOfWords}
 
 -- the fault is none of the words
@@ -110,25 +109,16 @@ answer_is_none bytes f (Ok g, of, is) = by (script_of bytes) is
     by (Ok script) replay = replay_is_none g script f replay
     by (Err why) is = same_fault f _ _ refl is (graph_is_none why)
 
-told_is_none : (q : Question) (room : Room) (g : Graph) (f : ToolFault) → IsTold q room g (Err f) → IsNoUse f
-told_is_none question.Check room g f (why, not, some, is) = subst IsNoUse (sym is) (accept_is_none _ why)
-told_is_none question.Repetition room g f (why, not, some, is) = subst IsNoUse (sym is) (accept_is_none _ why)
-told_is_none question.Schedule room g f refused = refused_is_none g f refused
-told_is_none question.Capacity room g f refused = refused_is_none g f refused
-told_is_none question.Dot room g f refused = refused_is_none g f refused
-
-object_is_none : (q : Question) (room : Room) (g : Graph) (f : ToolFault) → IsObjectTold q room g (Err f) → IsNoUse f
-object_is_none question.Check room g f (why, not, some, is) = subst IsNoUse (sym is) (accept_is_none _ why)
-object_is_none question.Repetition room g f (why, not, some, is) = subst IsNoUse (sym is) (accept_is_none _ why)
-object_is_none question.Schedule room g f refused = refused_is_none g f refused
-object_is_none question.Capacity room g f refused = refused_is_none g f refused
-object_is_none question.Dot room g f refused = refused_is_none g f refused
+refuses_is_none : (q : Question) (g : Graph) (f : ToolFault) → Refuses q g f → IsNoUse f
+refuses_is_none question.Check g f (why, not, some, is) = subst IsNoUse (sym is) (accept_is_none _ why)
+refuses_is_none question.Repetition g f (why, not, some, is) = subst IsNoUse (sym is) (accept_is_none _ why)
+refuses_is_none question.Schedule g f refused = refused_is_none g f refused
+refuses_is_none question.Capacity g f refused = refused_is_none g f refused
+refuses_is_none question.Dot g f refused = refused_is_none g f refused
 
 description_is_none : (form : Form) (q : Question) (room : Room) (bytes : List ℕ) (f : ToolFault) → IsDescriptionAs form q room bytes (Err f) → IsNoUse f
-description_is_none form.Text q room bytes f (Ok g, of, told) = told_is_none q room g f told
-description_is_none form.Text q room bytes f (Err why, of, is) = same_fault f _ _ refl is (graph_is_none why)
-description_is_none form.Json q room bytes f (Ok g, of, told) = object_is_none q room g f told
-description_is_none form.Json q room bytes f (Err why, of, is) = same_fault f _ _ refl is (graph_is_none why)
+description_is_none form q room bytes f (Ok g, of, refused) = refuses_is_none q g f refused
+description_is_none form q room bytes f (Err why, of, is) = same_fault f _ _ refl is (graph_is_none why)
 
 -- ---- causes
 
@@ -146,8 +136,10 @@ module _ (IsAnswerTo : List ℕ → Result (List ℕ) ToolFault → Type 0) (non
   lacks_is_none word d m f (inr (bytes, given, unanswered)) = unanswered_is_none bytes m f unanswered
 
 unexplained_is_none : (word : List ℕ) (folder : Option (List ℕ)) (d : Devices) (m : Marks) (f : ToolFault) → LacksExplanation word folder d m f → IsNoUse f
-unexplained_is_none word folder d m f (inl missing) = given_is_none word d m.input f missing
-unexplained_is_none word folder d m f (inr unexplained) = λ e. let no : 3 ≡ 2 = sym (ap status_of unexplained.told) ∙ e in cc
+unexplained_is_none word folder d m f (inl missing) = given_is_none word d m.input f missing.0
+unexplained_is_none word folder d m f (inr (inl unexplained)) = λ e. let no : 3 ≡ 2 = sym (ap status_of unexplained.told) ∙ e in cc
+unexplained_is_none word folder d m f (inr (inr (inl (unread, told)))) = λ e. let no : 3 ≡ 2 = sym (ap status_of told) ∙ e in cc
+unexplained_is_none word folder d m f (inr (inr (inr (why, unread, told, failed)))) = λ e. let no : 3 ≡ 2 = sym (ap status_of told) ∙ e in cc
 
 -- ---- a run and words that lack something
 
@@ -163,9 +155,8 @@ token_is_none name token.TooMany = λ e. cc
 token_is_none name token.Read = λ e. cc
 token_is_none name token.Memory = λ e. cc
 
-run_is_none : (why : RunFault) → IsNoUse (run_fault why)
+run_is_none : (why : NoOutcome) → IsNoUse (run_fault why)
 run_is_none run.Memory = λ e. cc
-run_is_none run.Mixed = λ e. cc
 run_is_none run.Worker = λ e. cc
 
 tokens_is_none : (g : Graph) (why : TokensFault) → IsNoUse (tokens_fault g why)

@@ -6,10 +6,11 @@ use Rattle.csdf_answers.specs.Objects.{IsDescriptionAs}
 use Rattle.csdf_answers.specs.Session.{IsAnswer}
 use Rattle.csdf_answers.specs.declared.fault.ToolFault.{ToolFault}
 use Rattle.csdf_answers.specs.declared.fault.ToolFault.TheVariants.{Device}
-use Rattle.csdf_answers.specs.declared.fault.Stream.TheVariants.{Output}
+use Rattle.csdf_answers.specs.declared.fault.Stream.TheVariants.{File, Output}
 use Rattle.csdf_words.specs.CommandLine.{Asked, Input, Moves, Ask, Explain, Run, Flow}
-use Rattle.csdf_tool.specs.Acts.{Act, Asks, Devices, Marks}
-use Rattle.csdf_tool.specs.Explaining.{ExplainsFiles, IsExplanation}
+use Rattle.csdf_disk.specs.Acts.{Act, Asks, Devices, Marks}
+use Rattle.csdf_answers.specs.declared.token_note.TokenFile.{TokenFile}
+use Rattle.csdf_tool.specs.Explaining.{Explains, IsExplanation, IsUnreadAs, is_of_file}
 use Rattle.csdf_tool.specs.GraphFiles.{IsGivenBy, IsNamed, IsNotGiven, graph_reads, is_input}
 use Rattle.csdf_tool.specs.Flows.{Standard, StopsStream, Streams, Through, reads_graph}
 use Rattle.csdf_tool.specs.Running.{EndsOnFiles, RunsOnFiles}
@@ -24,7 +25,7 @@ abbrev pub IsCarriedOut : Asked → Devices → Option (List ℕ) → Option (Li
 IsCarriedOut Input d before after = PutsOut IsAnswer (codes "-") d before after
 IsCarriedOut (Moves path) d before after = PutsOut IsAnswer path d before after
 IsCarriedOut (Ask question form room path) d before after = PutsOut (IsDescriptionAs form question room) path d before after
-IsCarriedOut (Explain path folder) d before after = ExplainsFiles path folder d before after
+IsCarriedOut (Explain path folder) d before after = Explains path folder d before after
 IsCarriedOut (Run order) d before after = RunsOnFiles order d before after
 IsCarriedOut (Flow order) d before after = Unit {0}
 
@@ -56,9 +57,16 @@ pub record IsUnexplained (word : Text) (folder : Option Text) (d : Devices) (m :
   pub told : fault ≡ Device Output
   pub failed : m.output ≡ true
 
--- why there is no explanation: no fault of the file is a cause
+-- the file that a word names could not be read: nothing is found that tells why, and its fault is told; or standard output failed for what there is to tell
+abbrev pub IsUntold : Text → Devices → Marks → ToolFault → Type 0
+IsUntold word d m fault =
+    (IsUnreadAs word d None × (fault ≡ Device (File word)))
+    ⊎ ((why : TokenFile) × IsUnreadAs word d (Some why) × (fault ≡ Device Output) × (m.output ≡ true))
+
+-- why there is no explanation: no fault of the file is a cause, nor that it cannot be read where what is found at its path tells why
 abbrev pub LacksExplanation : Text → Option Text → Devices → Marks → ToolFault → Type 0
-LacksExplanation word folder d m fault = IsNotGiven word d m.input fault ⊎ IsUnexplained word folder d m fault
+LacksExplanation word folder d m fault =
+    (IsNotGiven word d m.input fault × (is_of_file fault ≡ false)) ⊎ (IsUnexplained word folder d m fault ⊎ IsUntold word d m fault)
 
 -- why what is asked for is not put out, as the fault tells it
 abbrev pub IsCauseOf : Asked → Devices → Through → Marks → ToolFault → Type 0

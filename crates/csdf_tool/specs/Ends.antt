@@ -13,7 +13,7 @@ use Rattle.csdf_answers.specs.declared.question.Form.TheVariants as forms
 use Rattle.csdf_answers.specs.Faults.{status_of}
 use Rattle.csdf_answers.specs.Objects.{TellsFault}
 use Rattle.csdf_words.specs.CommandLine.{program, IsUnread}
-use Rattle.csdf_tool.specs.Refused.{lengths_refusal, out_refusal, room_refusal}
+use Rattle.csdf_tool.specs.Refused.{lengths_refusal, out_refusal, room_refusal, workers_refusal}
 use Rattle.csdf_words.specs.declared.command.Unread.{Unread}
 use Rattle.csdf_words.specs.declared.command.Unread.TheVariants as unread
 
@@ -101,6 +101,7 @@ pub record EndsRefused (text : List ℕ) (e : Ending) : Type 0 where
 abbrev pub EndsUnread : Unread → Ending → Type 0
 EndsUnread (unread.Parse error) e = EndsFor (kind_of error) e
 EndsUnread (unread.Room text) e = EndsRefused (room_refusal text.now) e
+EndsUnread (unread.Workers text) e = EndsRefused (workers_refusal text.now) e
 EndsUnread unread.Lengths e = EndsRefused lengths_refusal e
 EndsUnread unread.OutAlone e = EndsRefused out_refusal e
 

@@ -29,7 +29,8 @@ use Rattle.csdf_answers.specs.Described.{actor_names}
 use Rattle.csdf_answers.specs.Faults.{accept_fault, fault_of}
 use Rattle.csdf_answers.specs.Printed.{name_at, names_of}
 use Rattle.csdf_words.specs.CommandLine.{FolderNames, StreamOrder}
-use Rattle.csdf_tool.specs.Acts.{Act, Asks, Devices, Keep, Leave, Make, Marks, Open, devices}
+use Rattle.csdf_words.specs.Workers.{most_workers}
+use Rattle.csdf_disk.specs.Acts.{Act, Asks, Devices, Keep, Leave, Make, Marks, Open, devices}
 use Rattle.csdf_tool.specs.GraphFiles.{IsGivenBy, IsNotGiven, is_input}
 use Rattle.csdf_tool.specs.Places.{Apart, IsInUse, in_file, out_file, sink_places}
 use Rattle.csdf_tool.specs.Reports.{TellsStream}
@@ -38,7 +39,7 @@ use Rattle.csdf_tool.specs.declared.flow_fault.Side.{Side}
 use Rattle.csdf_tool.specs.declared.flow_fault.Side.TheVariants as side
 use Rattle.csdf_tool.specs.declared.flow_files.FlowFile.{FlowFile}
 use Rattle.csdf_tool.specs.declared.flow_files.Unkept.{Unkept}
-use Rattle.csdf_tool.specs.declared.put_fault.PutFault.{PutFault}
+use Rattle.csdf_disk.specs.declared.put_fault.PutFault.{PutFault}
 
 -- ---- words that do not fit the graph
 
@@ -101,7 +102,7 @@ stream_fault on names why.Memory = Memory
 -- the stream of an accepted graph was stopped, and the fault tells why, or want of memory for it
 pub record IsStoppedBy (order : StreamOrder) (on : Side) (a : Accepted) (d : Flow) (ins outs : List Bool) (fault : ToolFault) : Type 0 where
   pub stop : StreamFault
-  pub stopped : IsStopped a order.format order.workers d stop
+  pub stopped : IsStopped a order.format (most_workers order.workers) d stop
   pub marked : IsMarked (sources_in a.graph) (sinks_in a.graph) ins outs stop
   pub told : (fault ≡ stream_fault on (actor_names a.graph.actors) stop) ⊎ (fault ≡ Memory)
 

@@ -10,7 +10,7 @@ use Rattle.csdf_answers.specs.declared.fault.Stream.{Stream}
 use Rattle.csdf_answers.specs.declared.fault.Stream.TheVariants.{Input, File}
 use Rattle.csdf_answers.specs.declared.fault.ToolFault.{ToolFault}
 use Rattle.csdf_answers.specs.declared.fault.ToolFault.TheVariants.{Memory}
-use Rattle.csdf_tool.specs.Acts.{Act, Asks, Devices, Read}
+use Rattle.csdf_disk.specs.Acts.{Act, Asks, Devices, Read}
 
 -- whether a word names standard input
 abbrev pub is_input : Text → Bool

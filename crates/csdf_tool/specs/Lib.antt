@@ -1,6 +1,5 @@
-pub mod Acts
 pub mod Carried
-pub mod Contents
+pub mod Crews
 pub mod Ends
 pub mod Explaining
 pub mod Flows
@@ -9,6 +8,5 @@ pub mod Places
 pub mod Refused
 pub mod Reports
 pub mod Running
-pub mod SystemCalls
 pub mod Telling
-pub mod TokenFiles
+pub mod Waiting

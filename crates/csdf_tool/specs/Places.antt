@@ -1,7 +1,6 @@
 -- Which files are one, and which of them a run has in use.
-use Rattle.std.specs.Prelude.{◌≡◌, ℕ, Bool, true, false, ◌&&◌, ◌||◌, ◌==◌, List, [], ◌∷◌, ◌++◌, Option, Some, None, codes, if◌then◌else◌, option_to_list}
+use Rattle.std.specs.Prelude.{◌≡◌, ℕ, Bool, true, false, ◌&&◌, ◌||◌, List, [], ◌∷◌, ◌++◌, Option, Some, None, codes, if◌then◌else◌, option_to_list}
 use Rattle.std.specs.Path.{path_join}
-use Rattle.std.specs.Str.{bytes_eq}
 use Rattle.csdf_model.specs.Graph.{Actor}
 use Rattle.csdf_core.specs.Planned.{is_source_kernel}
 use Rattle.csdf_floor.specs.Work.{is_sink_kernel}
@@ -11,28 +10,10 @@ use Rattle.csdf_answers.specs.declared.fault.ToolFault.TheVariants.{InUse}
 use Rattle.csdf_tool.specs.declared.apart.RunFile.{RunFile}
 use Rattle.csdf_tool.specs.declared.apart.Side.{Side}
 use Rattle.csdf_tool.specs.declared.apart.Side.TheVariants as side
-use Rattle.csdf_tool.specs.declared.place.Node.{Node}
-use Rattle.csdf_tool.specs.declared.place.Place.{Place}
-use Rattle.csdf_tool.specs.declared.place.Place.TheVariants as place
-use Rattle.csdf_tool.specs.Acts.{Act, Locate}
+use Rattle.csdf_disk.specs.declared.place.Place.{Place}
+use Rattle.csdf_disk.specs.Places.{is_one}
+use Rattle.csdf_disk.specs.Acts.{Act, Locate}
 use Rattle.csdf_tool.specs.GraphFiles.{is_input}
-
--- ---- one file
-
--- the numbers are those of one file
-abbrev pub is_one_node : Node → Node → Bool
-is_one_node a b = a.device == b.device && a.number == b.number
-
--- both are one file: one that is there, or one that would be made in one folder by one name
-abbrev pub is_one : Place → Place → Bool
-is_one (place.File a) (place.File b) = is_one_node a b
-is_one (place.Free folder name) (place.Free other again) = is_one_node folder other && bytes_eq name again
-is_one _ _ = false
-
--- a place is one of these
-abbrev pub is_among : Place → List Place → Bool
-is_among p [] = false
-is_among p (q ∷ places) = is_one p q || is_among p places
 
 -- ---- the files of a run
 
@@ -84,6 +65,11 @@ abbrev pub listed_files : Order → List Actor → List Listed
 listed_files order actors = sink_places order.sink_folder actors ++ files_of_moves order actors order.journal
 
 -- ---- a file in use
+
+-- a place is one of these
+abbrev pub is_among : Place → List Place → Bool
+is_among p [] = false
+is_among p (q ∷ places) = is_one p q || is_among p places
 
 -- a file is to be written and is one of these
 abbrev pub is_in_use : Listed → Place → List Place → Bool

@@ -7,6 +7,12 @@ room_refusal text =
     codes "error: invalid value '" ++ text
     ++ codes "' for '--room <M>': it is neither 'auto' nor in 1..=65535\n\nFor more information, try '--help'.\n"
 
+-- of a text that names no workers
+abbrev pub workers_refusal : List ℕ → List ℕ
+workers_refusal text =
+    codes "error: invalid value '" ++ text
+    ++ codes "' for '--workers <N>': it is neither 'auto' nor in 1..=8\n\nFor more information, try '--help'.\n"
+
 -- of two lengths of a run
 abbrev pub lengths_refusal : List ℕ
 lengths_refusal = codes "error: '--until-dry' and '--periods <K>' exclude each other\n\nFor more information, try '--help'.\n"

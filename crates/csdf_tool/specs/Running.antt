@@ -11,9 +11,9 @@ use Rattle.csdf_bytes.specs.declared.tokens.TokenFault.TheVariants as token
 use Rattle.csdf_model.specs.Graph.{Actor, Graph}
 use Rattle.csdf_graph.specs.GraphText.{IsGraphOf}
 use Rattle.csdf_core.specs.Planned.{is_source_kernel}
-use Rattle.csdf_floor.specs.declared.fault.RunFault.{RunFault}
-use Rattle.csdf_floor.specs.declared.fault.RunFault.TheVariants as run
 use Rattle.csdf_floor.specs.declared.outcome.Outcome.{Outcome}
+use Rattle.csdf_run.specs.declared.no_outcome.NoOutcome.{NoOutcome}
+use Rattle.csdf_run.specs.declared.no_outcome.NoOutcome.TheVariants as run
 use Rattle.csdf_run.specs.declared.tokens.TokensFault.{TokensFault}
 use Rattle.csdf_run.specs.declared.tokens.TokensFault.TheVariants as tokens
 use Rattle.csdf_analysis.specs.declared.room.Room.{Room}
@@ -25,13 +25,13 @@ use Rattle.csdf_floor.specs.Work.{feeds_in, is_sink_kernel}
 use Rattle.csdf_answers.specs.declared.fault.Stream.{Stream}
 use Rattle.csdf_answers.specs.declared.fault.Stream.TheVariants.{File, Output}
 use Rattle.csdf_answers.specs.declared.fault.ToolFault.{ToolFault}
-use Rattle.csdf_answers.specs.declared.fault.ToolFault.TheVariants.{TokenSyntax, TokenRange, TooManyTokens, Mixed, Worker, Device, Memory}
+use Rattle.csdf_answers.specs.declared.fault.ToolFault.TheVariants.{TokenSyntax, TokenRange, TooManyTokens, Worker, Device, Memory}
 use Rattle.csdf_tool.specs.declared.run_files.SinkFile.{SinkFile}
-use Rattle.csdf_tool.specs.declared.put_fault.PutFault.{PutFault}
-use Rattle.csdf_tool.specs.declared.put_fault.PutFault.TheVariants as put
-use Rattle.csdf_tool.specs.Acts.{Act, Asks, Devices, Marks, OnlyReads, Put, Read}
+use Rattle.csdf_disk.specs.declared.put_fault.PutFault.{PutFault}
+use Rattle.csdf_disk.specs.declared.put_fault.PutFault.TheVariants as put
+use Rattle.csdf_disk.specs.Acts.{Act, Asks, Devices, Marks, OnlyReads, Put, Read}
 use Rattle.csdf_words.specs.CommandLine.{Order}
-use Rattle.csdf_tool.specs.Contents.{content_text}
+use Rattle.csdf_disk.specs.Contents.{content_text}
 use Rattle.csdf_tool.specs.GraphFiles.{IsNamed, IsNotGiven, graph_reads}
 use Rattle.csdf_tool.specs.Reports.{TellsReport}
 pub use Rattle.csdf_tool.specs.Places.{in_file, out_file}
@@ -82,9 +82,8 @@ token_fault name token.Read = Device (File (in_file name))
 token_fault name token.Memory = Memory
 
 -- why a run has no outcome, as the program tells it
-abbrev pub run_fault : RunFault → ToolFault
+abbrev pub run_fault : NoOutcome → ToolFault
 run_fault run.Memory = Memory
-run_fault run.Mixed = Mixed
 run_fault run.Worker = Worker
 
 -- why tokens make no run of the graph, as the program tells it: actors and channels by their names

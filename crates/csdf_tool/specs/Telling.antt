@@ -1,20 +1,30 @@
 -- What is told of a run on the way.
-use Rattle.std.specs.Prelude.{ℕ, ◌+◌, ◌/◌, Bool, not, List, ◌++◌, ◌==◌, Option, Some, None, codes, min, if◌then◌else◌}
+use Rattle.std.specs.Prelude.{ℕ, ◌+◌, ◌/◌, Bool, not, List, [], ◌++◌, ◌==◌, Option, Some, None, codes, min, if◌then◌else◌}
 use Rattle.std.specs.Fmt.{decimal}
+use Rattle.csdf_tool.specs.declared.telling.Beside.{Beside}
 use Rattle.csdf_tool.specs.declared.telling.Line.{Line}
 
--- how many firings were made, of how many at most where that is known, and whether it is the last line
-abbrev pub line : ℕ → Option ℕ → Bool → Line
-line made most last = record { made = made; most = most; is_last = last }
+-- how many firings were made, what stands beside, and whether it is the last line
+abbrev pub line : ℕ → Beside → Bool → Line
+line made beside last = record { made = made; beside = beside; is_last = last }
 
--- the numbers of a line, behind a carriage return, which puts it in the place of the one before it
-abbrev pub numbers_text : ℕ → Option ℕ → List ℕ → List ℕ
-numbers_text made (Some most) rest = codes "\rcsdf: " ++ decimal made ++ codes " of at most " ++ decimal most ++ rest
-numbers_text made None rest = codes "\rcsdf: " ++ decimal made ++ rest
+-- of how many at most, where that is known
+abbrev pub most_text : Option ℕ → List ℕ
+most_text None = []
+most_text (Some most) = codes " of at most " ++ decimal most
+
+-- by how many workers, where these were chosen
+abbrev pub crew_text : Option ℕ → List ℕ
+crew_text None = []
+crew_text (Some count) = codes ", workers: " ++ decimal count
+
+-- the firings behind a carriage return, which puts the line in the place of the one before it
+abbrev pub firings_text : ℕ → Beside → List ℕ
+firings_text made b = codes "\rcsdf: " ++ decimal made ++ most_text b.most ++ codes " firings" ++ crew_text b.crew
 
 -- a line; a newline ends the last one
 abbrev pub line_text : Line → List ℕ
-line_text l = if l.is_last then numbers_text l.made l.most (codes " firings\n") else numbers_text l.made l.most (codes " firings")
+line_text l = if l.is_last then firings_text l.made l.beside ++ codes "\n" else firings_text l.made l.beside
 
 -- how many firings were made with these, as far as 64 bits tell
 abbrev pub made_after : ℕ → ℕ → ℕ

@@ -3,14 +3,14 @@
 ghost use Rattle.std.specs.Prelude.{◌≡◌, ◌≢◌, true, Err, IfErr, OnOk};
 ghost use Rattle.csdf_answers.specs.Objects.{IsDescriptionAs};
 ghost use Rattle.csdf_answers.specs.Session.{IsAnswer};
-ghost use Rattle.csdf_tool.specs.Acts.{devices, marks};
+ghost use Rattle.csdf_disk.specs.Acts.{devices, marks};
 ghost use Rattle.csdf_tool.specs.Carried.{LacksAnswer, PutsOut};
 ghost use Rattle.csdf_tool.specs.GraphFiles.{is_input};
 
-use crate::disk::Disk;
 use crate::files::graph_bytes;
 use csdf_answers::{Stream, ToolFault, describe_as, play_script};
 use csdf_bytes::{Intake, Outlet};
+use csdf_disk::Disk;
 use csdf_words::Inquiry;
 use std::alloc::Global;
 

@@ -3,13 +3,12 @@
 ghost use Rattle.std.specs.Prelude.{◌≡◌, ◌⊎◌, ◌++◌, [], ◌∷◌, List, true, false, map, option_map, option_to_list, IfErr, IfOk, OnErr, OnOk};
 ghost use Rattle.csdf_model.specs.Graph.{actor_view};
 ghost use Rattle.csdf_words.specs.CommandLine.{order_view};
-ghost use Rattle.csdf_tool.specs.Acts.{Act, Asks, OnlyReads};
+ghost use Rattle.csdf_disk.specs.Acts.{Act, Asks, OnlyReads};
 ghost use Rattle.csdf_tool.specs.Places.{Apart, IsInUse, file_on, files_of_moves, files_on, graph_path, is_among, is_in_use, listed, listed_view, located, listed_files, sink_places};
 
-use crate::disk::Disk;
 use crate::files::path_in;
-use crate::place::Place;
 use csdf_answers::{Name, ToolFault};
+use csdf_disk::{Disk, Place};
 use csdf_model::Actor;
 use csdf_words::RunWords;
 use std::alloc::{AllocError, Global};

@@ -3,15 +3,16 @@
 ghost use Rattle.std.specs.Prelude.{◌≡◌, ◌≢◌, ◌⊎◌, ◌++◌, [], ◌∷◌, ℕ, List, true, map, option_map, string_bytes, Some, Err, IfErr, IfOk, OnOk};
 ghost use Rattle.std.specs.Io.KnownBytes.{Appends};
 ghost use Rattle.csdf_model.specs.Graph.{actor_view};
-ghost use Rattle.csdf_tool.specs.Acts.{Act, Asks, devices, marks};
+ghost use Rattle.csdf_disk.specs.Acts.{Act, Asks, devices, marks};
 ghost use Rattle.csdf_tool.specs.Carried.{LacksExplanation};
-ghost use Rattle.csdf_tool.specs.Explaining.{Looked, AreNotes, AreNotesOf, ExplainsFiles, IsExplanation, IsNotedAfter, look_of, note_of};
+ghost use Rattle.csdf_tool.specs.Explaining.{Explains, Looked, AreNotes, AreNotesOf, IsExplanation, IsNotedAfter, look_of, note_of};
 ghost use Rattle.csdf_tool.specs.GraphFiles.{is_input};
 
-use crate::disk::Disk;
 use crate::files::{graph_bytes, token_path};
+use crate::unread_file::{explain_unread, is_of_file};
 use csdf_answers::{Stream, ToolFault, explain, explain_with, push_token_note};
 use csdf_bytes::{Intake, Outlet};
+use csdf_disk::Disk;
 use csdf_graph::{GraphFault, read_graph};
 use csdf_model::Actor;
 use std::alloc::Global;
@@ -132,7 +133,7 @@ fn explain_in<D: Disk, O: Outlet>(
 }
 
 /// Explains the graph file that a word names, and where a folder is named, what is wrong with the
-/// token files there.
+/// token files there. Of a graph file that cannot be read it tells why.
 pub(crate) fn explain_files<D: Disk, I: Intake, O: Outlet>(
     alloc: Global,
     disk: &mut D,
@@ -141,7 +142,7 @@ pub(crate) fn explain_files<D: Disk, I: Intake, O: Outlet>(
     reader: &mut I,
     out: &mut O,
 ) -> Result<(), ToolFault>
-    ensures written { OnOk result (ExplainsFiles graph.now (option_map (λ f. f.now) folder.entry)
+    ensures written { OnOk result (Explains graph.now (option_map (λ f. f.now) folder.entry)
         (devices (I.left reader.old) (D.acts disk.old) (D.acts disk.new)) (O.written out.old) (O.written out.new)) }
     ensures unwritten { IfErr result (λ fault. fault ≢ ToolFault.Device Stream.Output → out.new ≡ out.old) }
     ensures failed { result ≡ Err (ToolFault.Device Stream.Output) → O.failed out.new ≡ true }
@@ -149,6 +150,9 @@ pub(crate) fn explain_files<D: Disk, I: Intake, O: Outlet>(
         (devices (I.left reader.old) (D.acts disk.old) (D.acts disk.new)) (marks (I.failed reader.new) (O.failed out.new))) }
     ensures input { is_input graph.now ≡ true → I.failed reader.new ≡ true → result ≡ Err (ToolFault.Device Stream.Input) }
 {
-    let bytes = graph_bytes(alloc, disk, graph, reader)?;
-    explain_in(alloc, disk, &bytes, folder, out)
+    match graph_bytes(alloc, disk, graph, reader) {
+        Ok(bytes) => explain_in(alloc, disk, &bytes, folder, out),
+        Err(fault) if is_of_file(&fault) => explain_unread(alloc, disk, graph, fault, out),
+        Err(fault) => Err(fault),
+    }
 }

@@ -3,17 +3,15 @@
 ghost use Rattle.std.specs.Prelude.{◌≡◌, ◌≢◌, ◌⊎◌, ◌↔◌, ℕ, [], ◌∷◌, List, true, false, Ok, Err, IfErr, IfOk, IfSome, OnErr, OnOk};
 ghost use Rattle.std.specs.Path.{path_buf_bytes, path_join};
 ghost use Rattle.csdf_answers.specs.Faults.{unread};
-ghost use Rattle.csdf_tool.specs.Acts.{Act, Asks, OnlyReads, Put, Read, devices};
-ghost use Rattle.csdf_tool.specs.Contents.{AreTokensOf, content_text};
+ghost use Rattle.csdf_disk.specs.Acts.{Act, Asks, OnlyReads, Put, Read, devices};
+ghost use Rattle.csdf_disk.specs.Contents.{AreTokensOf, content_text};
 ghost use Rattle.csdf_tool.specs.Explaining.{token_path};
 ghost use Rattle.csdf_tool.specs.GraphFiles.{graph_reads, is_input, IsInputFault, IsNamed, IsNotGiven};
 ghost use Rattle.csdf_tool.specs.Running.{IsFeedMissing, IsUnput, in_file};
 
-use crate::content::Content;
-use crate::disk::Disk;
-use crate::put_fault::PutFault;
 use csdf_answers::{Name, Stream, ToolFault, unread};
 use csdf_bytes::{InputFault, Intake, TokenFault, read_bytes};
+use csdf_disk::{Content, Disk, PutFault};
 use std::alloc::{AllocError, Global};
 use std::path::{Path, PathBuf};
 

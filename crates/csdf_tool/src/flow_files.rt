@@ -2,14 +2,13 @@
 
 ghost use Rattle.std.specs.Prelude.{◌≡◌, ◌≤◌, ◌++◌, ◌⊎◌, List, [], ◌∷◌, map, length, take, IfErr, IfOk, OnOk};
 ghost use Rattle.csdf_model.specs.Graph.{actor_view};
-ghost use Rattle.csdf_tool.specs.Acts.{Act, Asks};
+ghost use Rattle.csdf_disk.specs.Acts.{Act, Asks};
 ghost use Rattle.csdf_tool.specs.Flows.{IsUnkept, IsUnkeptAt, IsUnmade, IsUnopened, flow_file_view, keeps, leave_of, make_of, miss_of, open_of, placed, sink_at, sinks_at, source_at, sources_at, unmade_of};
 ghost use Rattle.csdf_tool.specs.Running.{put_fault};
 
-use crate::disk::Disk;
 use crate::files::path_in;
-use crate::put_fault::PutFault;
 use csdf_answers::{Name, Stream, ToolFault};
+use csdf_disk::{Disk, PutFault};
 use csdf_model::Actor;
 use std::alloc::{AllocError, Global};
 use std::path::PathBuf;

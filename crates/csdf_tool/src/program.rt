@@ -7,18 +7,18 @@ ghost use Rattle.csdf_words.specs.CommandLine.{program, asked_view, form_asked, 
 ghost use Rattle.csdf_tool.specs.Carried.{IsCarriedOut, IsCauseOf, IsStreamedOut, asks_files, asks_stream, flows_asked, flows_out, reads_input};
 ghost use Rattle.csdf_tool.specs.Ends.{AreTaken, Ended, EndsAs, EndsBy, EndsFor, EndsForOneOf, EndsInForm, EndsInUse, EndsLacking, EndsTelling, EndsTold, EndsUnasked, EndsUnread, ending, told_in};
 ghost use Rattle.csdf_tool.specs.Flows.{standard, through};
-ghost use Rattle.csdf_tool.specs.Acts.{devices, marks};
+ghost use Rattle.csdf_disk.specs.Acts.{devices, marks};
 
 use crate::answer_files::{ask_file, play_file};
-use crate::disk::Disk;
 use crate::explain_files::explain_files;
-use crate::refused::{refuse_lengths, refuse_out, refuse_room};
+use crate::refused::{refuse_lengths, refuse_out, refuse_room, refuse_workers};
 use crate::run_files::run_files;
 use crate::stream_files::stream_files;
 use clap::Error;
 use clap::error::ErrorKind;
 use csdf_answers::{Form, Stream, ToolFault, fault_line, memory_line};
 use csdf_bytes::{Intake, Outlet, write_bytes};
+use csdf_disk::Disk;
 use csdf_words::{Request, Unread, form_of, request_of};
 use std::alloc::Global;
 use std::fmt;
@@ -179,6 +179,7 @@ fn status_of_words<O: Outlet, E: Outlet>(
     match unread {
         Unread::Parse(error) => status_of_error(alloc, error, out, err),
         Unread::Room(text) => refuse_room(text, err),
+        Unread::Workers(text) => refuse_workers(text, err),
         Unread::Lengths => refuse_lengths(err),
         Unread::OutAlone => refuse_out(err),
     }

@@ -1,14 +1,13 @@
 //! How far a run or a stream has come, on standard error.
 
 ghost use Rattle.std.specs.Prelude.{None};
-ghost use Rattle.csdf_claims.specs.Board.{KeepsJust};
 
-use crate::telling::{Line, Telling, tell_begin, tell_end, tell_made};
+use crate::telling::{Beside, Line, Telling, tell_begin, tell_end, tell_made};
+use csdf_analysis::Length;
 use csdf_bytes::DeviceFailed;
-use csdf_claims::{Board, Place};
-use csdf_run::Gate;
-use std::sync::atomic::AtomicU64;
+use csdf_run::Watch;
 use std::sync::atomic::Ordering::SeqCst;
+use std::sync::atomic::{AtomicBool, AtomicU64};
 
 /// Standard error. What it takes is known to no contract: that a line is written there is by reading.
 #[derive(Clone, Copy)]
@@ -22,82 +21,98 @@ impl<R: Eprint> Telling for OnError<'_, R> {
     }
 }
 
-/// A gate that lets every firing through at once. Where it is asked to, it tells over and over how many
-/// firings were made, of how many at most. A failure of standard error changes nothing.
+/// The watch of a run. Where it is asked to, it tells over and over how many firings were made, of how many at
+/// most where that says something, and by how many workers where these were chosen; and nothing of a run that
+/// never begins. A failure of standard error changes
+/// nothing.
 #[derive(Drop)]
 pub(crate) struct Progress<'a, R> {
     rt: &'a R,
     is_asked: bool,
+    has_most: bool,
+    crew: Option<u32>,
+    has_begun: AtomicBool,
     made: AtomicU64,
     most: AtomicU64,
 }
 
 impl<'a, R: Eprint> Progress<'a, R> {
-    /// Of a run that has not begun.
-    pub(crate) fn new(rt: &'a R, is_asked: bool) -> Progress<'a, R> {
+    /// Of a run that has not begun, goes on so long and is made by so many workers, where these were chosen.
+    /// One that goes on until a source is dry makes far fewer firings than it may, so nothing is told of these.
+    pub(crate) fn new(
+        rt: &'a R,
+        is_asked: bool,
+        how_long: Length,
+        crew: Option<u32>,
+    ) -> Progress<'a, R> {
         Progress {
             rt,
             is_asked,
+            has_most: matches!(how_long, Length::Periods(_)),
+            crew,
+            has_begun: AtomicBool::new(false),
             made: AtomicU64::new(0),
             most: AtomicU64::new(0),
         }
     }
 
-    /// Tells of a run that has ended.
+    /// What is told beside the firings that were made.
+    fn beside(&self) -> Beside {
+        let most = if self.has_most {
+            Some(self.most.load(SeqCst))
+        } else {
+            None
+        };
+        Beside {
+            most,
+            crew: self.crew,
+        }
+    }
+
+    /// Tells of a run that has ended, where it had begun.
     pub(crate) fn end(&self) {
+        let is_told = self.is_asked && self.has_begun.load(SeqCst);
         let made = self.made.load(SeqCst);
-        let most = self.most.load(SeqCst);
-        let _ = tell_end(&mut OnError(self.rt), self.is_asked, made, Some(most));
+        let _ = tell_end(&mut OnError(self.rt), is_told, made, self.beside());
     }
 }
 
-impl<R: Eprint + Sync> Gate for Progress<'_, R> {
-    fn enter(&self, _board: &Board, _place: &mut Place, _actor: u32, _firing: u32) {}
-
-    fn may_wait(&self) -> bool {
-        false
-    }
-
-    fn is_open(&self) -> bool {
-        true
-    }
-
+impl<R: Eprint + Sync> Watch for Progress<'_, R> {
     fn begins(&self, most: u64) {
+        self.has_begun.store(true, SeqCst);
+        self.made.store(0, SeqCst);
         self.most.store(most, SeqCst);
-        let _ = tell_begin(&mut OnError(self.rt), self.is_asked, Some(most));
+        let _ = tell_begin(&mut OnError(self.rt), self.is_asked, self.beside());
     }
 
     fn has_made(&self, firings: u32) {
         if self.is_asked {
             let before = self.made.fetch_add(u64::from(firings), SeqCst);
-            let most = self.most.load(SeqCst);
-            let _ = tell_made(
-                &mut OnError(self.rt),
-                self.is_asked,
-                before,
-                firings,
-                Some(most),
-            );
+            let out = &mut OnError(self.rt);
+            let _ = tell_made(out, self.is_asked, before, firings, self.beside());
         }
     }
 }
 
-/// A gate that lets every firing of a stream through at once. Where it is asked to, it tells over and over how
-/// many firings were made in all segments. A failure of standard error changes nothing.
+/// The watch of a stream. Where it is asked to, it tells over and over how many firings were made in all
+/// segments, and by how many workers where these were chosen. A failure of standard error changes nothing.
 #[derive(Drop)]
 pub(crate) struct FlowProgress<'a, R> {
     rt: &'a R,
     is_asked: bool,
+    beside: Beside,
     made: AtomicU64,
 }
 
 impl<'a, R: Eprint> FlowProgress<'a, R> {
     /// Of a stream that begins.
-    pub(crate) fn begin(rt: &'a R, is_asked: bool) -> FlowProgress<'a, R> {
-        let _ = tell_begin(&mut OnError(rt), is_asked, None);
+    pub(crate) fn begin(rt: &'a R, is_asked: bool, crew: Option<u32>) -> FlowProgress<'a, R> {
+        let beside = Beside { most: None, crew };
+        let _ = tell_begin(&mut OnError(rt), is_asked, beside);
         FlowProgress {
             rt,
             is_asked,
+            beside,
             made: AtomicU64::new(0),
         }
     }
@@ -105,25 +120,16 @@ impl<'a, R: Eprint> FlowProgress<'a, R> {
     /// Tells of a stream that has ended.
     pub(crate) fn end(&self) {
         let made = self.made.load(SeqCst);
-        let _ = tell_end(&mut OnError(self.rt), self.is_asked, made, None);
+        let _ = tell_end(&mut OnError(self.rt), self.is_asked, made, self.beside);
     }
 }
 
-impl<R: Eprint + Sync> Gate for FlowProgress<'_, R> {
-    fn enter(&self, _board: &Board, _place: &mut Place, _actor: u32, _firing: u32) {}
-
-    fn may_wait(&self) -> bool {
-        false
-    }
-
-    fn is_open(&self) -> bool {
-        true
-    }
-
+impl<R: Eprint + Sync> Watch for FlowProgress<'_, R> {
     fn has_made(&self, firings: u32) {
         if self.is_asked {
             let before = self.made.fetch_add(u64::from(firings), SeqCst);
-            let _ = tell_made(&mut OnError(self.rt), self.is_asked, before, firings, None);
+            let out = &mut OnError(self.rt);
+            let _ = tell_made(out, self.is_asked, before, firings, self.beside);
         }
     }
 }

@@ -8,8 +8,8 @@ ghost use Rattle.csdf_run.specs.Scripts.{kept_script};
 ghost use Rattle.csdf_run.specs.Tokens.{AreReadOf, IsGraphRun, IsSequentialGraphRun, read_in, told_at, with_last};
 ghost use Rattle.csdf_floor.specs.Work.{feeds_in};
 ghost use Rattle.csdf_words.specs.CommandLine.{order_view};
-ghost use Rattle.csdf_tool.specs.Acts.{Act, Asks, OnlyReads, devices, marks};
-ghost use Rattle.csdf_tool.specs.Contents.{told_tokens};
+ghost use Rattle.csdf_disk.specs.Acts.{Act, Asks, OnlyReads, devices, marks};
+ghost use Rattle.csdf_disk.specs.Contents.{told_tokens};
 ghost use Rattle.csdf_tool.specs.GraphFiles.{is_input};
 ghost use Rattle.csdf_tool.specs.Reports.{TellsReport};
 ghost use Rattle.csdf_tool.specs.Running.{AreNamedAlike, EndsBeforeFiles, EndsOnFiles, IsCutShort, IsFeedMissing, IsFeedOf, IsKeptFrom, IsReadAll, LacksFeed, RefusesGraphRun, RunsOn, RunsOnFiles};
@@ -17,17 +17,17 @@ ghost use Rattle.csdf_tool.specs.Running.{file_view, files_of, journal_files, pu
 ghost use Rattle.csdf_tool.specs.Places.{Apart, listed_files};
 
 use crate::apart::keep_apart;
-use crate::content::Content;
-use crate::disk::Disk;
+use crate::crew::{chosen, workers_for};
 use crate::files::{feed_tokens, graph_bytes, put_file};
 use crate::progress::Progress;
 use crate::report::report_object;
 use csdf_answers::{Form, Name, Stream, ToolFault, accept_fault};
 use csdf_bytes::{Intake, Outlet, TokenFault, write_bytes};
-use csdf_floor::{Outcome, RunFault, printed_report};
+use csdf_disk::{Content, Disk};
+use csdf_floor::{Outcome, list_at, printed_report};
 use csdf_graph::read_graph;
 use csdf_model::{Actor, Graph, MAX_ACTORS, actor_name};
-use csdf_run::{FeedFault, TokensFault, TokensRun, kept_script, run_tokens};
+use csdf_run::{FeedFault, NoOutcome, RunOptions, TokensFault, TokensRun, kept_script, run_tokens};
 use csdf_words::RunWords;
 use std::alloc::{AllocError, Global};
 use std::sync::Wait;
@@ -112,14 +112,13 @@ fn token_fault(alloc: Global, source: &str, fault: TokenFault) -> Result<ToolFau
     }
 }
 
-/// Why a run failed, as the program tells it.
-pub(crate) fn run_fault(fault: RunFault) -> ToolFault
+/// Why a run has no outcome, as the program tells it.
+pub(crate) fn run_fault(fault: NoOutcome) -> ToolFault
     ensures { result ≡ run_fault fault }
 {
     match fault {
-        RunFault::Memory => ToolFault::Memory,
-        RunFault::Mixed => ToolFault::Mixed,
-        RunFault::Worker => ToolFault::Worker,
+        NoOutcome::Memory => ToolFault::Memory,
+        NoOutcome::Worker => ToolFault::Worker,
     }
 }
 
@@ -165,15 +164,12 @@ fn ran_over<R: AllocGlobal + Eprint + Threads + Wait + Sync>(
         → IfErr result (λ fault. fault ≢ ToolFault.Memory → RefusesGraphRun order.entry.options.room graph texts fault) }
 {
     let alloc = rt.alloc();
-    let progress = Progress::new(rt, order.progress);
-    let TokensRun { graph, outcome } = run_tokens(
-        rt,
-        alloc,
-        graph,
-        feeds,
-        order.options,
-        &progress,
-    );
+    let asked = order.options;
+    let workers = workers_for(rt, alloc, order.workers, &graph, asked.room)?;
+    let crew = chosen(order.workers, workers);
+    let progress = Progress::new(rt, order.progress, asked.how_long, crew);
+    let options = RunOptions { workers, ..asked };
+    let TokensRun { graph, outcome } = run_tokens(rt, alloc, graph, feeds, options, &progress);
     progress.end();
     match outcome {
         Ok(outcome) => Ok(Ran { graph, outcome }),
@@ -235,16 +231,6 @@ struct SinkFile<'a> {
     folder: &'a str,
     name: Name,
     content: Content<'a>,
-}
-
-/// The list with this number; the empty list where there is none.
-fn list_at(lists: &[Vec<i32>], number: usize) -> &[i32]
-    ensures { result.now ≡ slice_index_or (feeds_in lists.now) number [] }
-{
-    match lists.get(number) {
-        Some(list) => list.as_slice(),
-        None => &[],
-    }
 }
 
 /// The file of each sink in the folder that is asked for, in file order.

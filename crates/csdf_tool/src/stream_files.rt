@@ -10,13 +10,13 @@ ghost use Rattle.csdf_answers.specs.Printed.{names_of};
 ghost use Rattle.csdf_stream.specs.Flowing.{Devices as Flow, devices as flow};
 ghost use Rattle.csdf_stream.specs.Ports.{sinks_in, sources_in};
 ghost use Rattle.csdf_words.specs.CommandLine.{folders_view, stream_view};
-ghost use Rattle.csdf_tool.specs.Acts.{Asks, devices, marks};
+ghost use Rattle.csdf_disk.specs.Acts.{Asks, devices, marks};
 ghost use Rattle.csdf_tool.specs.Flows.{FlowsOverFiles, IsAcceptedOf, IsFlow, IsStoppedBy, RefusesStream, StopsFiles, StopsMade, StopsOnGraph, StopsOverFiles, StopsStandard};
 ghost use Rattle.csdf_tool.specs.Flows.{StopsStream, Streams, StreamsFiles, StreamsStandard, count_of, flow_file_view, keeps, lack_by, lack_of, one_for, reads_graph, standard, standard_flow, through};
 ghost use Rattle.csdf_tool.specs.GraphFiles.{IsGivenBy, IsNotGiven, is_input};
 
 use crate::apart::keep_sinks_apart;
-use crate::disk::Disk;
+use crate::crew::{chosen, workers_of};
 use crate::files::graph_bytes;
 use crate::flow_fault::{Side, stream_fault};
 use crate::flow_files::{
@@ -27,9 +27,10 @@ use crate::progress::FlowProgress;
 use csdf_analysis::{Accepted, accept_or_hand_back};
 use csdf_answers::{Lack, Stream, ToolFault, accept_fault};
 use csdf_bytes::{Intake, Outlet, write_bytes};
+use csdf_disk::Disk;
 use csdf_graph::read_graph;
 use csdf_model::Graph;
-use csdf_stream::{StreamRun, run_stream, sinks_of, sources_of};
+use csdf_stream::{StreamOptions, StreamRun, run_stream, sinks_of, sources_of};
 use csdf_words::{Folders, StreamWords};
 use std::alloc::{AllocError, Global};
 use std::sync::Wait;
@@ -138,15 +139,17 @@ fn flow_over<R: AllocGlobal + Eprint + Threads + Wait + Sync, I: Intake, O: Outl
         (map I.failed intakes.new) (map O.failed outlets.new) fault) }
 {
     let alloc = rt.alloc();
-    let progress = FlowProgress::begin(rt, order.progress);
+    let workers = workers_of(rt, order.workers, &accepted);
+    let crew = chosen(order.workers, workers);
+    let progress = FlowProgress::begin(rt, order.progress, crew);
+    let options = StreamOptions {
+        workers,
+        segment: order.options.segment,
+        periods: order.options.periods,
+        format: order.options.format,
+    };
     let StreamRun { stream, end } = run_stream(
-        rt,
-        alloc,
-        accepted,
-        order.options,
-        intakes,
-        outlets,
-        &progress,
+        rt, alloc, accepted, options, intakes, outlets, &progress,
     )?;
     progress.end();
     let graph = stream.accepted().graph();

@@ -2,7 +2,7 @@
 
 ghost use Rattle.std.specs.Prelude.{◌≡◌, ◌⊎◌, ◌+◌, ℕ, List, Option, true, false, min, OnOk};
 ghost use Rattle.std.specs.Io.KnownBytes.{Appends};
-ghost use Rattle.csdf_tool.specs.Telling.{is_due, line, line_text, made_after};
+ghost use Rattle.csdf_tool.specs.Telling.{crew_text, is_due, line, line_text, made_after, most_text};
 
 use csdf_bytes::DeviceFailed;
 use std::fmt;
@@ -10,12 +10,56 @@ use std::fmt;
 /// After how many firings the line is told again: what half a second makes where they are made one by one.
 const STEP: u64 = 2_000_000;
 
-/// A line that tells how many firings were made, and of how many at most where that is known. Each is written
-/// over the one before, and the last one ends with a newline.
+/// How many firings there are at most, where that is known.
+#[derive(Clone, Copy)]
+struct Most(Option<u64>);
+
+impl fmt::Display for Most {
+    ghost use Rattle.std.specs.Prelude.{Some};
+    ghost use Rattle.csdf_tool.specs.Telling.{most_text};
+
+    ghost output = { λ most. Some (most_text most.0) };
+
+    fn fmt<W: fmt::Write>(&self, f: &mut fmt::Formatter<W>) -> fmt::Result {
+        match self.0 {
+            Some(most) => write!(f, " of at most {most}"),
+            None => Ok(()),
+        }
+    }
+}
+
+/// How many workers were chosen, where as many as pay were asked for.
+#[derive(Clone, Copy)]
+struct Crew(Option<u32>);
+
+impl fmt::Display for Crew {
+    ghost use Rattle.std.specs.Prelude.{Some};
+    ghost use Rattle.csdf_tool.specs.Telling.{crew_text};
+
+    ghost output = { λ crew. Some (crew_text crew.0) };
+
+    fn fmt<W: fmt::Write>(&self, f: &mut fmt::Formatter<W>) -> fmt::Result {
+        match self.0 {
+            Some(count) => write!(f, ", workers: {count}"),
+            None => Ok(()),
+        }
+    }
+}
+
+/// What a line tells beside the firings that were made: how many there are at most, where that is known, and
+/// how many workers were chosen, where as many as pay were asked for.
+#[derive(Clone, Copy)]
+pub(crate) struct Beside {
+    pub(crate) most: Option<u64>,
+    pub(crate) crew: Option<u32>,
+}
+
+/// A line that tells how many firings were made, and what stands beside. Each is written over the one before,
+/// and the last one ends with a newline.
 #[derive(Clone, Copy)]
 pub(crate) struct Line {
     made: u64,
-    most: Option<u64>,
+    beside: Beside,
     is_last: bool,
 }
 
@@ -27,11 +71,12 @@ impl fmt::Display for Line {
 
     fn fmt<W: fmt::Write>(&self, f: &mut fmt::Formatter<W>) -> fmt::Result {
         let made = self.made;
-        match (self.most, self.is_last) {
-            (Some(most), true) => write!(f, "\rcsdf: {made} of at most {most} firings\n"),
-            (Some(most), false) => write!(f, "\rcsdf: {made} of at most {most} firings"),
-            (None, true) => write!(f, "\rcsdf: {made} firings\n"),
-            (None, false) => write!(f, "\rcsdf: {made} firings"),
+        let most = Most(self.beside.most);
+        let crew = Crew(self.beside.crew);
+        if self.is_last {
+            write!(f, "\rcsdf: {made}{most} firings{crew}\n")
+        } else {
+            write!(f, "\rcsdf: {made}{most} firings{crew}")
         }
     }
 }
@@ -46,13 +91,13 @@ pub(crate) trait Telling {
         ensures { OnOk result (Appends (told self.old) (told self.new) (line_text line)) };
 }
 
-/// Tells that a run begins, of at most so many firings where that is known, where it is asked for.
+/// Tells that a run begins, where it is asked for.
 pub(crate) fn tell_begin<T: Telling>(
     place: &mut T,
     is_asked: bool,
-    most: Option<u64>,
+    beside: Beside,
 ) -> Result<(), DeviceFailed>
-    ensures told { is_asked ≡ true → OnOk result (Appends (T.told place.old) (T.told place.new) (line_text (line 0 most false))) }
+    ensures told { is_asked ≡ true → OnOk result (Appends (T.told place.old) (T.told place.new) (line_text (line 0 beside false))) }
     ensures silent { is_asked ≡ false → place.new ≡ place.old }
 {
     if !is_asked {
@@ -60,7 +105,7 @@ pub(crate) fn tell_begin<T: Telling>(
     }
     place.tell(Line {
         made: 0,
-        most,
+        beside,
         is_last: false,
     })
 }
@@ -78,10 +123,10 @@ pub(crate) fn tell_made<T: Telling>(
     is_asked: bool,
     before: u64,
     firings: u32,
-    most: Option<u64>,
+    beside: Beside,
 ) -> Result<(), DeviceFailed>
     ensures told { is_asked ≡ true → is_due before (made_after before firings) ≡ true
-        → OnOk result (Appends (T.told place.old) (T.told place.new) (line_text (line (made_after before firings) most false))) }
+        → OnOk result (Appends (T.told place.old) (T.told place.new) (line_text (line (made_after before firings) beside false))) }
     ensures silent { (is_asked ≡ false) ⊎ (is_due before (made_after before firings) ≡ false) → place.new ≡ place.old }
 {
     let made = before.saturating_add(u64::from(firings));
@@ -90,7 +135,7 @@ pub(crate) fn tell_made<T: Telling>(
     }
     place.tell(Line {
         made,
-        most,
+        beside,
         is_last: false,
     })
 }
@@ -100,9 +145,9 @@ pub(crate) fn tell_end<T: Telling>(
     place: &mut T,
     is_asked: bool,
     made: u64,
-    most: Option<u64>,
+    beside: Beside,
 ) -> Result<(), DeviceFailed>
-    ensures told { is_asked ≡ true → OnOk result (Appends (T.told place.old) (T.told place.new) (line_text (line made most true))) }
+    ensures told { is_asked ≡ true → OnOk result (Appends (T.told place.old) (T.told place.new) (line_text (line made beside true))) }
     ensures silent { is_asked ≡ false → place.new ≡ place.old }
 {
     if !is_asked {
@@ -110,7 +155,7 @@ pub(crate) fn tell_end<T: Telling>(
     }
     place.tell(Line {
         made,
-        most,
+        beside,
         is_last: true,
     })
 }

@@ -3,7 +3,7 @@
 use crate::core_tests::{AMPLE, PAIR, opening_core, shown, state_after};
 use crate::shared::{accepted_in, expect_eq, expect_eq_of};
 use csdf_analysis::Accepted;
-use csdf_core::Core;
+use csdf_core::{Block, Core};
 use std::alloc::Global;
 use std::process::Abort;
 use std::test::Fail;
@@ -128,8 +128,20 @@ quiet false
 actor 64: needs 0
 "#;
 
-/// The tokens that the actor's greatest block of at most `most` firings reads, once it has written
-/// these; none where it would write another number.
+/// The actor's next firings, at most so many; none where there is no such actor.
+fn block_of(core: &Core, actor: u32, most: u32) -> Block {
+    if actor >= core.actors() {
+        return Block {
+            firings: 0,
+            needed: 0,
+            given: 0,
+        };
+    }
+    core.ahead(actor, most)
+}
+
+/// What the actor's next firings, at most `most`, read as far as it is there, once they have written
+/// these tokens; nothing where they would write another number.
 fn made(
     alloc: Global,
     core: &mut Core,
@@ -137,7 +149,10 @@ fn made(
     most: u32,
     tokens: &[i32],
 ) -> Result<Vec<i32>, Fail> {
-    let block = core.block(actor, most);
+    if actor >= core.actors() {
+        return Ok(Vec::new(alloc));
+    }
+    let block = core.ahead(actor, most);
     if block.firings == 0 {
         return Ok(Vec::new(alloc));
     }
@@ -150,10 +165,9 @@ fn made(
     Ok(read)
 }
 
-/// Asserts the greatest block of the actor of at most `most` firings: how many, and what it reads and
-/// writes.
+/// Asserts the actor's next firings, at most `most`: how many, and what they read and write.
 fn expect_block(rt: &impl Abort, core: &Core, actor: u32, most: u32, want: (u32, u64, u64)) {
-    let block = core.block(actor, most);
+    let block = block_of(core, actor, most);
     expect_eq(rt, (block.firings, block.needed, block.given), want);
 }
 
@@ -303,9 +317,9 @@ const JOIN_BLOCKS: [Step; 5] = [
     },
 ];
 
-/// Two firings find their tokens in the delay lines, which holds for the next two as well: what they
-/// take is what the first two gave back, but for the two of the eight that are left.
-const DELAYS_BLOCKS: [Step; 3] = [
+/// Two firings find their tokens in the delay lines. The next two read what the first two write, but for
+/// the two of the eight that are left: 0 stands for it.
+const DELAYS_BLOCKS: [Step; 2] = [
     Step {
         actor: 0,
         most: 8,
@@ -316,16 +330,11 @@ const DELAYS_BLOCKS: [Step; 3] = [
     Step {
         actor: 1,
         most: 8,
-        block: (2, 10, 10),
-        written: &[21, 21, 21, 21, 21, 41, 41, 41, 41, 41],
-        read: &[5, 1, 2, 3, 10, 6, 4, 5, 6, 20],
-    },
-    Step {
-        actor: 1,
-        most: 8,
-        block: (2, 10, 10),
-        written: &[64, 64, 64, 64, 64, 1, 2, 3, 4, 5],
-        read: &[7, 7, 8, 21, 21, 8, 21, 21, 41, 41],
+        block: (4, 20, 20),
+        written: &[
+            21, 21, 21, 21, 21, 41, 41, 41, 41, 41, 64, 64, 64, 64, 64, 1, 2, 3, 4, 5,
+        ],
+        read: &[5, 1, 2, 3, 10, 6, 4, 5, 6, 20, 7, 7, 8, 0, 0, 8, 0, 0, 0, 0],
     },
 ];
 

@@ -28,7 +28,7 @@ fn expect_note(rt: &(impl Abort + AllocGlobal), bytes: &[u8], want: &str) -> Res
 
 /// The bytes of a token file, and its line.
 const NOTES: [(&[u8], &str); 9] = [
-    (b"", ""),
+    (b"", "src reads d/src.in, which has no tokens\n"),
     (b"1\n\n-2\r\n", ""),
     (
         b"1\n4,5\n6\n",

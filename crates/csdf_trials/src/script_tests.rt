@@ -416,12 +416,11 @@ fn faults_of_graphs_have_a_line(rt: HostRuntime) -> Result<(), Fail> {
 }
 
 /// Faults that name nothing, their lines, and their statuses.
-const FAULTS: [(ToolFault, &str, u8); 13] = [
+const FAULTS: [(ToolFault, &str, u8); 12] = [
     (ToolFault::Deadlock, "csdf: graph: deadlock", 1),
     (ToolFault::TooTight, "csdf: graph: too tight", 1),
     (ToolFault::Line(99_999), "csdf: script: line 99999", 1),
     (ToolFault::TooLong, "csdf: input too long", 1),
-    (ToolFault::Mixed, "csdf: run: mixed", 3),
     (ToolFault::Worker, "csdf: run: worker", 3),
     (ToolFault::Memory, "csdf: memory", 3),
     (

@@ -12,7 +12,9 @@ use Rattle.csdf_analysis.specs.declared.length.Length.TheVariants as lengths
 use Rattle.csdf_bytes.specs.declared.sample_format.SampleFormat.TheVariants as samples
 use Rattle.csdf_stream.specs.declared.options.TokenFormat.{TokenFormat}
 use Rattle.csdf_stream.specs.declared.options.TokenFormat.TheVariants as formats
-use Rattle.csdf_words.specs.CommandLine.{program, asked_by, asked_with, room_in, token_formats, words_ask, Asked, FolderNames, Input, Moves, Ask, Explain, Run, Flow}
+use Rattle.csdf_words.specs.declared.workers.Workers.{Workers}
+use Rattle.csdf_words.specs.declared.workers.Workers.TheVariants as workers
+use Rattle.csdf_words.specs.CommandLine.{program, asked_by, asked_with, room_in, token_formats, words_ask, workers_in, Asked, FolderNames, Input, Moves, Ask, Explain, Run, Flow}
 
 abbrev on : Text → List Text
 on command = command ∷ codes "a.toml" ∷ []
@@ -143,12 +145,12 @@ unknown_command_is_refused = refl
 abbrev run_on : List Text → List Text
 run_on options = codes "run" ∷ codes "a.toml" ∷ codes "d" ∷ options
 
-abbrev run_told : Form → Option Text → Bool → Length → Text → ℕ → Option ℕ → Room → Option Asked
-run_told form journal progress how_long sinks workers firings room = Some (Run (record {
+abbrev run_by : Workers → Form → Option Text → Bool → Length → Text → Option ℕ → Room → Option Asked
+run_by these form journal progress how_long sinks firings room = Some (Run (record {
   graph = codes "a.toml";
   folder = codes "d";
   sink_folder = sinks;
-  workers = workers;
+  workers = these;
   how_long = how_long;
   firings = firings;
   room = room;
@@ -156,6 +158,10 @@ run_told form journal progress how_long sinks workers firings room = Some (Run (
   progress = progress;
   form = form;
 }))
+
+-- where their number is given
+abbrev run_told : Form → Option Text → Bool → Length → Text → ℕ → Option ℕ → Room → Option Asked
+run_told form journal progress how_long sinks many firings room = run_by (workers.Count many) form journal progress how_long sinks firings room
 
 -- it is told by lines where no JSON is asked for
 abbrev run_with : Option Text → Bool → Length → Text → ℕ → Option ℕ → Room → Option Asked
@@ -166,11 +172,11 @@ abbrev run_for : Length → Text → ℕ → Option ℕ → Room → Option Aske
 run_for = run_with None false
 
 abbrev run_into : Text → ℕ → ℕ → Option ℕ → Room → Option Asked
-run_into sinks workers periods firings room = run_for (lengths.Periods periods) sinks workers firings room
+run_into sinks many periods firings room = run_for (lengths.Periods periods) sinks many firings room
 
 -- the sinks' files go to the folder of the sources' where no other is named, and there are the least capacities where no room is
 abbrev run_of : ℕ → ℕ → Option ℕ → Option Asked
-run_of workers periods firings = run_into (codes "d") workers periods firings Least
+run_of many periods firings = run_into (codes "d") many periods firings Least
 
 run_asks : words_ask (run_on []) ≡ run_of 1 1 None
 unfolding clap_on_literals asked_with
@@ -220,7 +226,23 @@ no_room_asks_nothing : words_ask (run_on (codes "--room" ∷ codes "0" ∷ [])) 
 unfolding clap_on_literals asked_with
 no_room_asks_nothing = refl
 
+auto_workers_ask : words_ask (run_on (codes "--workers" ∷ codes "auto" ∷ [])) ≡ run_by workers.Auto forms.Text None false (lengths.Periods 1) (codes "d") None Least
+unfolding clap_on_literals asked_with
+auto_workers_ask = refl
+
+no_workers_ask_nothing : words_ask (run_on (codes "--workers" ∷ codes "9" ∷ [])) ≡ None
+unfolding clap_on_literals asked_with
+no_workers_ask_nothing = refl
+
 -- the ends of the range and what is past them
+some_workers : map workers_in (codes "1" ∷ codes "8" ∷ codes "+3" ∷ codes "auto" ∷ []) ≡ Some (workers.Count 1) ∷ Some (workers.Count 8) ∷ Some (workers.Count 3) ∷ Some workers.Auto ∷ []
+unfolding clap_on_literals
+some_workers = refl
+
+no_workers : map workers_in ([] ∷ codes "0" ∷ codes "9" ∷ codes "-1" ∷ codes "x" ∷ codes "Auto" ∷ []) ≡ None ∷ None ∷ None ∷ None ∷ None ∷ None ∷ []
+unfolding clap_on_literals
+no_workers = refl
+
 rooms : map room_in (codes "1" ∷ codes "65535" ∷ codes "+7" ∷ codes "auto" ∷ []) ≡ Some (Periods 1) ∷ Some (Periods 65535) ∷ Some (Periods 7) ∷ Some Auto ∷ []
 unfolding clap_on_literals
 rooms = refl
@@ -234,14 +256,14 @@ abbrev is_taken : Text → Text → Bool
 is_taken option number = takes program (run_on (option ∷ number ∷ []))
 
 ends_are_taken :
-    map (is_taken (codes "--workers")) (codes "1" ∷ codes "8" ∷ []) ++ map (is_taken (codes "--periods")) (codes "1" ∷ codes "1000" ∷ [])
-    ++ map (is_taken (codes "--firings")) (codes "0" ∷ codes "1048576000" ∷ []) ≡ true ∷ true ∷ true ∷ true ∷ true ∷ true ∷ []
+    map (is_taken (codes "--periods")) (codes "1" ∷ codes "1000" ∷ []) ++ map (is_taken (codes "--firings")) (codes "0" ∷ codes "1048576000" ∷ [])
+    ≡ true ∷ true ∷ true ∷ true ∷ []
 unfolding clap_on_literals
 ends_are_taken = refl
 
 past_the_ends_is_refused :
-    map (is_taken (codes "--workers")) (codes "0" ∷ codes "9" ∷ codes "x" ∷ []) ++ map (is_taken (codes "--periods")) (codes "0" ∷ codes "1001" ∷ [])
-    ++ map (is_taken (codes "--firings")) (codes "-1" ∷ codes "1048576001" ∷ []) ≡ false ∷ false ∷ false ∷ false ∷ false ∷ false ∷ false ∷ []
+    map (is_taken (codes "--periods")) (codes "0" ∷ codes "1001" ∷ []) ++ map (is_taken (codes "--firings")) (codes "-1" ∷ codes "1048576001" ∷ [])
+    ≡ false ∷ false ∷ false ∷ false ∷ []
 unfolding clap_on_literals
 past_the_ends_is_refused = refl
 
@@ -272,11 +294,11 @@ abbrev stream_on : List Text → List Text
 stream_on options = codes "stream" ∷ codes "a.toml" ∷ options
 
 abbrev stream_told : Form → Bool → TokenFormat → Option ℕ → Option ℕ → ℕ → Room → Option FolderNames → Option Asked
-stream_told form progress format periods segment workers room folders = Some (Flow (record {
+stream_told form progress format periods segment many room folders = Some (Flow (record {
   graph = codes "a.toml";
   folders = folders;
   room = room;
-  workers = workers;
+  workers = workers.Count many;
   segment = segment;
   periods = periods;
   format = format;
@@ -340,14 +362,14 @@ abbrev is_streamed : Text → Text → Bool
 is_streamed option number = takes program (stream_on (option ∷ number ∷ []))
 
 ends_of_streams_are_taken :
-    map (is_streamed (codes "--workers")) (codes "1" ∷ codes "8" ∷ []) ++ map (is_streamed (codes "--segment")) (codes "1" ∷ codes "4294967295" ∷ [])
-    ++ map (is_streamed (codes "--periods")) (codes "1" ∷ codes "4294967295" ∷ []) ≡ true ∷ true ∷ true ∷ true ∷ true ∷ true ∷ []
+    map (is_streamed (codes "--segment")) (codes "1" ∷ codes "4294967295" ∷ []) ++ map (is_streamed (codes "--periods")) (codes "1" ∷ codes "4294967295" ∷ [])
+    ≡ true ∷ true ∷ true ∷ true ∷ []
 unfolding clap_on_literals
 ends_of_streams_are_taken = refl
 
 past_the_ends_of_streams_is_refused :
-    map (is_streamed (codes "--workers")) (codes "0" ∷ codes "9" ∷ []) ++ map (is_streamed (codes "--segment")) (codes "0" ∷ codes "4294967296" ∷ [])
-    ++ map (is_streamed (codes "--periods")) (codes "0" ∷ codes "4294967296" ∷ []) ≡ false ∷ false ∷ false ∷ false ∷ false ∷ false ∷ []
+    map (is_streamed (codes "--segment")) (codes "0" ∷ codes "4294967296" ∷ []) ++ map (is_streamed (codes "--periods")) (codes "0" ∷ codes "4294967296" ∷ [])
+    ≡ false ∷ false ∷ false ∷ false ∷ []
 unfolding clap_on_literals
 past_the_ends_of_streams_is_refused = refl
 

@@ -19,7 +19,8 @@ use Rattle.csdf_bytes.specs.declared.sample_format.SampleFormat.TheVariants as s
 use Rattle.csdf_stream.specs.declared.options.TokenFormat.{TokenFormat}
 use Rattle.csdf_stream.specs.declared.options.TokenFormat.TheVariants as formats
 use Rattle.csdf_stream.specs.Formats.{format_name}
-use Rattle.csdf_words.specs.CommandLine.{asked_of, asked, format_in, number_in, number_of, room_in, room_of, token_formats}
+use Rattle.csdf_words.specs.declared.workers.Workers.TheVariants as workers
+use Rattle.csdf_words.specs.CommandLine.{asked_of, asked, format_in, number_in, number_of, room_in, room_of, token_formats, workers_in, workers_of}
 
 -- a text, or another where there is none
 pub text_or : (o : Option (Bor (List ℕ))) (d r : Bor (List ℕ)) → r ≡ unwrap_or o d → r.now ≡ unwrap_or (option_map (λ s. s.now) o) d.now
@@ -49,6 +50,18 @@ pub room_absent : (absent : Room) (rows : List Row) (o : Option (Bor (List ℕ))
     → option_map (λ s. s.now) o ≡ first_of (codes "room") rows → Some absent ≡ room_of absent rows
 room_absent absent rows o is found =
     ap (λ q. option_map_or room_in q (Some absent)) (sym (ap (option_map (λ (s : Bor (List ℕ)). s.now)) is) ∙ found)
+
+-- the workers of the option that was given
+pub workers_given : (rows : List Row) (o : Option (Bor (List ℕ))) (s : Bor (List ℕ)) → o ≡ Some s
+    → option_map (λ s. s.now) o ≡ first_of (codes "workers") rows → workers_in s.now ≡ workers_of rows
+workers_given rows o s is found =
+    ap (λ q. option_map_or workers_in q (Some (workers.Count 1))) (sym (ap (option_map (λ s. s.now)) is) ∙ found)
+
+-- and of one that was not
+pub workers_absent : (rows : List Row) (o : Option (Bor (List ℕ))) → o ≡ None
+    → option_map (λ s. s.now) o ≡ first_of (codes "workers") rows → Some (workers.Count 1) ≡ workers_of rows
+workers_absent rows o is found =
+    ap (λ q. option_map_or workers_in q (Some (workers.Count 1))) (sym (ap (option_map (λ (s : Bor (List ℕ)). s.now)) is) ∙ found)
 
 -- the text is a number of 32 bits
 abbrev pub IsNumber : Text → Type 0

@@ -27,6 +27,8 @@ use Rattle.csdf_stream.specs.Formats.{format_name}
 use Rattle.csdf_words.specs.declared.order.Folders.{Folders}
 use Rattle.csdf_words.specs.declared.order.RunWords.{RunWords}
 use Rattle.csdf_words.specs.declared.order.StreamWords.{StreamWords}
+use Rattle.csdf_words.specs.declared.workers.Workers.{Workers}
+use Rattle.csdf_words.specs.declared.workers.Workers.TheVariants as workers
 use Rattle.csdf_answers.specs.declared.question.Form.{Form}
 use Rattle.csdf_answers.specs.declared.question.Form.TheVariants as forms
 use Rattle.csdf_answers.specs.declared.question.Question.{Question}
@@ -50,11 +52,14 @@ text_option name = record (new_rule name) { long = Some name; value_names = 1 }
 abbrev pub flag : Text → Rule
 flag name = record (new_rule name) { long = Some name; action = Some SetTrue }
 
--- the command that runs a graph asks for a folder too, and takes three numbers, two flags, another folder, a file and room
+-- the command that runs a graph asks for a folder too, and takes workers, two numbers, two flags, another folder, a file and room
 abbrev pub on_files : App
 on_files = with_rule (on_graph (codes "run")) (record (new_rule (codes "DIR")) { required = true })
 
--- the option for room, and that for JSON
+-- the option for workers, that for room, and that for JSON
+abbrev pub with_workers : App → App
+with_workers a = with_rule a (text_option (codes "workers"))
+
 abbrev pub with_room : App → App
 with_room a = with_rule a (text_option (codes "room"))
 
@@ -63,7 +68,7 @@ with_json a = with_rule a (flag (codes "json"))
 
 abbrev pub run_command : App
 run_command =
-    let two = with_rule (with_rule on_files (number_option (codes "workers") 1 8)) (number_option (codes "periods") 1 MAX_PERIODS) in
+    let two = with_rule (with_workers on_files) (number_option (codes "periods") 1 MAX_PERIODS) in
     let four = with_rule (with_rule two (flag (codes "until-dry"))) (number_option (codes "firings") 0 MAX_FIRINGS) in
     let six = with_rule (with_rule four (text_option (codes "out"))) (text_option (codes "journal")) in
     with_json (with_room (with_rule six (flag (codes "progress"))))
@@ -78,13 +83,13 @@ token_formats =
 abbrev pub format_option : Bor (List (Bor Text)) → Rule
 format_option names = record (text_option (codes "format")) { parser = Some (Names names) }
 
--- the command that runs a graph over a stream asks for a folder too, which may be left out, and takes three numbers, room, another folder, a format and two flags
+-- the command that runs a graph over a stream asks for a folder too, which may be left out, and takes workers, room, two numbers, another folder, a format and two flags
 abbrev pub on_streams : App
 on_streams = with_rule (on_graph (codes "stream")) (new_rule (codes "DIR"))
 
 abbrev pub stream_taking : Bor (List (Bor Text)) → App
 stream_taking names =
-    let two = with_room (with_rule on_streams (number_option (codes "workers") 1 8)) in
+    let two = with_room (with_workers on_streams) in
     let four = with_rule (with_rule two (number_option (codes "segment") 1 4294967295)) (number_option (codes "periods") 1 4294967295) in
     let six = with_rule (with_rule four (text_option (codes "out"))) (format_option names) in
     with_json (with_rule six (flag (codes "progress")))
@@ -151,7 +156,7 @@ pub record Order : Type 0 where
   pub graph : Text
   pub folder : Text
   pub sink_folder : Text
-  pub workers : ℕ
+  pub workers : Workers
   pub how_long : Length
   pub firings : Option ℕ
   pub room : Room
@@ -164,7 +169,7 @@ order_view o = record {
   graph = o.graph.now;
   folder = o.folder.now;
   sink_folder = o.sink_folder.now;
-  workers = o.options.workers;
+  workers = o.workers;
   how_long = o.options.how_long;
   firings = o.options.firings;
   room = o.options.room;
@@ -186,7 +191,7 @@ pub record StreamOrder : Type 0 where
   pub graph : Text
   pub folders : Option FolderNames
   pub room : Room
-  pub workers : ℕ
+  pub workers : Workers
   pub segment : Option ℕ
   pub periods : Option ℕ
   pub format : TokenFormat
@@ -198,7 +203,7 @@ stream_view s = record {
   graph = s.graph.now;
   folders = option_map folders_view s.folders;
   room = s.room;
-  workers = s.options.workers;
+  workers = s.workers;
   segment = s.options.segment;
   periods = s.options.periods;
   format = s.options.format;
@@ -259,6 +264,14 @@ room_of absent rows = option_map_or room_in (first_of (codes "room") rows) (Some
 abbrev pub usual_room : Text → Room
 usual_room name = if bytes_eq name (codes "stream") then Auto else Least
 
+-- the workers that a text names: `auto`, or a number of them in its range
+abbrev pub workers_in : Text → Option Workers
+workers_in text = if bytes_eq text (codes "auto") then Some workers.Auto else option_map workers.Count (number_in 1 8 text)
+
+-- the workers that are asked for, one where none are; nothing where the text names none
+abbrev pub workers_of : List Row → Option Workers
+workers_of rows = option_map_or workers_in (first_of (codes "workers") rows) (Some (workers.Count 1))
+
 -- whether an option without a value is given
 abbrev pub is_given : Text → List Row → Bool
 is_given name rows = bytes_eq (word_of name rows) (codes "true")
@@ -277,13 +290,13 @@ how_long_by false (Some n) = Some (lengths.Periods n)
 abbrev pub how_long_of : List Row → Option Length
 how_long_of rows = how_long_by (is_given (codes "until-dry") rows) (number_of 1 MAX_PERIODS (codes "periods") rows)
 
--- the run that the words after `run` ask for, so long and with this room; the sinks' files go to the folder of the sources' where no other is named
-abbrev pub order_of : List Row → Room → Length → Order
-order_of rows room how_long = record {
+-- the run that the words after `run` ask for, so long, with this room and by these workers; the sinks' files go to the folder of the sources' where no other is named
+abbrev pub order_of : List Row → Room → Workers → Length → Order
+order_of rows room these how_long = record {
   graph = word_of (codes "GRAPH") rows;
   folder = word_of (codes "DIR") rows;
   sink_folder = word_or (codes "out") rows (word_of (codes "DIR") rows);
-  workers = unwrap_or (number_of 1 8 (codes "workers") rows) 1;
+  workers = these;
   how_long = how_long;
   firings = number_of 0 MAX_FIRINGS (codes "firings") rows;
   room = room;
@@ -291,6 +304,10 @@ order_of rows room how_long = record {
   progress = is_given (codes "progress") rows;
   form = form_in rows;
 }
+
+-- the same, with the length that they name; nothing where they name two
+abbrev pub run_asked : List Row → Room → Workers → Option Asked
+run_asked rows room these = option_map (λ how_long. Run (order_of rows room these how_long)) (how_long_of rows)
 
 -- the format of a name
 abbrev pub format_in : Text → Option TokenFormat
@@ -309,13 +326,13 @@ folders_by None (Some other) = None
 abbrev pub folders_of : List Row → Option (Option FolderNames)
 folders_of rows = folders_by (first_of (codes "DIR") rows) (first_of (codes "out") rows)
 
--- the stream that the words after `stream` ask for, with this room and these folders
-abbrev pub stream_with : List Row → Room → Option FolderNames → StreamOrder
-stream_with rows room folders = record {
+-- the stream that the words after `stream` ask for, with this room, by these workers and with these folders
+abbrev pub stream_with : List Row → Room → Workers → Option FolderNames → StreamOrder
+stream_with rows room these folders = record {
   graph = word_of (codes "GRAPH") rows;
   folders = folders;
   room = room;
-  workers = unwrap_or (number_of 1 8 (codes "workers") rows) 1;
+  workers = these;
   segment = number_of 1 4294967295 (codes "segment") rows;
   periods = number_of 1 4294967295 (codes "periods") rows;
   format = format_of rows;
@@ -323,9 +340,9 @@ stream_with rows room folders = record {
   form = form_in rows;
 }
 
--- the stream that the words after `stream` ask for, with this room; nothing where `--out` is given and DIR is not
-abbrev pub stream_order_of : List Row → Room → Option StreamOrder
-stream_order_of rows room = option_map (stream_with rows room) (folders_of rows)
+-- the stream that the words after `stream` ask for, with this room and by these workers; nothing where `--out` is given and DIR is not
+abbrev pub stream_asked : List Row → Room → Workers → Option Asked
+stream_asked rows room these = option_map (λ folders. Flow (stream_with rows room these folders)) (folders_of rows)
 
 -- what a command but `run`, `stream` and `explain` asks for in this form with this room and the file that it names; no other command has a file alone, and a drawing is text
 unfoldable pub asked_by : Text → Form → Room → Text → Asked
@@ -338,11 +355,11 @@ asked_by name form room path =
     else if bytes_eq name (codes "moves") then Moves path
     else Input
 
--- what a command asks for with the words after it, with this room; nothing where they name two lengths, or `--out` alone
+-- what a command asks for with the words after it, with this room; nothing where they name no workers, two lengths, or `--out` alone
 unfoldable pub asked_with : Text → List Row → Room → Option Asked
 asked_with name rows room =
-    if bytes_eq name (codes "run") then option_map (λ how_long. Run (order_of rows room how_long)) (how_long_of rows)
-    else if bytes_eq name (codes "stream") then option_map Flow (stream_order_of rows room)
+    if bytes_eq name (codes "run") then option_and_then (run_asked rows room) (workers_of rows)
+    else if bytes_eq name (codes "stream") then option_and_then (stream_asked rows room) (workers_of rows)
     else if bytes_eq name (codes "explain") then Some (Explain (word_of (codes "GRAPH") rows) (first_of (codes "DIR") rows))
     else Some (asked_by name (form_in rows) room (word_of (codes "GRAPH") rows))
 
@@ -350,10 +367,11 @@ asked_with name rows room =
 abbrev pub asked_of : Text → List Row → Option Asked
 asked_of name rows = option_and_then (asked_with name rows) (room_of (usual_room name) rows)
 
--- why words after a command ask for nothing: the text of their room is none, or they name two lengths, or `--out` and no DIR
+-- why words after a command ask for nothing: the text of their room or of their workers is none, or they name two lengths, or `--out` and no DIR
 abbrev pub AskForNothing : List Row → Unread → Type 0
 AskForNothing rows (unread.Parse error) = ⊥
 AskForNothing rows (unread.Room text) = (room_in text.now ≡ None) × (first_of (codes "room") rows ≡ Some text.now)
+AskForNothing rows (unread.Workers text) = (workers_in text.now ≡ None) × (first_of (codes "workers") rows ≡ Some text.now)
 AskForNothing rows unread.Lengths = how_long_of rows ≡ None
 AskForNothing rows unread.OutAlone = folders_of rows ≡ None
 
@@ -382,5 +400,6 @@ pub record AsksNothing (words : List Text) (reason : Unread) : Type 0 where
 abbrev pub IsUnread : List Text → Unread → Type 0
 IsUnread words (unread.Parse error) = HasKind (fault_of program words) error × (takes program words ≡ true → kind_of error ≡ OutOfMemory)
 IsUnread words (unread.Room text) = AsksNothing words (unread.Room text)
+IsUnread words (unread.Workers text) = AsksNothing words (unread.Workers text)
 IsUnread words unread.Lengths = AsksNothing words unread.Lengths
 IsUnread words unread.OutAlone = AsksNothing words unread.OutAlone

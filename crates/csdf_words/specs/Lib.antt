@@ -3,3 +3,4 @@ pub mod Endings
 pub mod HowLong
 pub mod Rooms
 pub mod Rows
+pub mod Workers

@@ -1,6 +1,6 @@
 //! The command line.
 
-ghost use Rattle.std.specs.Prelude.{◌≡◌, ◌≤◌, [], true, false, codes, map, string_bytes, Some, None, Ok, IfErr, IfOk, IfSome, is_some, option_map};
+ghost use Rattle.std.specs.Prelude.{◌≡◌, ◌≤◌, [], true, false, codes, map, string_bytes, Some, None, Ok, IfErr, IfOk, IfSome, is_some, option_and_then, option_map};
 ghost use Rattle.std.specs.Result.{result_ok};
 ghost use Rattle.clap.specs.Words.{app_of, fault_of, first_of, found_of, kind_of, rows_of, rule_of, subcommand_of, subcommand_rows_of, takes, with_rule, FailsBy};
 ghost use Rattle.clap.specs.declared.builder.command.Command.TheViews.{out-Command as fields_of};
@@ -11,8 +11,10 @@ ghost use Rattle.csdf_analysis.specs.Room.{HasSomePeriod};
 ghost use Rattle.csdf_journal.specs.View.{is_kept};
 ghost use Rattle.csdf_words.specs.CommandLine.{Ask, Run, Flow, AskForNothing, asked_view, asked_by, asked_of, asked_with, asked, words_ask, IsUnread};
 ghost use Rattle.csdf_words.specs.CommandLine.{form_in, form_of, how_long_of, is_given, number_in, number_of, order_of, order_view, room_in, room_of, word_of, word_or};
-ghost use Rattle.csdf_words.specs.CommandLine.{folders_of, folders_view, format_in, format_of, stream_order_of, stream_view, stream_with, usual_room};
+ghost use Rattle.csdf_words.specs.CommandLine.{folders_of, folders_view, format_in, format_of, run_asked, stream_asked, stream_view, stream_with, usual_room};
+ghost use Rattle.csdf_words.specs.CommandLine.{workers_in, workers_of};
 ghost use Rattle.csdf_words.specs.HowLong.{MayBeAsked};
+ghost use Rattle.csdf_words.specs.Workers.{AreFew};
 
 use crate::help;
 use crate::order::{Folders, Inquiry, RunWords, StreamWords};
@@ -20,6 +22,7 @@ use crate::rows::{
     ArgumentRow, COMMANDS, CommandRow, FIRINGS, FOLDER, FORMAT, GRAPH, Given, JOURNAL, JSON, OUT,
     PERIODS, PROGRESS, ROOM, SEGMENT, UNTIL_DRY, WORKERS,
 };
+use crate::workers::Workers;
 use clap::builder::ValueParser;
 use clap::error::ErrorKind;
 use clap::{Arg, ArgAction, ArgMatches, Command, Error};
@@ -56,6 +59,8 @@ pub enum Unread<'a> {
     Parse(Error),
     /// The room that they ask for is none.
     Room(&'a str),
+    /// The workers that they ask for are none.
+    Workers(&'a str),
     /// They say twice how long a run goes on.
     Lengths,
     /// They name a folder for the sinks' files of a stream that has none for those of its sources.
@@ -325,6 +330,37 @@ fn room_of<'a>(arguments: &ArgMatches<'a>, absent: Room) -> Result<Room, &'a str
     }
 }
 
+/// The workers that a text names.
+fn workers_in(text: &str) -> Option<Workers>
+    ensures value { result ≡ workers_in text.now }
+    ensures few { IfSome result AreFew }
+{
+    if text == "auto" {
+        return Some(Workers::Auto);
+    }
+    match number_in(text, 1, 8) {
+        Some(count) => Some(Workers::Count(count)),
+        None => None,
+    }
+}
+
+/// The workers that are asked for, one where none are.
+///
+/// The error says why that is nothing: a text names no workers.
+fn workers_of<'a>(arguments: &ArgMatches<'a>) -> Result<Workers, Unread<'a>>
+    ensures value { result_ok result ≡ workers_of (rows_of (found_of arguments.now)) }
+    ensures why { IfErr result (AskForNothing (rows_of (found_of arguments.now))) }
+    ensures few { IfOk result AreFew }
+{
+    match arguments.get_str(WORKERS) {
+        Some(text) => match workers_in(text) {
+            Some(workers) => Ok(workers),
+            None => Err(Unread::Workers(text)),
+        },
+        None => Ok(Workers::Count(1)),
+    }
+}
+
 /// The form that is asked for.
 fn form_in(arguments: &ArgMatches<'_>) -> Form
     ensures { result ≡ form_in (rows_of (found_of arguments.now)) }
@@ -370,18 +406,24 @@ fn keeping_of(journal: Option<&str>) -> Keeping
     }
 }
 
-/// The run that the words after `run` ask for, so long and with this room.
+/// The run that the words after `run` ask for, so long, with this room and by these workers.
 ///
 /// The parser refuses a number out of its range; where one is read all the same, it counts as absent.
-fn order_of<'a>(arguments: &ArgMatches<'a>, room: Room, how_long: Length) -> RunWords<'a>
+fn order_of<'a>(
+    arguments: &ArgMatches<'a>,
+    room: Room,
+    workers: Workers,
+    how_long: Length,
+) -> RunWords<'a>
     requires some_room { HasSomePeriod room }
+    requires few_workers { AreFew workers }
     requires may { MayBeAsked how_long }
-    ensures { order_view result ≡ order_of (rows_of (found_of arguments.now)) room how_long }
+    ensures { order_view result ≡ order_of (rows_of (found_of arguments.now)) room workers how_long }
 {
     let folder = word_of(arguments, FOLDER);
     let journal = given_of(arguments, JOURNAL);
     let options = RunOptions {
-        workers: number_of(arguments, WORKERS, 1, 8).unwrap_or(1),
+        workers: workers.most(),
         how_long,
         firings: number_of(arguments, FIRINGS, 0, MAX_FIRINGS),
         room,
@@ -391,6 +433,7 @@ fn order_of<'a>(arguments: &ArgMatches<'a>, room: Room, how_long: Length) -> Run
         graph: word_of(arguments, GRAPH),
         folder,
         sink_folder: word_or(arguments, OUT, folder),
+        workers,
         options,
         journal,
         progress: is_given(arguments, PROGRESS),
@@ -400,15 +443,16 @@ fn order_of<'a>(arguments: &ArgMatches<'a>, room: Room, how_long: Length) -> Run
 
 /// The run that the words after `run` ask for, with this room.
 ///
-/// The error says why that is nothing: they name two lengths.
+/// The error says why that is nothing: they name no workers, or two lengths.
 fn run_of<'a>(arguments: &ArgMatches<'a>, room: Room) -> Result<Request<'a>, Unread<'a>>
     requires { HasSomePeriod room }
     ensures asked { option_map asked_view (result_ok result)
-        ≡ option_map (λ how_long. Run (order_of (rows_of (found_of arguments.now)) room how_long)) (how_long_of (rows_of (found_of arguments.now))) }
+        ≡ option_and_then (run_asked (rows_of (found_of arguments.now)) room) (workers_of (rows_of (found_of arguments.now))) }
     ensures why { IfErr result (AskForNothing (rows_of (found_of arguments.now))) }
 {
+    let workers = workers_of(arguments)?;
     match how_long_of(arguments) {
-        Some(how_long) => Ok(Request::Run(order_of(arguments, room, how_long))),
+        Some(how_long) => Ok(Request::Run(order_of(arguments, room, workers, how_long))),
         None => Err(Unread::Lengths),
     }
 }
@@ -449,20 +493,22 @@ fn folders_of<'a>(arguments: &ArgMatches<'a>) -> Result<Option<Folders<'a>>, Unr
     }
 }
 
-/// The stream that the words after `stream` ask for, with this room and these folders.
+/// The stream that the words after `stream` ask for, with this room, by these workers and with these folders.
 ///
 /// The parser refuses a number out of its range; where one is read all the same, it counts as absent.
 fn stream_with<'a>(
     arguments: &ArgMatches<'a>,
     room: Room,
+    workers: Workers,
     folders: Option<Folders<'a>>,
 ) -> StreamWords<'a>
-    requires { HasSomePeriod room }
-    ensures { stream_view result ≡ stream_with (rows_of (found_of arguments.now)) room (option_map folders_view folders.entry) }
+    requires some_room { HasSomePeriod room }
+    requires few_workers { AreFew workers }
+    ensures { stream_view result ≡ stream_with (rows_of (found_of arguments.now)) room workers (option_map folders_view folders.entry) }
 {
     let progress = is_given(arguments, PROGRESS);
     let options = StreamOptions {
-        workers: number_of(arguments, WORKERS, 1, 8).unwrap_or(1),
+        workers: workers.most(),
         segment: number_of(arguments, SEGMENT, 1, u32::MAX),
         periods: number_of(arguments, PERIODS, 1, u32::MAX),
         format: format_of(arguments),
@@ -471,6 +517,7 @@ fn stream_with<'a>(
         graph: word_of(arguments, GRAPH),
         folders,
         room,
+        workers,
         options,
         progress,
         form: form_in(arguments),
@@ -479,14 +526,16 @@ fn stream_with<'a>(
 
 /// The stream that the words after `stream` ask for, with this room.
 ///
-/// The error says why that is nothing: `--out` is given, and DIR is not.
+/// The error says why that is nothing: they name no workers, or `--out` is given, and DIR is not.
 fn stream_of<'a>(arguments: &ArgMatches<'a>, room: Room) -> Result<Request<'a>, Unread<'a>>
     requires { HasSomePeriod room }
-    ensures asked { option_map asked_view (result_ok result) ≡ option_map Flow (stream_order_of (rows_of (found_of arguments.now)) room) }
+    ensures asked { option_map asked_view (result_ok result)
+        ≡ option_and_then (stream_asked (rows_of (found_of arguments.now)) room) (workers_of (rows_of (found_of arguments.now))) }
     ensures why { IfErr result (AskForNothing (rows_of (found_of arguments.now))) }
 {
+    let workers = workers_of(arguments)?;
     let folders = folders_of(arguments)?;
-    Ok(Request::Stream(stream_with(arguments, room, folders)))
+    Ok(Request::Stream(stream_with(arguments, room, workers, folders)))
 }
 
 /// What a command asks for with the words after it, with this room.

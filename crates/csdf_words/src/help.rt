@@ -67,7 +67,9 @@ standard error how many firings were made, in a line that is written over.
 
 Memory holds the tokens that are read and those that the sinks take. A firing leaves nothing else
 behind, unless its moves are asked for. More workers pay where single firings are long, of 16,384
-products or more. Lighter ones are made by one worker, however many there are.
+products or more, or where the channels hold so many firings of a filter that these take 98,304.
+Lighter ones are made by one worker, however many there are. auto: as many as there are processors,
+and at most 8, where some actor is so, and else one. --progress tells how many these are.
 
 With --json the report is {\"ending\":\"complete\",\"channels\":[..]} on one line, with an object for each
 channel, as {\"channel\":\"x\",\"written\":4,\"taken\":4,\"held\":0,\"peak\":2,\"capacity\":2,\"open\":false},
@@ -102,7 +104,7 @@ gives before the tokens of the next one are waited for. What they get in all is 
 The stream ends where a source has no more tokens for its next firing, or after the periods of
 --periods, which a graph without sources needs. --room is as for csdf run, and auto where it is
 absent. --progress tells on standard error how many firings were made, in a line that is written
-over.
+over. --workers is as for csdf run.
 
 A fault ends the stream too: a line that is no token, a sample that is cut off, a file that cannot be
 read or written. What the segments before it gave is written by then. The line or the sample is
@@ -216,13 +218,14 @@ file it prints the key, what was found there and what is wanted. Of an unbalance
 what the channel asks of its actors, and what those before it ask. Where a run stands still it
 prints which actors wait for one another, each for the tokens of a channel or for room in it. Where
 the file gives fewer cells than the capacities add up to, it prints for how many the graph is
-accepted.
+accepted. Of a graph file that cannot be read it prints whether it is missing, a folder, or may not be
+read.
 
 With DIR it looks at DIR/NAME.in too, for each source NAME of the graph. It prints a line for each
 of these files that is missing, cannot be read, is too long or has a line that is no token.
 
 Exit status: 0 explained, whatever is wrong with the files, 1 the graph file is too long, 2 these
-words were refused, 3 the graph file, standard output or memory failed.
+words were refused, 3 standard input, standard output or memory failed.
 
 Example: csdf explain graph.toml tokens
 prints 'accepted: ..' alone where the graph is accepted and nothing is wrong with a token file.";

@@ -5,6 +5,8 @@ mod command;
 mod help;
 mod order;
 mod rows;
+mod workers;
 
 pub use command::{Request, Unread, form_of, request_of};
 pub use order::{Folders, Inquiry, RunWords, StreamWords};
+pub use workers::Workers;

@@ -5,7 +5,9 @@ ghost use Rattle.csdf_analysis.specs.Room.{HasSomePeriod};
 ghost use Rattle.csdf_journal.specs.View.{is_kept};
 ghost use Rattle.csdf_words.specs.Rooms.{HasSomePeriod-prop};
 ghost use Rattle.csdf_words.specs.HowLong.{MayBeAsked, MayBeAsked-prop};
+ghost use Rattle.csdf_words.specs.Workers.{AreFew, AreFew-prop, most_workers};
 
+use crate::workers::Workers;
 use csdf_analysis::Room;
 use csdf_answers::{Form, Question};
 use csdf_run::RunOptions;
@@ -34,7 +36,9 @@ pub struct RunWords<'a> {
     pub folder: &'a str,
     /// The folder that the sinks' files are written to.
     pub sink_folder: &'a str,
-    /// How the run is made.
+    /// How many workers make it.
+    pub workers: Workers,
+    /// How the run is made, by as many workers as there may be.
     pub options: RunOptions,
     /// The file that the run's moves are written to, where they are asked for.
     pub journal: Option<&'a str>,
@@ -42,8 +46,8 @@ pub struct RunWords<'a> {
     pub progress: bool,
     /// The form of the report, and of a fault.
     pub form: Form,
-    ghost some_worker: { 1 ≤ options.workers },
-    ghost few_workers: { options.workers ≤ 8 },
+    ghost few_workers: { AreFew workers } by { AreFew-prop workers },
+    ghost most_workers: { options.workers ≡ most_workers workers },
     ghost may_be_asked: { MayBeAsked options.how_long } by { MayBeAsked-prop options.how_long },
     ghost some_room: { HasSomePeriod options.room } by { HasSomePeriod-prop options.room },
     ghost told: { is_kept options.keeping ≡ is_some journal },
@@ -69,11 +73,15 @@ pub struct StreamWords<'a> {
     pub folders: Option<Folders<'a>>,
     /// The room of the channels that have no capacity in the file.
     pub room: Room,
-    /// How the stream is made.
+    /// How many workers make it.
+    pub workers: Workers,
+    /// How the stream is made, by as many workers as there may be.
     pub options: StreamOptions,
     /// Whether standard error is to tell how far the stream has come.
     pub progress: bool,
     /// The form of the report, and of a fault.
     pub form: Form,
+    ghost few_workers: { AreFew workers } by { AreFew-prop workers },
+    ghost most_workers: { options.workers ≡ most_workers workers },
     ghost some_room: { HasSomePeriod room } by { HasSomePeriod-prop room },
 }

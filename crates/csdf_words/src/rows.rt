@@ -75,8 +75,8 @@ const GRAPH_ROW: ArgumentRow<'static> = ArgumentRow {
 
 const WORKERS_ROW: ArgumentRow<'static> = ArgumentRow {
     name: WORKERS,
-    given: Given::Number("N", (1, 8)),
-    help: "How many workers fire: 1 to 8, 1 where absent",
+    given: Given::Text("N"),
+    help: "How many workers fire: 1 to 8, or auto; 1 where absent",
 };
 
 const PROGRESS_ROW: ArgumentRow<'static> = ArgumentRow {

@@ -15,7 +15,7 @@ use csdf_model::Graph;
 use std::alloc::{AllocError, Global};
 
 /// The capacities that bound a run.
-fn bounds_of(
+pub(crate) fn bounds_of(
     alloc: Global,
     graph: &Graph,
     vector: &Vector,

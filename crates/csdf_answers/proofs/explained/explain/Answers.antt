@@ -1,48 +1,27 @@
-use Rattle.std.proofs.Common.{arith}
-use Rattle.std.proofs.lemmas.Grind.{common_steps}
+use Rattle.std.proofs.Common.{List, ℕ, subst}
+use Rattle.std.specs.Io.KnownBytes.{Appends}
+use Rattle.std.proofs.lemmas.List.{append-nil}
+use Rattle.std.proofs.lemmas.Result.{on_ok_weaker}
 use Rattle.csdf_answers.proofs.explained.explain.Goals as goal
 
-pub returns-in_err-text-clause-written : goal.returns-in_err-text-clause-written
-returns-in_err-text-clause-written g c = grind (arith, common_steps)
-
-pub returns-in_err-text-clause-unmarked : goal.returns-in_err-text-clause-unmarked
-returns-in_err-text-clause-unmarked g c = grind (arith, common_steps)
-
-pub returns-in_err-text-clause-refused : goal.returns-in_err-text-clause-refused
-returns-in_err-text-clause-refused g c = grind (arith, common_steps)
-
-pub returns-in_err-text-clause-unwritten : goal.returns-in_err-text-clause-unwritten
-returns-in_err-text-clause-unwritten g c = grind (arith, common_steps)
-
-pub returns-in_err-text-clause-failed : goal.returns-in_err-text-clause-failed
-returns-in_err-text-clause-failed g c = grind (arith, common_steps)
-
-pub returns-in_err-send-clause-written : goal.returns-in_err-send-clause-written
-returns-in_err-send-clause-written g c = grind (arith, common_steps)
-
-pub returns-in_err-send-clause-unmarked : goal.returns-in_err-send-clause-unmarked
-returns-in_err-send-clause-unmarked g c = grind (arith, common_steps)
-
-pub returns-in_err-send-clause-refused : goal.returns-in_err-send-clause-refused
-returns-in_err-send-clause-refused g c = grind (arith, common_steps)
-
-pub returns-in_err-send-clause-unwritten : goal.returns-in_err-send-clause-unwritten
-returns-in_err-send-clause-unwritten g c = grind (arith, common_steps)
-
-pub returns-in_err-send-clause-failed : goal.returns-in_err-send-clause-failed
-returns-in_err-send-clause-failed g c = grind (arith, common_steps)
-
 pub returns-clause-written : goal.returns-clause-written
-returns-clause-written g c = grind (arith, common_steps)
+returns-clause-written g c =
+    on_ok_weaker c.explain_with.result
+    (λ told. (
+      told.0,
+      told.1,
+      subst (λ (t : List ℕ). Appends (g.O.Outlet.written c.args.writer.now) (g.O.Outlet.written c.explain_with.new.writer) t) (append-nil told.0) told.2,
+    ))
+    c.explain_with.ensures.written
 
 pub returns-clause-unmarked : goal.returns-clause-unmarked
-returns-clause-unmarked g c = grind (arith, common_steps)
+returns-clause-unmarked g c = c.explain_with.ensures.unmarked
 
 pub returns-clause-refused : goal.returns-clause-refused
-returns-clause-refused g c = grind (arith, common_steps)
+returns-clause-refused g c = c.explain_with.ensures.refused
 
 pub returns-clause-unwritten : goal.returns-clause-unwritten
-returns-clause-unwritten g c = grind (arith, common_steps)
+returns-clause-unwritten g c = c.explain_with.ensures.unwritten
 
 pub returns-clause-failed : goal.returns-clause-failed
-returns-clause-failed g c = grind (arith, common_steps)
+returns-clause-failed g c = c.explain_with.ensures.failed

@@ -1,17 +1,17 @@
-use Rattle.csdf_analysis.specs.declared.stall.Bounds.TheVariants.{Given}
-use Rattle.csdf_answers.proofs.ExplainLemmas.{tight_told}
+use Rattle.std.proofs.Common.{◌++◌, List, ap, string_bytes, subst, ◌∙◌, ℕ}
+use Rattle.csdf_answers.specs.Explained.{AppendsTooTight, tight_text}
+use Rattle.csdf_answers.specs.Printed.{names_of}
 use Rattle.csdf_answers.proofs.explained.tell_tight.Goals as goal
 
 pub returns-clause-told : goal.returns-clause-told
 returns-clause-told c =
-    let told = c.in_ok-push_stalled.ensures {u = tt} in (
+    let q = c.in-Ok.vector.q.items in
+    let tight = tight_text (names_of c.args.graph.channels) c.tight_channel.result in
+    let before = c.in_ok-push_tight.ensures {u = tt} ∙ ap (λ (bytes : List ℕ). bytes ++ tight) c.new-text.ensures.bytes in (
       c.in-Ok.vector.r.items,
-      c.in-Ok.vector.q.items,
-      told.0,
+      q,
       c.tight_channel.result,
       c.in-Ok.ensures.vector,
-      told.1,
       c.tight_channel.ensures,
-      tight_told c.args.graph.now _ Given told.0 c.tight_channel.result _ _ _ c.new-text.ensures.bytes (c.in_ok-push_tight.ensures {u = tt}) told.2
-          c.channels.ensures.value,
+      subst (λ (text : List ℕ). AppendsTooTight c.args.graph q text (string_bytes c.push_too_tight.new.text)) before (c.in_ok-push_too_tight.ensures {u = tt}),
     )

@@ -8,7 +8,7 @@ use Rattle.csdf_answers.proofs.object.put_actors.Given as goal
 
 abbrev pub invariant-loop-number : goal.invariant-loop-number
 invariant-loop-number l =
-    (l.writer.tokens
-    ++ items_tokens (actor_items l.vector.r.items l.vector.q.items (enumerate_from l.number (actor_names (map actor_view (drop l.number l.actors)))))
-    ≡ l.fn.writer.tokens ++ items_tokens (actor_items l.vector.r.items l.vector.q.items (enumerate_from 0 (actor_names (map actor_view l.actors)))))
+    let items_of = actor_items l.found.vector.r.items l.found.vector.q.items in
+    (l.writer.tokens ++ items_tokens (items_of (enumerate_from l.number (actor_names (map actor_view (drop l.number l.actors)))))
+    ≡ l.fn.writer.tokens ++ items_tokens (items_of (enumerate_from 0 (actor_names l.found.graph.actors))))
     × (l.writer.before ≡ l.fn.writer.before)

@@ -1,5 +1,4 @@
-use Rattle.std.proofs.lemmas.Grind.{common_steps}
-use Rattle.std.proofs.Common.{arith, ℕ, List, [], ◌∷◌, ◌++◌, codes, map, ap, ◌∙◌}
+use Rattle.std.proofs.Common.{ℕ, List, [], ◌∷◌, ◌++◌, codes, map, ap, ◌∙◌}
 use Rattle.std.specs.List.{enumerate_from}
 use Rattle.std.proofs.lemmas.Result.{on_ok_weaker}
 use Rattle.json.specs.Json.{Json, object, no_members}
@@ -33,51 +32,3 @@ returns-clause-tokens c =
     c.in_ok-put_cells.ensures.tokens e
     ∙ ap (λ (value : Json). start ++ json_tokens value) same)
     c.end_object.ensures.ok
-
-pub returns-in_err-begin_object-clause-tokens : goal.returns-in_err-begin_object-clause-tokens
-returns-in_err-begin_object-clause-tokens c = grind (arith, common_steps)
-
-pub returns-in_err-begin_object-clause-before : goal.returns-in_err-begin_object-clause-before
-returns-in_err-begin_object-clause-before c = grind (arith, common_steps)
-
-pub open_list-requires : goal.open_list-requires
-open_list-requires c = grind (arith, common_steps)
-
-pub returns-in_err-open_list-clause-tokens : goal.returns-in_err-open_list-clause-tokens
-returns-in_err-open_list-clause-tokens c = grind (arith, common_steps)
-
-pub returns-in_err-open_list-clause-before : goal.returns-in_err-open_list-clause-before
-returns-in_err-open_list-clause-before c = grind (arith, common_steps)
-
-pub graph-requires : goal.graph-requires
-graph-requires c = grind (arith, common_steps)
-
-pub channels-requires : goal.channels-requires
-channels-requires c = grind (arith, common_steps)
-
-pub capacities-requires : goal.capacities-requires
-capacities-requires c = grind (arith, common_steps)
-
-pub put_channels-requires : goal.put_channels-requires
-put_channels-requires c = grind (arith, common_steps)
-
-pub returns-in_err-put_channels-clause-tokens : goal.returns-in_err-put_channels-clause-tokens
-returns-in_err-put_channels-clause-tokens c = grind (arith, common_steps)
-
-pub returns-in_err-put_channels-clause-before : goal.returns-in_err-put_channels-clause-before
-returns-in_err-put_channels-clause-before c = grind (arith, common_steps)
-
-pub cells-requires : goal.cells-requires
-cells-requires c = grind (arith, common_steps)
-
-pub put_cells-requires : goal.put_cells-requires
-put_cells-requires c = grind (arith, common_steps)
-
-pub returns-in_err-put_cells-clause-tokens : goal.returns-in_err-put_cells-clause-tokens
-returns-in_err-put_cells-clause-tokens c = grind (arith, common_steps)
-
-pub returns-in_err-put_cells-clause-before : goal.returns-in_err-put_cells-clause-before
-returns-in_err-put_cells-clause-before c = grind (arith, common_steps)
-
-pub returns-clause-before : goal.returns-clause-before
-returns-clause-before c = grind (arith, common_steps)

@@ -6,5 +6,6 @@ use Rattle.csdf_answers.proofs.question.repetition_text.Given as goal
 
 abbrev pub invariant-loop-number : goal.invariant-loop-number
 invariant-loop-number l =
-    string_bytes l.text ++ repetition_text l.vector.r.items l.vector.q.items (enumerate_from l.number (actor_names (map actor_view (drop l.number l.actors))))
-    ≡ repetition_text l.vector.r.items l.vector.q.items (enumerate_from 0 (actor_names (map actor_view l.actors)))
+    let text_of = repetition_text l.found.vector.r.items l.found.vector.q.items in
+    string_bytes l.text ++ text_of (enumerate_from l.number (actor_names (map actor_view (drop l.number l.actors))))
+    ≡ text_of (enumerate_from 0 (actor_names l.found.graph.actors))

@@ -2,7 +2,8 @@ use Rattle.std.proofs.Common.{◌≡◌, ◌≤◌, ◌+◌, ℕ, [], length, ge
 use Rattle.std.proofs.lemmas.Grind.{common_steps}
 use Rattle.std.proofs.lemmas.List.{length-map}
 use Rattle.csdf_pool.specs.Pool.{Held}
-use Rattle.csdf_core.specs.Blocks.{HaveRoomFor, capacity_at}
+use Rattle.csdf_core.specs.Blocks.{capacity_at}
+use Rattle.csdf_core.specs.Feedback.{HaveRoomFor}
 use Rattle.csdf_core.specs.Feedback.{fills_at}
 use Rattle.csdf_core.specs.Ports.{tokens_at, tokens_in}
 use Rattle.csdf_core.proofs.BlockPorts.{by_places}

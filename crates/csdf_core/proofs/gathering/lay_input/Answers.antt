@@ -1,12 +1,16 @@
 use Rattle.std.proofs.lemmas.Grind.{common_steps}
-use Rattle.std.proofs.Common.{◌≡◌, ◌<◌, ◌+◌, ◌-◌, ◌++◌, ℕ, List, length, take, drop, get_or, ap, ap₂, subst, sym, ◌∙◌, rules, arith}
-use Rattle.std.specs.Prelude.{ℤ}
+use Rattle.std.proofs.Common.{◌≡◌, ◌<◌, ◌+◌, ◌-◌, ◌++◌, ℕ, suc, List, length, take, drop, get_or, ap, ap₂, subst, sym, ◌∙◌, rules, arith}
+use Rattle.std.specs.Prelude.{ℤ, sum_by}
 use Rattle.std.proofs.lemmas.Slice.{overwrites}
 use borrow.Rule.Slice.PartMut.{put_mid}
 use Rattle.csdf_core.specs.Blocks.{put_from}
+use Rattle.csdf_core.specs.Blocks.{takes_at}
+use Rattle.csdf_core.specs.Engine.{filled}
 use Rattle.csdf_core.specs.Phases.{IsInPhase}
-use Rattle.csdf_core.specs.Ports.{inputs_at}
-use Rattle.csdf_core.proofs.BlockReads.{laid_step, takes_left, needs_left}
+use Rattle.csdf_core.specs.Ports.{inputs_at, take_at}
+use Rattle.csdf_core.proofs.BlockReads.{laid_step, needs_left}
+use Rattle.std.proofs.lemmas.List.{take_all}
+use Rattle.csdf_core.proofs.FilledUp.{drop-filled, take-filled, length-filled}
 use Rattle.csdf_core.proofs.PortLemmas.{need_is}
 use Rattle.csdf_core.proofs.gathering.lay_input.Goals as goal
 
@@ -27,11 +31,28 @@ loop-firing-preserved c =
     (c.loop-firing.at + c.loop-firing.slot.need) c.loop-firing.into = search (rules, overwrites) in
     let size : length (put_mid c.loop-firing.at (c.loop-firing.at + c.loop-firing.slot.need - c.loop-firing.at) c.loop-firing.into c.put_next.new.into) ≡
     length c.loop-firing.into = search (rules, overwrites) in
-    let left = c.put_next.ensures.left ∙ ap (λ (x : ℕ). drop x c.loop-firing.tokens) c.loop-firing.invariant.slot.taken_is in
+    let c0 : ℕ = get_or ins j 0 in
+    let rest : ℕ = c.args.n - (c.loop-firing._firing + 1) in
+    let later : ℕ = c.turn_after-after.result.firing in
+    let some : ℕ = take_at cs k c0 in
+    let all : takes_at cs k (c.args.n - c.loop-firing._firing) c0 ≡ some + takes_at cs later rest c0 =
+    ap (λ (x : ℕ). takes_at cs k x c0) (let e : c.args.n - c.loop-firing._firing ≡ suc rest = (let lt = c.loop-firing-test.true in omega (arith, lt)) in e)
+    ∙ ap (λ (x : ℕ). some + takes_at cs x rest c0) (let f = c.turn_after-after.ensures.firing in let e : suc k ≡ later = omega (arith, f) in e) in
+    let tokens : List ℤ = filled (takes_at cs k (c.args.n - c.loop-firing._firing) c0) c.loop-firing.tokens in
+    let others : List ℤ = filled (takes_at cs later rest c0) c.put_next.new.tokens in
+    let taken : c.loop-firing.slot.taken ≡ some = c.loop-firing.invariant.slot.taken_is in
+    let left : others ≡ drop some tokens =
+    ap (filled (takes_at cs later rest c0)) (c.put_next.ensures.left ∙ ap (λ (x : ℕ). drop x c.loop-firing.tokens) taken)
+    ∙ sym (drop-filled some (takes_at cs later rest c0) c.loop-firing.tokens)
+    ∙ ap (λ (x : ℕ). drop some (filled x c.loop-firing.tokens)) (sym all) in
+    let chunk : List ℤ = take (c.loop-firing.at + c.loop-firing.slot.need - c.loop-firing.at) (drop c.loop-firing.at c.loop-firing.into) in
+    let first : take some (filled some c.loop-firing.tokens) ≡ take some tokens =
+    take_all some (filled some c.loop-firing.tokens) (omega (arith, length-filled some c.loop-firing.tokens))
+    ∙ sym (take-filled some (takes_at cs later rest c0) c.loop-firing.tokens)
+    ∙ ap (λ (x : ℕ). take some (filled x c.loop-firing.tokens)) (sym all) in
     let put = c.put_next.ensures.put
-    ∙ ap₂ (λ (x y : ℕ). put_from x y c.loop-firing.tokens
-    (take (c.loop-firing.at + c.loop-firing.slot.need - c.loop-firing.at) (drop c.loop-firing.at c.loop-firing.into)))
-    c.loop-firing.invariant.slot.from_is c.loop-firing.invariant.slot.taken_is in
+    ∙ ap₂ (λ (x y : ℕ). put_from x y (filled y c.loop-firing.tokens) chunk) c.loop-firing.invariant.slot.from_is taken
+    ∙ ap (λ (u : List ℤ). take (sum_by (take_at cs k) (take j ins)) chunk ++ u ++ drop (sum_by (take_at cs k) (take j ins) + some) chunk) first in
     record {
       firing = omega (arith, c.turn_after-after.ensures.firing, c.loop-firing.invariant.firing);
       in_phase = subst (λ (x : ℕ). IsInPhase c.args.plan.now.channels c.args.actor x c.turn_after-after.result.phase) (sym c.turn_after-after.ensures.firing)
@@ -40,11 +61,9 @@ loop-firing-preserved c =
       slot = c.slot_after-slot.ensures.slot;
       small = c.slot_after-slot.ensures.small;
       few = omega (arith, c.loop-firing.invariant.few, c.loop-firing.invariant.small);
-      enough = takes_left cs (get_or ins j 0) k _ c.args.n c.loop-firing._firing c.loop-firing.tokens _ c.loop-firing-test.true
-          c.turn_after-after.ensures.firing left c.loop-firing.invariant.enough;
       all = needs_left cs c.args.actor k _ c.args.n c.loop-firing._firing at c.loop-firing.slot.need _ c.loop-firing-test.true c.loop-firing.invariant.slot.all_is
           c.turn_after-after.ensures.firing c.loop-firing.invariant.all ∙ sym size;
-      laid = laid_step cs ins (take j ins) (get_or ins j 0) k _ c.args.n c.loop-firing._firing at c.loop-firing.slot.need c.loop-firing.tokens _ c.put_next.new.into
+      laid = laid_step cs ins (take j ins) (get_or ins j 0) k _ c.args.n c.loop-firing._firing at c.loop-firing.slot.need tokens others c.put_next.new.into
           c.loop-firing.into _ _ c.loop-firing-test.true (c.loop-firing.invariant.slot.all_is ∙ sym (need_is c.args.actor k cs)) c.turn_after-after.ensures.firing
           left front put back c.loop-firing.invariant.laid;
     }

@@ -8,7 +8,6 @@ returns-clause-blank c = record {
   plan = refl;
   shows = c.requires.opening;
   peaks = c.requires.peaks;
-  feedbacks = c.in_ok-feedbacks.ensures;
   journal = c.in_ok-journal.ensures.moves;
   room = subst (λ (n : ℕ). n ≤ c.in_ok-journal.journal.room) c.channels.ensures.value c.in_ok-journal.ensures.room;
   sinks = c.in_ok-sinks.ensures.sinks ∙ ap (λ (n : ℕ). replicate n []) c.actors.ensures.value;

@@ -15,4 +15,4 @@ pub returns-clause-read : goal.returns-clause-read
 returns-clause-read c =
     let at : After-peek = (goal.at.returns-clause-read c).After-peek in
     subst (λ (ts : List ℤ). AreReadEach c.args.core.now.plan c.args.core.now.now c.args.actor
-    (count c.args.core.now.now c.args.actor) c.args.n ts) (sym (items at)) c.peek.ensures.each
+    (count c.args.core.now.now c.args.actor) c.args.n ts) (sym (items at)) (c.peek.ensures.each c.requires.held)

@@ -6,7 +6,7 @@ use Rattle.csdf_floor.specs.Outcome.{IsOutcome}
 use Rattle.csdf_floor.specs.Work.{Work, feeds_in}
 use Rattle.csdf_run.specs.Texts.{work_for}
 use Rattle.csdf_run.specs.Tokens.{IsGraphRun, IsTokensCause, IsTokensRefusal}
-use Rattle.csdf_run.specs.Causes.{IsCauseAmong}
+use Rattle.csdf_run.specs.Causes.{IsWantAmong}
 use Rattle.csdf_run.proofs.FeedTexts.{can_be_run, run_as_sequential}
 use Rattle.csdf_run.proofs.Lengths.{may_over}
 use Rattle.csdf_run.proofs.RoomTexts.{run_same_in_any_room}
@@ -27,10 +27,10 @@ pub returns-clause-run : goal.returns-clause-run
 returns-clause-run g c = λ texts read.
     let a = c.in-Ok.fed.accepted in
     let w : Work = work_for a (feeds_in c.in-Ok.fed.feeds.items) c.new-request.ensures.work.0 c.args.options.firings in
-    let outcome : IfOk c.outcome_of-fed.result.outcome (IsOutcome w) =
-    subst (λ (x : Work). IfOk c.outcome_of-fed.result.outcome (IsOutcome x)) c.new-request.ensures.work.2 c.outcome_of-fed.ensures.outcome in
-    let run : IfOk c.outcome_of-fed.result.outcome (IsGraphRun c.args.options.room c.args.graph texts c.args.options.how_long c.args.options.firings) =
-    IfOk-weaker c.outcome_of-fed.result.outcome _ _ (λ o is. record {
+    let outcome : IfOk c.watched_outcome_of-fed.result.outcome (IsOutcome w) =
+    subst (λ (x : Work). IfOk c.watched_outcome_of-fed.result.outcome (IsOutcome x)) c.new-request.ensures.work.2 c.watched_outcome_of-fed.ensures.outcome in
+    let run : IfOk c.watched_outcome_of-fed.result.outcome (IsGraphRun c.args.options.room c.args.graph texts c.args.options.how_long c.args.options.firings) =
+    IfOk-weaker c.watched_outcome_of-fed.result.outcome _ _ (λ o is. record {
       accepted = a;
       feeds = feeds_in c.in-Ok.fed.feeds.items;
       periods = c.new-request.ensures.work.0;
@@ -38,7 +38,7 @@ returns-clause-run g c = λ texts read.
       read = c.in-Ok.ensures.fed texts read;
       outcome = is;
     }) outcome in
-    told_ok c.outcome_of-fed.result.outcome c.told_of.result c.told_of.ensures.told c.told_of.ensures.failed _ run
+    told_ok c.watched_outcome_of-fed.result.outcome c.told_of.result c.told_of.ensures.told c.told_of.ensures.failed _ run
 
 pub returns-clause-sequential : goal.returns-clause-sequential
 returns-clause-sequential g c = λ texts read.
@@ -53,20 +53,20 @@ returns-clause-rooms g c = λ texts read.
 
 pub returns-clause-kept : goal.returns-clause-kept
 returns-clause-kept g c =
-    told_ok c.outcome_of-fed.result.outcome c.told_of.result c.told_of.ensures.told c.told_of.ensures.failed _
-    (subst (λ (b : Bool). IfOk c.outcome_of-fed.result.outcome (λ o. o.journal.keeps ≡ b)) c.new-request.ensures.keeps c.outcome_of-fed.ensures.keeps)
+    told_ok c.watched_outcome_of-fed.result.outcome c.told_of.result c.told_of.ensures.told c.told_of.ensures.failed _
+    (subst (λ (b : Bool). IfOk c.watched_outcome_of-fed.result.outcome (λ o. o.journal.keeps ≡ b)) c.new-request.ensures.keeps c.watched_outcome_of-fed.ensures.keeps)
 
 pub returns-clause-refused : goal.returns-clause-refused
 returns-clause-refused g c = λ texts read.
-    told_err c.outcome_of-fed.result.outcome c.told_of.result c.told_of.ensures.told c.told_of.ensures.failed (λ _. Unit {0})
+    told_err c.watched_outcome_of-fed.result.outcome c.told_of.result c.told_of.ensures.told c.told_of.ensures.failed (λ _. Unit {0})
     (IsTokensRefusal c.args.options.room c.args.graph texts)
-    (λ why _. (c.in-Ok.fed.accepted, feeds_in c.in-Ok.fed.feeds.items, c.in-Ok.ensures.fed texts read)) (where_err c.outcome_of-fed.result.outcome)
+    (λ why _. (c.in-Ok.fed.accepted, feeds_in c.in-Ok.fed.feeds.items, c.in-Ok.ensures.fed texts read)) (where_err c.watched_outcome_of-fed.result.outcome)
 
 pub returns-clause-cause : goal.returns-clause-cause
 returns-clause-cause g c =
-    let by : IfErr c.outcome_of-fed.result.outcome (IsCauseAmong c.args.options.workers) =
-    subst (λ n. IfErr c.outcome_of-fed.result.outcome (IsCauseAmong n)) c.new-request.ensures.workers c.outcome_of-fed.ensures.cause in
-    told_err c.outcome_of-fed.result.outcome c.told_of.result c.told_of.ensures.told c.told_of.ensures.failed (IsCauseAmong c.args.options.workers)
+    let by : IfErr c.watched_outcome_of-fed.result.outcome (IsWantAmong c.args.options.workers) =
+    subst (λ n. IfErr c.watched_outcome_of-fed.result.outcome (IsWantAmong n)) c.new-request.ensures.workers c.watched_outcome_of-fed.ensures.cause in
+    told_err c.watched_outcome_of-fed.result.outcome c.told_of.result c.told_of.ensures.told c.told_of.ensures.failed (IsWantAmong c.args.options.workers)
     (IsTokensCause c.args.options.workers) (λ why is. is) by
 
 pub returns-clause-graph : goal.returns-clause-graph
@@ -75,7 +75,7 @@ returns-clause-graph g c =
       c.in-Ok.fed.accepted,
       (c.in-Ok.ensures.fed c.requires.read.0 c.requires.read.1).in_room,
       c.into_graph.ensures
-          ∙ ap (λ (b : Accepted). b.graph) (c.outcome_of-fed.ensures.fed.accepted ∙ ap (λ (x : Work). x.accepted) c.new-request.ensures.work.2),
+          ∙ ap (λ (b : Accepted). b.graph) (c.watched_outcome_of-fed.ensures.fed.accepted ∙ ap (λ (x : Work). x.accepted) c.new-request.ensures.work.2),
     )
 
 pub returns-in-Err-clause-cause : goal.returns-in-Err-clause-cause

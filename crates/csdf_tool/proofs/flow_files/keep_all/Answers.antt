@@ -2,7 +2,7 @@ use Rattle.std.proofs.Common.{◌≡◌, ◌<◌, ◌+◌, ap, arith, get_or, in
 use Rattle.std.proofs.lemmas.List.{get_or-map, length-map}
 use Rattle.csdf_answers.specs.declared.fault.ToolFault.TheVariants.{Memory}
 use Rattle.csdf_answers.proofs.ToldLemmas.{if_err_fault}
-use Rattle.csdf_tool.specs.Acts.{Asks}
+use Rattle.csdf_disk.specs.Acts.{Asks}
 use Rattle.csdf_tool.specs.Flows.{flow_file_view}
 use Rattle.csdf_tool.specs.Running.{put_fault}
 use Rattle.csdf_tool.specs.declared.flow_files.FlowFile.{FlowFile}

@@ -1,7 +1,7 @@
 use Rattle.std.proofs.Common.{◌≡◌, ◌<◌, ℕ, List, Option, None, Ok, [], ◌∷◌, ap, arith, get_or, length, map, subst, sym, ◌∙◌}
 use Rattle.std.specs.Path.{path_buf_bytes}
 use Rattle.std.proofs.lemmas.List.{get_or-map, length-map}
-use Rattle.csdf_tool.specs.Acts.{Asks, Keep}
+use Rattle.csdf_disk.specs.Acts.{Asks, Keep}
 use Rattle.csdf_tool.specs.Flows.{flow_file_view}
 use Rattle.csdf_tool.specs.declared.flow_files.FlowFile.{FlowFile}
 use Rattle.csdf_tool.proofs.FlowLemmas.{kept_next}

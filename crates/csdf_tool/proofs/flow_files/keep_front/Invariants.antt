@@ -1,5 +1,5 @@
 use Rattle.std.proofs.Common.{map, take}
-use Rattle.csdf_tool.specs.Acts.{Asks}
+use Rattle.csdf_disk.specs.Acts.{Asks}
 use Rattle.csdf_tool.specs.Flows.{flow_file_view, keeps}
 use Rattle.csdf_tool.proofs.flow_files.keep_front.Given as goal
 

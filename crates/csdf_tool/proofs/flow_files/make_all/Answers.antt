@@ -1,6 +1,6 @@
 use Rattle.std.proofs.Common.{◌≡◌, ◌<◌, ℕ, ap, arith, get_or, length, map, subst, sym, take, ◌∙◌}
 use Rattle.std.proofs.lemmas.List.{get_or-map, length-map, length_push}
-use Rattle.csdf_tool.specs.Acts.{Asks}
+use Rattle.csdf_disk.specs.Acts.{Asks}
 use Rattle.csdf_tool.specs.Flows.{flow_file_view, leave_of, make_of}
 use Rattle.csdf_tool.proofs.FlowLemmas.{made_not, well_next}
 use Rattle.csdf_tool.proofs.flow_files.make_all.Goals as goal

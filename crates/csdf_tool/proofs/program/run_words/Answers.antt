@@ -5,7 +5,7 @@ use Rattle.std.specs.Prelude.{◌⊎◌}
 use Rattle.csdf_words.specs.CommandLine.{asked_view, form_asked, form_of}
 use Rattle.csdf_answers.specs.declared.fault.ToolFault.TheVariants.{Memory}
 use Rattle.std.proofs.lemmas.Result.{on_ok_weaker}
-use Rattle.csdf_tool.specs.Acts.{devices}
+use Rattle.csdf_disk.specs.Acts.{devices}
 use Rattle.csdf_tool.specs.Carried.{IsStreamedOut, flows_asked, reads_input}
 use Rattle.csdf_tool.specs.Flows.{standard}
 use Rattle.csdf_tool.proofs.CauseLemmas.{caused_as, memory_causes}

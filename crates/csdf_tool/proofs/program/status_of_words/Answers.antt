@@ -58,3 +58,18 @@ returns-in-OutAlone-clause-device g c = grind (arith, common_steps)
 
 pub returns-in-OutAlone-clause-lined : goal.returns-in-OutAlone-clause-lined
 returns-in-OutAlone-clause-lined g c = grind (arith, common_steps)
+
+pub returns-in-Workers-clause-answered : goal.returns-in-Workers-clause-answered
+returns-in-Workers-clause-answered g c = grind (arith, common_steps)
+
+pub returns-in-Workers-clause-ends : goal.returns-in-Workers-clause-ends
+returns-in-Workers-clause-ends g c = search rules
+
+pub returns-in-Workers-clause-refused : goal.returns-in-Workers-clause-refused
+returns-in-Workers-clause-refused g c = grind (arith, common_steps)
+
+pub returns-in-Workers-clause-device : goal.returns-in-Workers-clause-device
+returns-in-Workers-clause-device g c = grind (arith, common_steps)
+
+pub returns-in-Workers-clause-lined : goal.returns-in-Workers-clause-lined
+returns-in-Workers-clause-lined g c = grind (arith, common_steps)

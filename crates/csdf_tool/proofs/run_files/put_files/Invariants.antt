@@ -1,5 +1,5 @@
 use Rattle.std.proofs.Common.{map, take}
-use Rattle.csdf_tool.specs.Acts.{Asks}
+use Rattle.csdf_disk.specs.Acts.{Asks}
 use Rattle.csdf_tool.specs.Running.{file_view, put_whole}
 use Rattle.csdf_tool.proofs.run_files.put_files.Given as goal
 

@@ -1,7 +1,8 @@
 use Rattle.std.proofs.lemmas.Grind.{common_steps}
 use Rattle.std.proofs.Common.{◌≡◌, ◌-◌, ◌*◌, ℕ, [], length, get_or, ap, ap₂, subst, sym, ◌∙◌, refl, arith, Option, Some, None, false}
 use Rattle.std.specs.Prelude.{is_some}
-use Rattle.csdf_core.specs.Blocks.{HoldAll, HaveRoomFor}
+use Rattle.csdf_core.specs.Blocks.{HoldAll}
+use Rattle.csdf_core.specs.Feedback.{HaveRoomFor}
 use Rattle.csdf_core.specs.Feedback.{IsFeedback, asks_at, fills_at}
 use Rattle.csdf_core.specs.Inside.{now_in}
 use Rattle.csdf_core.specs.Plan.{Plan}

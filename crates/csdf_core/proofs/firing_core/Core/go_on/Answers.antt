@@ -13,7 +13,7 @@ use Rattle.csdf_core.specs.Shows.{Plays}
 use Rattle.csdf_core.specs.State.{Present}
 use Rattle.csdf_core.specs.Step.{count}
 use Rattle.csdf_core.proofs.BlockMachines.{Machine, IsGood, machine, view, outs, all_told}
-use Rattle.csdf_core.proofs.BlockMoves.{AreFew}
+use Rattle.csdf_core.proofs.Joined.{AreFew}
 use Rattle.csdf_core.proofs.FeedbackMoves.{IsLoopBlock, loop_of}
 use Rattle.csdf_core.proofs.FeedbackReads.{other_there}
 use Rattle.csdf_core.proofs.FeedbackTokens.{state_takes}

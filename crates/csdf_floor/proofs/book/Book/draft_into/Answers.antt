@@ -8,7 +8,10 @@ use Rattle.csdf_floor.specs.Work.{program}
 use Rattle.csdf_floor.proofs.book.Book.draft_into.Goals as goal
 
 pub read_ahead-requires-clause-can : goal.read_ahead-requires-clause-can
-read_ahead-requires-clause-can c = rw (← c.self.view_is) at c.in-Some.ensures.can
+read_ahead-requires-clause-can c = rw (← c.self.view_is) at c.in-Some.ensures.block.can
+
+pub read_ahead-requires-clause-held : goal.read_ahead-requires-clause-held
+read_ahead-requires-clause-held c = rw (← c.self.view_is) at c.in-Some.ensures.held
 
 pub read_ahead-requires-clause-needed : goal.read_ahead-requires-clause-needed
 read_ahead-requires-clause-needed c = rw (← c.self.view_is) at c.needed-needed.ensures.all
@@ -35,7 +38,8 @@ invariant_of-draft-2 c =
 pub returns-clause-draft : goal.returns-clause-draft
 returns-clause-draft c = λ _. record {
   suits = record {
-    can = c.in-Some.ensures.can;
+    can = c.in-Some.ensures.block.can;
+    held = c.in-Some.ensures.held;
     phases = c.in-Some.ensures.phases;
     other = c.in-Some.ensures.other;
     kernel = rw (← c.self.view_is) c.kernel.ensures.value;

@@ -1,10 +1,9 @@
 use Rattle.std.proofs.lemmas.Grind.{common_steps}
-use Rattle.std.proofs.Common.{◌≡◌, ◌+◌, ◌-◌, ◌*◌, ℕ, List, [], length, get_or, take, drop, ap, ap₂, subst, ◌∙◌, arith, true}
+use Rattle.std.proofs.Common.{◌≡◌, ◌≤◌, ◌+◌, ◌-◌, ◌*◌, ℕ, List, [], length, get_or, take, drop, ap, ap₂, sym, subst, ◌∙◌, arith, true}
 use Rattle.std.specs.Prelude.{ℤ}
 use Rattle.csdf_model.specs.declared.parts.Kernel.{Kernel}
 use Rattle.csdf_model.specs.declared.parts.Kernel.TheVariants.{Sink}
 use Rattle.csdf_kernel.specs.Value.{values_of}
-use Rattle.csdf_core.specs.Blocks.{CanFire}
 use Rattle.csdf_core.specs.Phases.{HasPhases}
 use Rattle.csdf_core.specs.Plan.{Plan}
 use Rattle.csdf_core.specs.Rows.{gift}
@@ -26,11 +25,11 @@ module _ (c : After-part-feed) where
   src : is_source p.plan c.args.actor ≡ true
   src = rw (← c.self.view_is) at c.requires.source
 
-  here : CanFire c.self.inside.core.plan c.self.inside.core.now c.args.actor c.args.n
-  here = rw (← c.self.view_is) at c.requires.can
-
-  can : CanFire p.plan c.self.inside.core.now c.args.actor c.args.n
-  can = subst (λ (u : Plan). CanFire u c.self.inside.core.now c.args.actor c.args.n) c.self.invariant.kept.plan here
+  supply : given p.plan c.args.actor (k + c.args.n) ≤ get_or p.plan.supplies c.args.actor 0
+  supply =
+      let here : is_source c.self.inside.core.plan c.args.actor ≡ true = subst (λ (u : Plan). is_source u c.args.actor ≡ true) (sym c.self.invariant.kept.plan) src in
+      subst (λ (u : Plan). given u c.args.actor (k + c.args.n) ≤ get_or u.supplies c.args.actor 0) c.self.invariant.kept.plan
+      (c.keeps_within.ensures.supply c.requires.some here)
 
   phases : HasPhases c.self.inside.core.plan.channels c.args.actor 1
   phases = rw (← c.self.view_is) at c.requires.phases
@@ -55,7 +54,7 @@ module _ (c : After-part-feed) where
 pub eval_block-requires-clause-whole : goal.eval_block-requires-clause-whole
 eval_block-requires-clause-whole c =
     let at : After-part-feed = (goal.at.eval_block-requires-clause-whole c).After-part-feed in
-    let long = feed_long c.self.inside.work c.args.actor (k at) c.args.n (has at) ((can at).supply (src at)) in
+    let long = feed_long c.self.inside.work c.args.actor (k at) c.args.n (has at) (supply at) in
     let m = ap (λ (x : ℕ). c.args.n * x) (each at) in
     let e = ap length (feed at) in
     omega (arith, long, m, e)
@@ -86,3 +85,9 @@ written-used-requires c = grind (arith, common_steps)
 
 pub eval_block-requires-clause-few_counts : goal.eval_block-requires-clause-few_counts
 eval_block-requires-clause-few_counts c = grind (arith, common_steps)
+
+pub keeps_within-requires-clause-actor : goal.keeps_within-requires-clause-actor
+keeps_within-requires-clause-actor c = rw (← c.self.view_is) at c.requires.exists
+
+pub keeps_within-requires-clause-can : goal.keeps_within-requires-clause-can
+keeps_within-requires-clause-can c = rw (← c.self.view_is) at c.requires.can

@@ -2,15 +2,17 @@ use Rattle.std.proofs.lemmas.Grind.{common_steps}
 use Rattle.std.proofs.Common.{◌≡◌, ◌<◌, ◌++◌, List, [], length, get_or, set, cond, ap, sym, subst, ◌∙◌, arith, Bool}
 use Rattle.std.specs.Prelude.{ℤ}
 use Rattle.std.proofs.lemmas.List.{length-map}
-use Rattle.csdf_core.specs.Blocks.{CanFire, AreReadEach, needs_of, gifts_of}
+use Rattle.csdf_core.specs.Blocks.{AreReadEach, needs_of, gifts_of}
+use Rattle.csdf_core.specs.Engine.{CanFire}
+use Rattle.csdf_core.specs.declared.stage.Stage.TheVariants.{Idle}
 use Rattle.csdf_core.specs.Plan.{Plan}
-use Rattle.csdf_core.specs.Step.{count}
+use Rattle.csdf_core.specs.Step.{count, stage}
 use Rattle.csdf_floor.specs.Inside.{BookView, IsBook}
 use Rattle.csdf_floor.specs.Making.{made_value}
 use Rattle.csdf_floor.specs.Work.{feeds_in, program}
 use Rattle.csdf_core.proofs.Runs.{on_err}
 use Rattle.csdf_floor.proofs.Books.{floor_of, sinks_each, sinks_after}
-use Rattle.csdf_floor.proofs.Makings.{IsMade, book_fired, fired_book, has_made, length_made}
+use Rattle.csdf_floor.proofs.Makings.{IsMade, can_idle, book_fired, fired_book, has_made, length_made}
 use Rattle.csdf_floor.proofs.Works.{item_at}
 use Rattle.csdf_floor.proofs.book.Book.fire.Goals as goal
 use Rattle.csdf_floor.proofs.book.Book.fire.Goals.{After-append_where, After-fire-arg-1}
@@ -30,7 +32,7 @@ fire-requires-clause-all c = all (goal.at.fire-requires-clause-all c).After-fire
 
 pub append_where-requires-clause-exists : goal.append_where-requires-clause-exists
 append_where-requires-clause-exists c =
-    let there : c.args.actor < length c.self.inside.core.plan.sources = rw (← c.self.view_is) at c.requires.can.there in
+    let there : c.args.actor < length c.self.inside.core.plan.sources = rw (← c.self.view_is) at c.requires.exists in
     omega (arith, there, sinks_each _ _ _ _ _ c.self.invariant)
 
 -- where all has come to
@@ -38,8 +40,13 @@ module _ (c : After-append_where) where
   abbrev tokens : List ℤ
   tokens = get_or (feeds_in c.self.inside.reads.items) c.args.actor []
 
-  can : CanFire c.self.inside.core.plan c.self.inside.core.now c.args.actor c.args.n
-  can = rw (← c.self.view_is) at c.requires.can
+  there : c.args.actor < length c.self.inside.core.plan.sources
+  there = rw (← c.self.view_is) at c.requires.exists
+
+  idle : stage c.self.inside.core.now c.args.actor ≡ Idle
+  idle =
+      let can : CanFire c.self.inside.core.plan c.self.inside.core.now c.args.actor c.args.n = rw (← c.self.view_is) at c.requires.can in
+      can_idle c.self.inside.core.plan c.self.inside.core.now c.args.actor c.args.n c.requires.some can
 
   buffer : length tokens ≡ needs_of c.self.inside.core.plan.channels c.args.actor (count c.self.inside.core.now c.args.actor) c.args.n
   buffer = rw (← c.self.view_is) at c.requires.buffer
@@ -52,7 +59,6 @@ module _ (c : After-append_where) where
 
   within : c.args.actor < length c.self.inside.reads.items
   within =
-      let there = can.there in
       omega (arith, there, c.self.invariant.each_actor, length-map c.self.inside.reads.items (λ v. v.items))
 
   held : c.deref.result.now ≡ tokens
@@ -68,7 +74,7 @@ module _ (c : After-append_where) where
   made : IsMade c.self.inside.journal.keeps c.self.inside.work c.self.inside.core c.fire.new.self c.self.inside.journal.moves c.self.inside.sinks.lists
       (feeds_in c.self.inside.reads.items) c.args.actor (count c.self.inside.core.now c.args.actor) c.args.n tokens c.args.tokens.now
   made = fired_book c.self.inside.journal.keeps c.self.inside.work c.self.inside.core c.fire.new.self c.self.inside.journal.moves
-      c.self.inside.sinks.lists (feeds_in c.self.inside.reads.items) c.args.actor c.args.n c.args.tokens.now c.self.invariant can buffer read just
+      c.self.inside.sinks.lists (feeds_in c.self.inside.reads.items) c.args.actor c.args.n c.args.tokens.now c.self.invariant there idle buffer read just
       c.fire.ensures.plays
 
 pub invariant_of-self-2 : goal.invariant_of-self-2
@@ -112,3 +118,9 @@ returns-in_err-note_firings-clause-unchanged c =
     ≡ c.args.self.now.shown =
     rw (c.note_firings.ensures.keeps, c.in_err-note_firings.ensures.unchanged) (ap (λ (b : BookView). b.shown) c.self.view_is) in
     on_err _ _ same
+
+pub keeps_within-requires-clause-actor : goal.keeps_within-requires-clause-actor
+keeps_within-requires-clause-actor c = rw (← c.self.view_is) at c.requires.exists
+
+pub keeps_within-requires-clause-can : goal.keeps_within-requires-clause-can
+keeps_within-requires-clause-can c = rw (← c.self.view_is) at c.requires.can

@@ -11,9 +11,8 @@ use Rattle.csdf_floor.specs.Making.{AreOwnValues}
 use Rattle.csdf_floor.specs.Work.{feeds_in, program, is_sink_kernel}
 use Rattle.csdf_model.specs.declared.parts.Kernel.TheVariants.{Sink}
 use Rattle.csdf_floor.proofs.Books.{floor_of, sinks_after}
-use Rattle.csdf_floor.proofs.LoopMakings.{fired_on_book}
+use Rattle.csdf_floor.proofs.LoopMakings.{few_numbers, fired_on_book}
 use Rattle.csdf_floor.proofs.Makings.{IsMade, book_fired, has_made, length_made}
-use Rattle.csdf_floor.proofs.PhaseValues.{few_numbers}
 use Rattle.csdf_floor.proofs.book.Book.fire_on.Goals as goal
 use Rattle.csdf_floor.proofs.book.Book.fire_on.Goals.{After-go_on}
 

@@ -6,6 +6,7 @@ use Rattle.csdf_floor.specs.Floor.{FloorView}
 use Rattle.csdf_floor.specs.Inside.{BookView}
 use Rattle.csdf_floor.specs.Work.{program}
 use Rattle.csdf_floor.proofs.Drafted.{drafted_is}
+use Rattle.csdf_floor.proofs.Makings.{can_idle}
 use Rattle.csdf_floor.proofs.book.Book.make_suited.Goals as goal
 
 pub fire-requires-clause-just : goal.fire-requires-clause-just
@@ -20,8 +21,15 @@ fire-requires-clause-just c =
     (drafted_is c.peek.new.self.shown c.args.actor c.args.draft.now (get_or c.peek.new.self.reads c.args.actor []) c.values.result.now plan suits
     (sym c.inputs-2.ensures ∙ c.if-not-has_in_buffer.ensures.0 refl) c.values.ensures)
 
+pub make_room_for-requires-clause-idle : goal.make_room_for-requires-clause-idle
+make_room_for-requires-clause-idle c =
+    can_idle c.args.self.now.shown.core.plan c.args.self.now.shown.core.now c.args.actor c.args.draft.now.firings c.requires.some c.requires.suits.can
+
 pub peek-requires-clause-can : goal.peek-requires-clause-can
 peek-requires-clause-can c = rw (c.in_ok-make_room_for.ensures.shown, c.firings-n.ensures) c.requires.suits.can
+
+pub peek-requires-clause-held : goal.peek-requires-clause-held
+peek-requires-clause-held c = rw (c.in_ok-make_room_for.ensures.shown, c.firings-n.ensures) c.requires.suits.held
 
 pub peek-requires-clause-buffer : goal.peek-requires-clause-buffer
 peek-requires-clause-buffer c = rw (c.in_ok-make_room_for.ensures.shown, c.firings-n.ensures)

@@ -7,17 +7,19 @@ use Rattle.csdf_core.specs.Blocks.{AreReadEach}
 use Rattle.csdf_core.specs.Step.{count}
 use Rattle.csdf_floor.specs.Work.{feeds_in}
 use Rattle.csdf_floor.proofs.Books.{book_resized, fetch_length}
+use Rattle.csdf_floor.proofs.Makings.{can_idle}
 use Rattle.csdf_floor.proofs.Works.{item_at}
 use Rattle.csdf_floor.proofs.book.Book.peek.Goals as goal
 use Rattle.csdf_floor.proofs.book.Book.peek.Goals.{After-peek}
 
 pub invariant_of-self : goal.invariant_of-self
-invariant_of-self c = book_resized _ c.self.inside.reads.items c.args.actor _ c.self.invariant (rw (← c.self.view_is) at c.requires.can.idle)
+invariant_of-self c = book_resized _ c.self.inside.reads.items c.args.actor _ c.self.invariant
+    (can_idle c.self.inside.core.plan c.self.inside.core.now c.args.actor c.args.n c.requires.some (rw (← c.self.view_is) at c.requires.can))
 
 module _ (c : After-peek) where
   within : c.args.actor < length c.self.inside.reads.items
   within =
-      let there : c.args.actor < length c.self.inside.core.plan.sources = rw (← c.self.view_is) at c.requires.can.there in
+      let there : c.args.actor < length c.self.inside.core.plan.sources = rw (← c.self.view_is) at c.requires.exists in
       omega (arith, there, c.self.invariant.each_actor, length-map c.self.inside.reads.items (λ v. v.items))
 
   items : (with_items c.index_mut-buffer.result.now c.peek.new.into).items ≡ c.peek.new.into
@@ -40,7 +42,7 @@ returns-clause-read c =
     (sym (get_or-set_same c.self.inside.reads.items c.args.actor (with_items c.index_mut-buffer.result.now c.peek.new.into)
     (with_items c.index_mut-buffer.result.now c.peek.new.into) low)) in
     rw (← c.self.view_is) (subst (λ (ts : List ℤ). AreReadEach c.self.inside.core.plan c.self.inside.core.now c.args.actor
-    (count c.self.inside.core.now c.args.actor) c.args.n ts) held c.peek.ensures.each)
+    (count c.self.inside.core.now c.args.actor) c.args.n ts) held (c.peek.ensures.each (rw (← c.self.view_is) at c.requires.held)))
 
 pub peek-requires-clause-all : goal.peek-requires-clause-all
 peek-requires-clause-all c = grind (arith, common_steps)

@@ -1,13 +1,13 @@
-use Rattle.std.proofs.Common.{◌≡◌, ◌++◌, ℕ, List, [], length, get_or, ap, subst, sym, ◌∙◌}
+use Rattle.std.proofs.Common.{◌≡◌, ◌≤◌, ◌+◌, ◌++◌, ℕ, true, List, [], length, get_or, ap, subst, sym, ◌∙◌}
 use Rattle.std.specs.Prelude.{ℤ}
-use Rattle.csdf_core.specs.Blocks.{CanFire, gifts_of, needs_of}
+use Rattle.csdf_core.specs.Blocks.{gifts_of, needs_of}
 use Rattle.csdf_core.specs.Plan.{Plan}
-use Rattle.csdf_core.specs.Step.{count}
+use Rattle.csdf_core.specs.Step.{count, given, is_source}
 use Rattle.csdf_floor.specs.Journal.{Program}
 use Rattle.csdf_floor.specs.Making.{made_value, phase_values}
 use Rattle.csdf_floor.specs.Work.{feeds_in, program}
 use Rattle.csdf_floor.proofs.Makings.{on_ok}
-use Rattle.csdf_floor.proofs.PhaseValues.{AreInputs, block_long, block_short, block_values, few_numbers, none_written}
+use Rattle.csdf_floor.proofs.PhaseValues.{AreInputs, block_long, block_short, block_values, none_written}
 use Rattle.csdf_floor.proofs.book.Book.phased_values_into.Goals as goal
 use Rattle.csdf_floor.proofs.book.Book.phased_values_into.Goals.{After-clear, After-block_inputs-tokens}
 
@@ -30,10 +30,10 @@ module _ (c : After-clear) where
       let here : c.args.block.given ≡ gifts_of c.self.inside.core.plan.channels c.args.actor k n = rw (← c.self.view_is) at c.requires.given in
       here ∙ ap (λ (u : Plan). gifts_of u.channels c.args.actor k n) c.self.invariant.kept.plan
 
-  can : CanFire p.plan c.self.inside.core.now c.args.actor n
-  can =
-      let here : CanFire c.self.inside.core.plan c.self.inside.core.now c.args.actor n = rw (← c.self.view_is) at c.requires.can in
-      subst (λ (u : Plan). CanFire u c.self.inside.core.now c.args.actor n) c.self.invariant.kept.plan here
+  supply : is_source p.plan c.args.actor ≡ true → given p.plan c.args.actor (k + n) ≤ get_or p.plan.supplies c.args.actor 0
+  supply =
+      subst (λ (u : Plan). is_source u c.args.actor ≡ true → given u c.args.actor (k + n) ≤ get_or u.supplies c.args.actor 0) c.self.invariant.kept.plan
+      (c.keeps_within.ensures.supply c.requires.some)
 
   long : length tokens ≡ needs_of p.plan.channels c.args.actor k n
   long =
@@ -49,12 +49,11 @@ returns-then-written-eq0 c =
 pub block_inputs-tokens-requires-clause-small : goal.block_inputs-tokens-requires-clause-small
 block_inputs-tokens-requires-clause-small c =
     let at : After-clear = (goal.at.block_inputs-tokens-requires-clause-small c).After-clear in
-    rw (← c.self.view_is) (block_short c.self.inside.work c.args.actor (k at) (n at) c.args.block.given c.self.invariant.work (written at) (can at).supply)
+    rw (← c.self.view_is) (block_short c.self.inside.work c.args.actor (k at) (n at) c.args.block.given c.self.invariant.work (written at) (supply at))
 
 pub push_phases-requires-clause-few : goal.push_phases-requires-clause-few
 push_phases-requires-clause-few c =
-    let at : After-clear = (goal.at.push_phases-requires-clause-few c).After-clear in
-    few_numbers c.self.inside.work c.args.actor (k at) (n at) c.self.invariant.work (can at).limit
+    c.keeps_within.ensures.few
 
 -- what the firings compute from
 inputs_are : (c : After-block_inputs-tokens)
@@ -70,7 +69,7 @@ push_phases-requires-clause-tokens c =
     let at : After-clear = (goal.at.push_phases-requires-clause-tokens c).After-clear in
     let from = inputs_are (goal.at.push_phases-requires-clause-tokens c).After-block_inputs-tokens in
     block_long c.self.inside.work c.args.actor (k at) (n at) c.args.block.given (tokens at) c.block_inputs-tokens.result.now (written at) from
-    (can at).supply (long at)
+    (supply at) (long at)
 
 pub returns : goal.returns
 returns c =
@@ -82,3 +81,9 @@ returns c =
     ap (λ (ys : List ℤ). ys ++ phase_values (p at) c.args.actor (k at) (n at) xs) (c.in_ok-reserve.ensures.items ∙ c.clear.ensures.items)
     ∙ block_values (p at) c.args.actor (k at) (n at) c.args.block.given (tokens at) xs (written at) from in
     rw (← c.self.view_is) (on_ok c.push_phases.result _ _ (λ e. e ∙ whole) c.push_phases.ensures)
+
+pub keeps_within-requires-clause-actor : goal.keeps_within-requires-clause-actor
+keeps_within-requires-clause-actor c = rw (← c.self.view_is) at c.requires.exists
+
+pub keeps_within-requires-clause-can : goal.keeps_within-requires-clause-can
+keeps_within-requires-clause-can c = rw (← c.self.view_is) at c.requires.can

@@ -3,7 +3,8 @@ use Rattle.csdf_floor.proofs.book.Book.suits.Goals as goal
 
 pub returns : goal.returns
 returns c = λ e. record {
-  can = rw (← c.self.view_is, ← c.firings-n.ensures) (c.if-not-can_fire.ensures.0 refl);
+  can = rw (← c.firings-n.ensures) (c.if-not-can_make.ensures.can refl);
+  held = rw (← c.firings-n.ensures) (c.if-not-can_make.ensures.held refl);
   phases = rw (← c.self.view_is) (c.if-not-has_one_phase.ensures.each refl);
   other = rw (← c.self.view_is) (sym c.is_source.ensures ∙ c.if-is_source.false);
   kernel = rw (← c.self.view_is) (c.is_of.ensures.kernel e ∙ c.kernel.ensures.value);

@@ -5,7 +5,7 @@ use Rattle.csdf_floor.proofs.work.Work.capacity.Goals as goal
 pub bounds-capacities-channel : goal.bounds-capacities-channel
 bounds-capacities-channel c =
     let lt = rw (← c.self.view_is) at c.requires in
-    let each = c.self.invariant.0.accepted.least.completes.each_channel in
+    let each = c.self.invariant.accepted.least.completes.each_channel in
     let same = length-capacities c.self.inside.accepted.graph.channels c.self.inside.accepted.capacities each in
     omega (arith, lt, each, same, ap length c.capacities.ensures.value)
 
@@ -14,4 +14,4 @@ returns c =
     rw (← c.self.view_is)
     (ap (λ (ns : List ℕ). get_or ns c.args.channel 0)
     (c.capacities.ensures.value ∙ sym (capacities-map c.self.inside.accepted.graph.channels c.self.inside.accepted.capacities
-    c.self.invariant.0.accepted.least.completes.each_channel)))
+    c.self.invariant.accepted.least.completes.each_channel)))

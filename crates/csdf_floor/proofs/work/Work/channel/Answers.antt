@@ -11,7 +11,7 @@ module _ (c : After-channels) where
 
   there : c.args.channel < length c.channels.result.now
   there = in_graph channel_view c.channels.result.now _ c.self.inside.accepted.capacities c.args.channel rows
-      c.self.invariant.0.accepted.least.completes.each_channel (rw (← c.self.view_is) at c.requires)
+      c.self.invariant.accepted.least.completes.each_channel (rw (← c.self.view_is) at c.requires)
 
 module _ (c : After-index-channels-channel) where
   known : c.args.channel < length c.channels.result.now → IsChannel c.graph.result.now.actors (channel_view c.index-channels-channel.result)
@@ -25,7 +25,7 @@ pub returns-clause-value : goal.returns-clause-value
 returns-clause-value c =
     let at : goal.After-channels = (goal.at.returns-clause-value c).After-channels in
     rw (← c.self.view_is) (channel_seen channel_view c.channels.result.now _ c.self.inside.accepted.capacities c.args.channel c.index-channels-channel.result
-    (rows at) c.self.invariant.0.accepted.least.completes.each_channel (there at) c.index-channels-channel.is)
+    (rows at) c.self.invariant.accepted.least.completes.each_channel (there at) c.index-channels-channel.is)
 
 pub returns-clause-produce : goal.returns-clause-produce
 returns-clause-produce c =

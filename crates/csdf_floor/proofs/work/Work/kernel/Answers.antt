@@ -35,4 +35,4 @@ pub returns-clause-in_range : goal.returns-clause-in_range
 returns-clause-in_range c =
     let at : goal.After-index-actors-actor = (goal.at.returns-clause-in_range c).After-index-actors-actor in
     subst HasFilterInRange (sym c.kernel_in.ensures)
-    (in_range c.self.inside.accepted.graph c.args.actor c.index-actors-actor.result.kernel c.self.invariant.0.accepted.well_formed (there at) (own at))
+    (in_range c.self.inside.accepted.graph c.args.actor c.index-actors-actor.result.kernel c.self.invariant.accepted.well_formed (there at) (own at))

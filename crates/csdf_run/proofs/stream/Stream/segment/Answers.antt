@@ -4,7 +4,7 @@ use Rattle.std.specs.Global.{Vec}
 use Rattle.std.specs.List.{zip}
 use Rattle.csdf_analysis.specs.Acceptance.{Accepted, IsAccepted}
 use Rattle.csdf_model.specs.Holding.{HaveAsMany}
-use Rattle.csdf_floor.specs.declared.fault.RunFault.{RunFault}
+use Rattle.csdf_run.specs.declared.no_outcome.NoOutcome.{NoOutcome}
 use Rattle.csdf_floor.specs.declared.outcome.Outcome.{Outcome}
 use Rattle.csdf_floor.specs.Continuing.{AreExact}
 use Rattle.csdf_floor.specs.Outcome.{IsOutcome}
@@ -28,25 +28,25 @@ module _ (g : Over) (c : In-Ok g) where
       ∙ ap (λ (n : ℕ). work_for c.self.inside.accepted (feeds_in c.args.feeds.items) n None) c.new-request.ensures.work.1
       ∙ ap (λ (s : StreamView). work_for s.accepted (feeds_in c.args.feeds.items) c.args.periods None) c.self.view_is
 
-  same : c.outcome_of-fed.result.fed.accepted ≡ c.args.self.accepted
-  same = c.outcome_of-fed.ensures.fed.accepted ∙ ap (λ (w : Work). w.accepted) is_asked
+  same : c.watched_outcome_of-fed.result.fed.accepted ≡ c.args.self.accepted
+  same = c.watched_outcome_of-fed.ensures.fed.accepted ∙ ap (λ (w : Work). w.accepted) is_asked
 
   ok : IsAccepted c.args.self.accepted
   ok = subst (λ (s : StreamView). IsAccepted s.accepted) c.self.view_is c.graph.ensures.accepted
 
   outcome : IsOutcome asked c.in-Ok.outcome
   outcome = subst (λ (w : Work). IsOutcome w c.in-Ok.outcome) is_asked
-      (subst (λ (r : Result Outcome RunFault). IfOk r (IsOutcome c.new-request.result.work)) c.in-Ok.is c.outcome_of-fed.ensures.outcome)
+      (subst (λ (r : Result Outcome NoOutcome). IfOk r (IsOutcome c.new-request.result.work)) c.in-Ok.is c.watched_outcome_of-fed.ensures.outcome)
 
   exact : (c.are_exact-is_exact.result ≡ true) ↔ AreExact c.args.self.accepted (feeds_in c.args.feeds.items) c.args.periods
   exact = subst (λ (s : StreamView). (c.are_exact-is_exact.result ≡ true) ↔ AreExact s.accepted (feeds_in c.args.feeds.items) c.args.periods) c.self.view_is
       (subst (λ (vs : List (Vec ℤ)). (c.are_exact-is_exact.result ≡ true) ↔ AreExact c.self.inside.accepted (feeds_in vs) c.args.periods)
       c.deref.ensures.value c.are_exact-is_exact.ensures)
 
-  each_channel : length c.self.inside.totals.items ≡ length c.outcome_of-fed.result.fed.accepted.graph.channels
+  each_channel : length c.self.inside.totals.items ≡ length c.watched_outcome_of-fed.result.fed.accepted.graph.channels
   each_channel = c.self.invariant ∙ ap (λ (a : Accepted). length a.graph.channels) (ap (λ (s : StreamView). s.accepted) c.self.view_is ∙ sym same)
 
-  each_told : length c.in-Ok.outcome.report.items ≡ length c.outcome_of-fed.result.fed.accepted.graph.channels
+  each_told : length c.in-Ok.outcome.report.items ≡ length c.watched_outcome_of-fed.result.fed.accepted.graph.channels
   each_told = told_each asked c.in-Ok.outcome ok outcome ∙ ap (λ (a : Accepted). length a.graph.channels) (sym same)
 
 pub after-stream-requires-clause-each_channel : goal.after-stream-requires-clause-each_channel

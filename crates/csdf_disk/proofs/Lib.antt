@@ -1,0 +1,2 @@
+pub mod MakeLemmas
+pub mod PutLemmas

@@ -1,0 +1,6 @@
+pub mod Acts
+pub mod Contents
+pub mod Places
+pub mod SystemCalls
+pub mod Terminals
+pub mod TokenFiles

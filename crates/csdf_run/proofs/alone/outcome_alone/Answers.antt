@@ -1,0 +1,22 @@
+use Rattle.std.proofs.Common.{◌≡◌, ℕ, subst, ◌∙◌}
+use Rattle.std.specs.Prelude.{Bool, IfOk}
+use Rattle.csdf_floor.specs.Outcome.{IsOutcome}
+use Rattle.csdf_floor.specs.Work.{Work}
+use Rattle.csdf_run.proofs.RunFaults.{told_ok, where_ok}
+use Rattle.csdf_run.proofs.alone.outcome_alone.Goals as goal
+
+pub returns-in-Ok-make_all-clause-outcome : goal.returns-in-Ok-make_all-clause-outcome
+returns-in-Ok-make_all-clause-outcome g c =
+    told_ok (IsOutcome c.args.request.work) c.into_settled.result.outcome c.told_of.result.outcome _ c.told_of.ensures.told c.told_of.ensures.memory
+    (subst (λ (w : Work). IfOk c.into_settled.result.outcome (IsOutcome w)) (c.make_all.ensures.work ∙ c.in-Ok-into_floor.ensures.work) c.into_settled.ensures.outcome)
+
+pub returns-in-Ok-make_all-clause-most : goal.returns-in-Ok-make_all-clause-most
+returns-in-Ok-make_all-clause-most g c =
+    where_ok _ c.told_of.result.outcome
+    (subst (λ (n : ℕ). g.G.Told.knows_most c.args.gate.now n) c.most_firings-most.ensures c.tell_most.ensures)
+
+pub returns-in-Ok-make_all-clause-keeps : goal.returns-in-Ok-make_all-clause-keeps
+returns-in-Ok-make_all-clause-keeps g c =
+    told_ok (λ o. o.journal.keeps ≡ c.args.request.keeps) c.into_settled.result.outcome c.told_of.result.outcome _ c.told_of.ensures.told c.told_of.ensures.memory
+    (subst (λ (b : Bool). IfOk c.into_settled.result.outcome (λ o. o.journal.keeps ≡ b)) (c.make_all.ensures.keeps ∙ c.in-Ok-into_floor.ensures.keeps)
+    c.into_settled.ensures.keeps)

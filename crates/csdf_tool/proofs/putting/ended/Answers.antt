@@ -1,5 +1,0 @@
-use Rattle.std.proofs.Common.{rules}
-use Rattle.csdf_tool.proofs.putting.ended.Goals as goal
-
-pub returns-then-is_err-clause-well : goal.returns-then-is_err-clause-well
-returns-then-is_err-clause-well c = search rules
