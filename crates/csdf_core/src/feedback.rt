@@ -262,7 +262,7 @@ impl Core {
     /// What the actor keeps its state in: `None` where it has no channel to itself or more than one, where its
     /// firings take and give not as many tokens of it, for an actor of several phases, and for one with more than one
     /// other input.
-    fn feedback(&self, actor: u32) -> Option<Feedback>
+    pub fn feedback(&self, actor: u32) -> Option<Feedback>
         requires { actor < length self.now.plan.sources }
         ensures { IfSome result (IsFeedback self.now.plan actor) }
     {
@@ -292,7 +292,7 @@ impl Core {
 
     /// Whether the actor can make its next n firings one after the other, with no other's move between them: each of
     /// their moves is then accepted. The channel to itself has to hold just the tokens of one firing.
-    fn can_go_on(&self, actor: u32, feedback: Feedback, n: u32) -> bool
+    pub fn can_go_on(&self, actor: u32, feedback: Feedback, n: u32) -> bool
         requires actor { actor < length self.now.plan.sources }
         requires feedback { IsFeedback self.now.plan actor feedback }
         ensures { IsTrue result ↔ CanGoOn self.now.plan self.now.now actor feedback.channel n }
@@ -325,19 +325,6 @@ impl Core {
             return false;
         }
         true
-    }
-
-    /// The channel in which the actor keeps its state, where its next n firings can be made in one go.
-    pub fn goes_on(&self, actor: u32, n: u32) -> Option<Feedback>
-        requires { actor < length self.now.plan.sources }
-        ensures feedback { IfSome result (IsFeedback self.now.plan actor) }
-        ensures can { IfSome result (λ f. CanGoOn self.now.plan self.now.now actor f.channel n) }
-    {
-        let feedback = self.feedback(actor)?;
-        if !self.can_go_on(actor, feedback, n) {
-            return None;
-        }
-        Some(feedback)
     }
 
     /// Whether so many firings more may begin, of all actors together.

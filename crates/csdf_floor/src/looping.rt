@@ -69,7 +69,11 @@ impl Book {
         if self.work.is_sink(actor) {
             return None;
         }
-        self.core.goes_on(actor, n)
+        let feedback = self.core.feedback(actor)?;
+        if !self.core.can_go_on(actor, feedback, n) {
+            return None;
+        }
+        Some(feedback)
     }
 
     /// The kernel's values of the actor's next n firings, in the place of what the outputs hold. The buffer is long
