@@ -34,8 +34,8 @@ use Rattle.csdf_tool.specs.Flows.{source_fault, stream_fault, unmade_of}
 use Rattle.csdf_tool.specs.Places.{in_file, out_file}
 use Rattle.csdf_tool.specs.Reports.{TellsStream, clipped_items, flow_items}
 use Rattle.csdf_tool.specs.Running.{put_fault, run_fault}
-use Rattle.csdf_tool.specs.declared.flow_fault.Side.{Side}
-use Rattle.csdf_tool.specs.declared.flow_fault.Side.TheVariants as side
+use Rattle.csdf_tool.specs.declared.flow_fault.Medium.{Medium}
+use Rattle.csdf_tool.specs.declared.flow_fault.Medium.TheVariants as medium
 use Rattle.csdf_tool.specs.declared.flow_files.FlowFile.{FlowFile}
 use Rattle.csdf_tool.specs.declared.flow_files.Unkept.{Unkept}
 use Rattle.csdf_disk.specs.declared.put_fault.PutFault.{PutFault}
@@ -194,13 +194,13 @@ module _ (order : StreamOrder) (a : Accepted) {ls lt rs rt bs bt as_ at_ : List 
       → IfOk result (λ report. IsFlow order a (flow lt rt bt at_) report.items)
   flow_as result h = subst (λ (d : Flow). IfOk result (λ report. IsFlow order a d report.items)) same_flow h
 
-  pub stopped_as : (side : Side) {ins jns outs puts : List Bool} → ins ≡ jns → outs ≡ puts → (result : Result (Vec ℕ) ToolFault)
-      → IfErr result (λ f. (f ≡ fault.Memory) ⊎ IsStoppedBy order side a (flow ls rs bs as_) ins outs f)
-      → IfErr result (λ f. (f ≡ fault.Memory) ⊎ IsStoppedBy order side a (flow lt rt bt at_) jns puts f)
-  stopped_as side {ins} {jns} {outs} {puts} i o result h =
-      subst (λ (ms : List Bool). IfErr result (λ f. (f ≡ fault.Memory) ⊎ IsStoppedBy order side a (flow lt rt bt at_) jns ms f)) o
-      (subst (λ (ms : List Bool). IfErr result (λ f. (f ≡ fault.Memory) ⊎ IsStoppedBy order side a (flow lt rt bt at_) ms outs f)) i
-      (subst (λ (d : Flow). IfErr result (λ f. (f ≡ fault.Memory) ⊎ IsStoppedBy order side a d ins outs f)) same_flow h))
+  pub stopped_as : (medium : Medium) {ins jns outs puts : List Bool} → ins ≡ jns → outs ≡ puts → (result : Result (Vec ℕ) ToolFault)
+      → IfErr result (λ f. (f ≡ fault.Memory) ⊎ IsStoppedBy order medium a (flow ls rs bs as_) ins outs f)
+      → IfErr result (λ f. (f ≡ fault.Memory) ⊎ IsStoppedBy order medium a (flow lt rt bt at_) jns puts f)
+  stopped_as medium {ins} {jns} {outs} {puts} i o result h =
+      subst (λ (ms : List Bool). IfErr result (λ f. (f ≡ fault.Memory) ⊎ IsStoppedBy order medium a (flow lt rt bt at_) jns ms f)) o
+      (subst (λ (ms : List Bool). IfErr result (λ f. (f ≡ fault.Memory) ⊎ IsStoppedBy order medium a (flow lt rt bt at_) ms outs f)) i
+      (subst (λ (d : Flow). IfErr result (λ f. (f ≡ fault.Memory) ⊎ IsStoppedBy order medium a d ins outs f)) same_flow h))
 
 -- ---- the graph as it goes on
 
@@ -235,7 +235,7 @@ module _ (a b : Accepted) (alike : IsAlike a b) where
 
 -- the device of a stream that has failed is standard output, where it is told so
 module _ (names : List (List ℕ)) (sources sinks : List ℕ) (ins : List Bool) (mark : Bool) where
-  by_source : (name : List ℕ) (f : ReaderFault) → source_fault side.Standard name f ≡ fault.Device Output → ⊥
+  by_source : (name : List ℕ) (f : ReaderFault) → source_fault medium.Standard name f ≡ fault.Device Output → ⊥
   by_source name reading.Read e = cc
   by_source name (reading.Syntax line) e = cc
   by_source name (reading.Range line) e = cc
@@ -253,7 +253,7 @@ module _ (names : List (List ℕ)) (sources sinks : List ℕ) (ins : List Bool) 
   marked_one (x ∷ y ∷ actors) k lt le is = absurd (omega (arith, le))
 
   pub output_failed : (stop : StreamFault) → length sinks ≤ 1 → IsMarked sources sinks ins (one_for sinks mark) stop
-      → stream_fault side.Standard names stop ≡ fault.Device Output → mark ≡ true
+      → stream_fault medium.Standard names stop ≡ fault.Device Output → mark ≡ true
   output_failed (why.Source i f) le is e = absurd (by_source (name_at names i) f e)
   output_failed (why.TooMany i) le is e = absurd (cc)
   output_failed (why.Sink t) le is e = marked_one sinks is.0 is.1 le is.3
@@ -261,7 +261,7 @@ module _ (names : List (List ℕ)) (sources sinks : List ℕ) (ins : List Bool) 
   output_failed why.Memory le is e = absurd (cc)
 
 -- a stream over files is stopped for no failure of standard output
-pub files_stop : (names : List (List ℕ)) (stop : StreamFault) → stream_fault side.Files names stop ≢ fault.Device Output
+pub files_stop : (names : List (List ℕ)) (stop : StreamFault) → stream_fault medium.Files names stop ≢ fault.Device Output
 files_stop names (why.Source i reading.Read) e = cc
 files_stop names (why.Source i (reading.Syntax line)) e = cc
 files_stop names (why.Source i (reading.Range line)) e = cc

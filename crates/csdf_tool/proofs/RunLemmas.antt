@@ -42,7 +42,7 @@ use Rattle.csdf_tool.specs.Reports.{TellsReport, report_object}
 use Rattle.csdf_tool.specs.Running.{AreNamedAlike, EndsBeforeFiles, EndsOnFiles, IsCutShort, IsKeptFrom, IsUnput, LacksFeed, RefusesGraphRun, RefusesRun, RunsOn, StopsOnPlaces, StopsOnTexts, StopsRun, Written}
 use Rattle.csdf_tool.specs.GraphFiles.{graph_reads}
 use Rattle.csdf_tool.specs.Running.{feed_fault, feed_paths, feed_reads, files_of, journal_files, out_file, put_fault, put_whole, run_asks, run_reads, sink_files_from, tokens_fault, token_fault}
-use Rattle.csdf_tool.specs.declared.run_files.Ran.{Ran}
+use Rattle.csdf_tool.specs.declared.run_files.RunOfGraph.{RunOfGraph}
 use Rattle.csdf_disk.specs.declared.put_fault.PutFault.{PutFault}
 use Rattle.csdf_disk.specs.declared.put_fault.PutFault.TheVariants as put
 use Rattle.csdf_tool.proofs.CauseLemmas.{memory_or_not}
@@ -372,13 +372,13 @@ pub on_ok : {X E : Type 0} (r : Result X E) (P : Type 0) → P → OnOk r P
 on_ok (Ok x) P p = p
 on_ok (Err e) P p = tt
 
-pub both_errs : (r : Result Ran ToolFault) (P : Type 0) (Q : ToolFault → Type 0) → OnErr r P → IfErr r Q → IfErr r (λ f. P × Q f)
+pub both_errs : (r : Result RunOfGraph ToolFault) (P : Type 0) (Q : ToolFault → Type 0) → OnErr r P → IfErr r Q → IfErr r (λ f. P × Q f)
 both_errs (Ok ran) P Q p q = tt
 both_errs (Err f) P Q p q = (p, q)
 
 -- the run of a graph is that of its file
 pub ran_of_file : (order : Order) (left : Option (List ℕ)) (g : Graph) (bytes : List ℕ) (feeds : List (List ℕ)) (a b c : Option (List Act)) (keeps : Bool)
-    (r : Result Ran ToolFault) → IsNamed order.graph left bytes → IsGraphOf bytes (Ok g) → Asks a b (run_reads order g bytes feeds) → is_some order.journal ≡ keeps
+    (r : Result RunOfGraph ToolFault) → IsNamed order.graph left bytes → IsGraphOf bytes (Ok g) → Asks a b (run_reads order g bytes feeds) → is_some order.journal ≡ keeps
     → IfOk r (λ ran. IsGraphRun order.room g feeds order.how_long order.firings ran.outcome)
     → IfOk r (λ ran. IsSequentialGraphRun order.room g feeds order.how_long order.firings ran.outcome) → IfOk r (λ ran. ran.outcome.journal.keeps ≡ keeps)
     → IfOk r (λ ran. AreNamedAlike g ran.graph)

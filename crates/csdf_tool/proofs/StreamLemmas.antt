@@ -33,7 +33,7 @@ use Rattle.csdf_tool.specs.Flows.{Through, StopsOverFiles, StopsOverStandard, fl
 use Rattle.csdf_tool.specs.GraphFiles.{IsGivenBy}
 use Rattle.csdf_tool.specs.Places.{Apart, sink_places}
 use Rattle.csdf_tool.specs.Reports.{TellsStream}
-use Rattle.csdf_tool.specs.declared.flow_fault.Side.TheVariants as side
+use Rattle.csdf_tool.specs.declared.flow_fault.Medium.TheVariants as medium
 use Rattle.csdf_tool.specs.declared.flow_files.FlowFile.{FlowFile}
 use Rattle.csdf_tool.proofs.FlowLemmas.{as_many_sinks, as_many_sources, report_alike}
 use Rattle.csdf_tool.proofs.RunLemmas.{alike_with}
@@ -74,13 +74,13 @@ fits_standard order bytes a none is =
 -- ---- over files that were made
 
 pub given_up : (order : StreamOrder) (a : Accepted) (files : List Placed) (before after : Option (List Act)) (n : ℕ) (f : ToolFault) (d : Flow) (ins outs : List Bool)
-    → length files ≤ n → (f ≡ fault.Memory) ⊎ IsStoppedBy order side.Files a d ins outs f → Asks before after (map leave_of (take n files))
+    → length files ≤ n → (f ≡ fault.Memory) ⊎ IsStoppedBy order medium.Files a d ins outs f → Asks before after (map leave_of (take n files))
     → StopsMade order a files before after f
 given_up order a files before after n f d ins outs many why left =
     inl (subst (λ (fs : List Placed). Asks before after (map leave_of fs)) (take_all n files many) left, by why)
   where
-    by : (f ≡ fault.Memory) ⊎ IsStoppedBy order side.Files a d ins outs f
-        → (f ≡ fault.Memory) ⊎ ((d : Flow) × (ins : List Bool) × (outs : List Bool) × IsStoppedBy order side.Files a d ins outs f)
+    by : (f ≡ fault.Memory) ⊎ IsStoppedBy order medium.Files a d ins outs f
+        → (f ≡ fault.Memory) ⊎ ((d : Flow) × (ins : List Bool) × (outs : List Bool) × IsStoppedBy order medium.Files a d ins outs f)
     by (inl memory) = inl memory
     by (inr stopped) = inr (d, ins, outs, stopped)
 
@@ -181,7 +181,7 @@ module _ (order : StreamOrder) (folders : FolderNames) (left : Option (List ℕ)
 
 pub stops_standard : (order : StreamOrder) (d : Devices) (t : Through) (m : Marks) (a : Accepted) (left : Option (List ℕ)) → left ≡ t.left
     → (bytes : List ℕ) × IsGivenBy order.graph d bytes × IsAcceptedOf order bytes a → (f : ToolFault)
-    → (f ≡ fault.Memory) ⊎ IsStoppedBy order side.Standard a (standard_flow a.graph left t.rest t.before t.after) (one_for (sources_in a.graph) m.input)
+    → (f ≡ fault.Memory) ⊎ IsStoppedBy order medium.Standard a (standard_flow a.graph left t.rest t.before t.after) (one_for (sources_in a.graph) m.input)
     (one_for (sinks_in a.graph) m.output) f → StopsOverStandard order d t m f
 stops_standard order d t m a left same (bytes, given, is) f why = record {
   bytes = bytes;
@@ -189,7 +189,7 @@ stops_standard order d t m a left same (bytes, given, is) f why = record {
   given = given;
   is = is;
   stops =
-      subst (λ (all : Option (List ℕ)). (f ≡ fault.Memory) ⊎ IsStoppedBy order side.Standard a (standard_flow a.graph all t.rest t.before t.after)
+      subst (λ (all : Option (List ℕ)). (f ≡ fault.Memory) ⊎ IsStoppedBy order medium.Standard a (standard_flow a.graph all t.rest t.before t.after)
       (one_for (sources_in a.graph) m.input) (one_for (sinks_in a.graph) m.output) f) same why;
 }
 

@@ -35,8 +35,8 @@ use Rattle.csdf_tool.specs.GraphFiles.{IsGivenBy, IsNotGiven, is_input}
 use Rattle.csdf_tool.specs.Places.{Apart, IsInUse, in_file, out_file, sink_places}
 use Rattle.csdf_tool.specs.Reports.{TellsStream}
 use Rattle.csdf_tool.specs.Running.{put_fault, run_fault}
-use Rattle.csdf_tool.specs.declared.flow_fault.Side.{Side}
-use Rattle.csdf_tool.specs.declared.flow_fault.Side.TheVariants as side
+use Rattle.csdf_tool.specs.declared.flow_fault.Medium.{Medium}
+use Rattle.csdf_tool.specs.declared.flow_fault.Medium.TheVariants as medium
 use Rattle.csdf_tool.specs.declared.flow_files.FlowFile.{FlowFile}
 use Rattle.csdf_tool.specs.declared.flow_files.Unkept.{Unkept}
 use Rattle.csdf_disk.specs.declared.put_fault.PutFault.{PutFault}
@@ -77,22 +77,22 @@ RefusesStream order bytes fault =
 -- ---- why a stream stopped, as the program tells it
 
 -- where the tokens of a source come from, by its name, and where those of a sink go to
-abbrev pub source_stream : Side → List ℕ → Stream
-source_stream side.Standard name = Input
-source_stream side.Files name = File (in_file name)
+abbrev pub source_stream : Medium → List ℕ → Stream
+source_stream medium.Standard name = Input
+source_stream medium.Files name = File (in_file name)
 
-abbrev pub sink_stream : Side → List ℕ → Stream
-sink_stream side.Standard name = Output
-sink_stream side.Files name = File (out_file name)
+abbrev pub sink_stream : Medium → List ℕ → Stream
+sink_stream medium.Standard name = Output
+sink_stream medium.Files name = File (out_file name)
 
-abbrev pub source_fault : Side → List ℕ → ReaderFault → ToolFault
+abbrev pub source_fault : Medium → List ℕ → ReaderFault → ToolFault
 source_fault on name reading.Read = Device (source_stream on name)
 source_fault on name (reading.Syntax line) = TokenSyntax name line
 source_fault on name (reading.Range line) = TokenRange name line
 source_fault on name (reading.CutOff number) = TokenCutOff name number
 source_fault on name reading.Memory = Memory
 
-abbrev pub stream_fault : Side → List (List ℕ) → StreamFault → ToolFault
+abbrev pub stream_fault : Medium → List (List ℕ) → StreamFault → ToolFault
 stream_fault on names (why.Source i fault) = source_fault on (name_at names i) fault
 stream_fault on names (why.TooMany i) = TooManyTokens (name_at names i)
 stream_fault on names (why.Sink t) = Device (sink_stream on (name_at names t))
@@ -100,7 +100,7 @@ stream_fault on names (why.Run fault) = run_fault fault
 stream_fault on names why.Memory = Memory
 
 -- the stream of an accepted graph was stopped, and the fault tells why, or want of memory for it
-pub record IsStoppedBy (order : StreamOrder) (on : Side) (a : Accepted) (d : Flow) (ins outs : List Bool) (fault : ToolFault) : Type 0 where
+pub record IsStoppedBy (order : StreamOrder) (on : Medium) (a : Accepted) (d : Flow) (ins outs : List Bool) (fault : ToolFault) : Type 0 where
   pub stop : StreamFault
   pub stopped : IsStopped a order.format (most_workers order.workers) d stop
   pub marked : IsMarked (sources_in a.graph) (sinks_in a.graph) ins outs stop
@@ -316,12 +316,12 @@ pub record StopsFlowing (order : StreamOrder) (folders : FolderNames) (a : Accep
   pub made : Option (List Act)
   pub ready : AreReady folders a.graph before made
   pub left : Asks made after (map leave_of (sinks_at folders.sinks a.graph.actors))
-  pub stopped : (fault ≡ Memory) ⊎ ((d : Flow) × (ins : List Bool) × (outs : List Bool) × IsStoppedBy order side.Files a d ins outs fault)
+  pub stopped : (fault ≡ Memory) ⊎ ((d : Flow) × (ins : List Bool) × (outs : List Bool) × IsStoppedBy order medium.Files a d ins outs fault)
 
 -- why a stream over files that were made has no report, or its sinks' files were not all put in their places: the files were given up, or one was not put
 abbrev pub StopsMade : StreamOrder → Accepted → List Placed → Option (List Act) → Option (List Act) → ToolFault → Type 0
 StopsMade order a files before after fault =
-    (Asks before after (map leave_of files) × ((fault ≡ Memory) ⊎ ((d : Flow) × (ins : List Bool) × (outs : List Bool) × IsStoppedBy order side.Files a d ins outs fault)))
+    (Asks before after (map leave_of files) × ((fault ≡ Memory) ⊎ ((d : Flow) × (ins : List Bool) × (outs : List Bool) × IsStoppedBy order medium.Files a d ins outs fault)))
     ⊎ ((d : Flow) × (report : List ℕ) × (acts : List Act) × IsFlow order a d report × Asks before after acts × IsUnkept files d.after acts fault)
 
 -- the stream was run, and a sink's file was not put in its place
@@ -373,7 +373,7 @@ pub record StopsOverStandard (order : StreamOrder) (d : Devices) (t : Through) (
   pub accepted : Accepted
   pub given : IsGivenBy order.graph d bytes
   pub is : IsAcceptedOf order bytes accepted
-  pub stops : (fault ≡ Memory) ⊎ IsStoppedBy order side.Standard accepted (standard_flow accepted.graph t.left t.rest t.before t.after)
+  pub stops : (fault ≡ Memory) ⊎ IsStoppedBy order medium.Standard accepted (standard_flow accepted.graph t.left t.rest t.before t.after)
       (one_for (sources_in accepted.graph) m.input) (one_for (sinks_in accepted.graph) m.output) fault
 
 -- why nothing is streamed from standard input to standard output: it is to be the graph file too, no bytes came of the graph file, they are no graph to be

@@ -1,11 +1,11 @@
 -- What is told of a run on the way.
 use Rattle.std.specs.Prelude.{ℕ, ◌+◌, ◌/◌, Bool, not, List, [], ◌++◌, ◌==◌, Option, Some, None, codes, min, if◌then◌else◌}
 use Rattle.std.specs.Fmt.{decimal}
-use Rattle.csdf_tool.specs.declared.telling.Beside.{Beside}
-use Rattle.csdf_tool.specs.declared.telling.Line.{Line}
+use Rattle.csdf_tool.specs.declared.telling.Extra.{Extra}
+use Rattle.csdf_tool.specs.declared.telling.ProgressLine.{ProgressLine}
 
 -- how many firings were made, what stands beside, and whether it is the last line
-abbrev pub line : ℕ → Beside → Bool → Line
+abbrev pub line : ℕ → Extra → Bool → ProgressLine
 line made beside last = record { made = made; beside = beside; is_last = last }
 
 -- of how many at most, where that is known
@@ -19,11 +19,11 @@ crew_text None = []
 crew_text (Some count) = codes ", workers: " ++ decimal count
 
 -- the firings behind a carriage return, which puts the line in the place of the one before it
-abbrev pub firings_text : ℕ → Beside → List ℕ
+abbrev pub firings_text : ℕ → Extra → List ℕ
 firings_text made b = codes "\rcsdf: " ++ decimal made ++ most_text b.most ++ codes " firings" ++ crew_text b.crew
 
 -- a line; a newline ends the last one
-abbrev pub line_text : Line → List ℕ
+abbrev pub line_text : ProgressLine → List ℕ
 line_text l = if l.is_last then firings_text l.made l.beside ++ codes "\n" else firings_text l.made l.beside
 
 -- how many firings were made with these, as far as 64 bits tell

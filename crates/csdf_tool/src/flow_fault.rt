@@ -13,7 +13,7 @@ use std::alloc::{AllocError, Global};
 
 /// Where the tokens of a stream come from and go to.
 #[derive(Clone, Copy)]
-pub(crate) enum Side {
+pub(crate) enum Medium {
     /// Standard input and standard output.
     Standard,
     /// The files of folders.
@@ -21,12 +21,12 @@ pub(crate) enum Side {
 }
 
 /// Where the tokens of a source come from.
-fn source_stream(alloc: Global, side: Side, source: &str) -> Result<Stream, AllocError>
-    ensures { IfOk result (λ stream. stream ≡ source_stream side source.now) }
+fn source_stream(alloc: Global, medium: Medium, source: &str) -> Result<Stream, AllocError>
+    ensures { IfOk result (λ stream. stream ≡ source_stream medium source.now) }
 {
-    match side {
-        Side::Standard => Ok(Stream::Input),
-        Side::Files => {
+    match medium {
+        Medium::Standard => Ok(Stream::Input),
+        Medium::Files => {
             let file = Name::with_ending(alloc, source, ".in")?;
             Ok(Stream::File(file))
         }
@@ -34,12 +34,12 @@ fn source_stream(alloc: Global, side: Side, source: &str) -> Result<Stream, Allo
 }
 
 /// Where the tokens of a sink go to.
-fn sink_stream(alloc: Global, side: Side, sink: &str) -> Result<Stream, AllocError>
-    ensures { IfOk result (λ stream. stream ≡ sink_stream side sink.now) }
+fn sink_stream(alloc: Global, medium: Medium, sink: &str) -> Result<Stream, AllocError>
+    ensures { IfOk result (λ stream. stream ≡ sink_stream medium sink.now) }
 {
-    match side {
-        Side::Standard => Ok(Stream::Output),
-        Side::Files => {
+    match medium {
+        Medium::Standard => Ok(Stream::Output),
+        Medium::Files => {
             let file = Name::with_ending(alloc, sink, ".out")?;
             Ok(Stream::File(file))
         }
@@ -49,11 +49,11 @@ fn sink_stream(alloc: Global, side: Side, sink: &str) -> Result<Stream, AllocErr
 /// Why no token came of a source.
 fn source_fault(
     alloc: Global,
-    side: Side,
+    medium: Medium,
     source: &str,
     fault: ReaderFault,
 ) -> Result<ToolFault, AllocError>
-    ensures { IfOk result (λ told. told ≡ source_fault side source.now fault) }
+    ensures { IfOk result (λ told. told ≡ source_fault medium source.now fault) }
 {
     let name = Name::new(alloc, source)?;
     match fault {
@@ -62,7 +62,7 @@ fn source_fault(
         ReaderFault::CutOff(number) => Ok(ToolFault::TokenCutOff(name, number)),
         ReaderFault::Memory => Ok(ToolFault::Memory),
         ReaderFault::Read => {
-            let stream = source_stream(alloc, side, source)?;
+            let stream = source_stream(alloc, medium, source)?;
             Ok(ToolFault::Device(stream))
         }
     }
@@ -71,22 +71,22 @@ fn source_fault(
 /// Why a stream stopped, as the program tells it: actors by their names, and their devices.
 pub(crate) fn stream_fault(
     alloc: Global,
-    side: Side,
+    medium: Medium,
     actors: &[Actor],
     fault: StreamFault,
 ) -> Result<ToolFault, AllocError>
-    ensures { IfOk result (λ told. told ≡ stream_fault side (actor_names (map actor_view actors.now)) fault) }
+    ensures { IfOk result (λ told. told ≡ stream_fault medium (actor_names (map actor_view actors.now)) fault) }
 {
     match fault {
         StreamFault::Source(actor, fault) => {
-            source_fault(alloc, side, actor_name(actors, actor as usize), fault)
+            source_fault(alloc, medium, actor_name(actors, actor as usize), fault)
         }
         StreamFault::TooMany(actor) => {
             let name = Name::new(alloc, actor_name(actors, actor as usize))?;
             Ok(ToolFault::TooManyTokens(name))
         }
         StreamFault::Sink(actor) => {
-            let stream = sink_stream(alloc, side, actor_name(actors, actor as usize))?;
+            let stream = sink_stream(alloc, medium, actor_name(actors, actor as usize))?;
             Ok(ToolFault::Device(stream))
         }
         StreamFault::Run(fault) => Ok(run_fault(fault)),

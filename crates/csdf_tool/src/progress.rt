@@ -2,7 +2,7 @@
 
 ghost use Rattle.std.specs.Prelude.{None};
 
-use crate::telling::{Beside, Line, Telling, tell_begin, tell_end, tell_made};
+use crate::telling::{Extra, ProgressLine, Teller, tell_begin, tell_end, tell_made};
 use csdf_analysis::Length;
 use csdf_bytes::DeviceFailed;
 use csdf_run::Watch;
@@ -13,10 +13,10 @@ use std::sync::atomic::{AtomicBool, AtomicU64};
 #[derive(Clone, Copy)]
 struct OnError<'a, R>(&'a R);
 
-impl<R: Eprint> Telling for OnError<'_, R> {
+impl<R: Eprint> Teller for OnError<'_, R> {
     ghost told = { λ _. None };
 
-    fn tell(&mut self, line: Line) -> Result<(), DeviceFailed> {
+    fn tell(&mut self, line: ProgressLine) -> Result<(), DeviceFailed> {
         eprint!(self.0; "{line}").map_err(|_| DeviceFailed)
     }
 }
@@ -57,13 +57,13 @@ impl<'a, R: Eprint> Progress<'a, R> {
     }
 
     /// What is told beside the firings that were made.
-    fn beside(&self) -> Beside {
+    fn beside(&self) -> Extra {
         let most = if self.has_most {
             Some(self.most.load(SeqCst))
         } else {
             None
         };
-        Beside {
+        Extra {
             most,
             crew: self.crew,
         }
@@ -100,14 +100,14 @@ impl<R: Eprint + Sync> Watch for Progress<'_, R> {
 pub(crate) struct FlowProgress<'a, R> {
     rt: &'a R,
     is_asked: bool,
-    beside: Beside,
+    beside: Extra,
     made: AtomicU64,
 }
 
 impl<'a, R: Eprint> FlowProgress<'a, R> {
     /// Of a stream that begins.
     pub(crate) fn begin(rt: &'a R, is_asked: bool, crew: Option<u32>) -> FlowProgress<'a, R> {
-        let beside = Beside { most: None, crew };
+        let beside = Extra { most: None, crew };
         let _ = tell_begin(&mut OnError(rt), is_asked, beside);
         FlowProgress {
             rt,

@@ -141,7 +141,7 @@ fn tokens_fault(alloc: Global, graph: &Graph, fault: TokensFault) -> Result<Tool
 
 /// The graph of a run as it was handed back, and the outcome.
 #[derive(Drop)]
-struct Ran {
+struct RunOfGraph {
     graph: Graph,
     outcome: Outcome,
 }
@@ -152,7 +152,7 @@ fn ran_over<R: AllocGlobal + Eprint + Threads + Wait + Sync>(
     graph: Graph,
     feeds: Result<Vec<Vec<i32>>, FeedFault>,
     order: RunWords<'_>,
-) -> Result<Ran, ToolFault>
+) -> Result<RunOfGraph, ToolFault>
     requires read { (texts : List (List ℕ)) × AreReadOf graph.actors texts feeds }
     ensures told { (texts : List (List ℕ)) → AreReadOf graph.actors texts feeds
         → IfOk result (λ ran. IsGraphRun order.entry.options.room graph texts order.entry.options.how_long order.entry.options.firings ran.outcome) }
@@ -172,7 +172,7 @@ fn ran_over<R: AllocGlobal + Eprint + Threads + Wait + Sync>(
     let TokensRun { graph, outcome } = run_tokens(rt, alloc, graph, feeds, options, &progress);
     progress.end();
     match outcome {
-        Ok(outcome) => Ok(Ran { graph, outcome }),
+        Ok(outcome) => Ok(RunOfGraph { graph, outcome }),
         Err(fault) => Err(tokens_fault(alloc, &graph, fault)?),
     }
 }
@@ -184,7 +184,7 @@ fn ran_apart<R: AllocGlobal + Eprint + Threads + Wait + Sync, D: Disk>(
     graph: Graph,
     feeds: Result<Vec<Vec<i32>>, FeedFault>,
     order: RunWords<'_>,
-) -> Result<Ran, ToolFault>
+) -> Result<RunOfGraph, ToolFault>
     requires read { (texts : List (List ℕ)) × AreReadOf graph.actors texts feeds }
     ensures told { (texts : List (List ℕ)) → AreReadOf graph.actors texts feeds
         → IfOk result (λ ran. IsGraphRun order.entry.options.room graph texts order.entry.options.how_long order.entry.options.firings ran.outcome) }
@@ -208,7 +208,7 @@ fn ran_by<R: AllocGlobal + Eprint + Threads + Wait + Sync, D: Disk, I: Intake>(
     disk: &mut D,
     order: RunWords<'_>,
     reader: &mut I,
-) -> Result<Ran, ToolFault>
+) -> Result<RunOfGraph, ToolFault>
     ensures ran { IfOk result (λ ran. (graph : GraphModel) × (bytes : List ℕ) × (feeds : List (List ℕ))
         × RunsOn (order_view order.entry) (I.left reader.old) graph bytes feeds ran.outcome
         × AreNamedAlike graph ran.graph × (looks : List Act) × Apart (listed_files (order_view order.entry) graph.actors) looks
@@ -286,7 +286,7 @@ fn journal_file<'a>(
 fn files_of<'a>(
     alloc: Global,
     order: RunWords<'a>,
-    ran: &'a Ran,
+    ran: &'a RunOfGraph,
     moves: Option<&'a [u8]>,
 ) -> Result<Vec<SinkFile<'a>>, AllocError>
     ensures { IfOk result (λ files. map file_view files.items
@@ -317,7 +317,7 @@ fn put_listed<D: Disk>(
     alloc: Global,
     disk: &mut D,
     order: RunWords<'_>,
-    ran: &Ran,
+    ran: &RunOfGraph,
     moves: Option<&[u8]>,
 ) -> Result<(), ToolFault>
     ensures put { option_map (λ m. m.now) moves.entry ≡ kept_script ran.now.graph ran.now.outcome.journal → OnOk result (Asks (D.acts disk.old) (D.acts disk.new)
@@ -337,7 +337,7 @@ fn put_sinks<D: Disk>(
     alloc: Global,
     disk: &mut D,
     order: RunWords<'_>,
-    ran: &Ran,
+    ran: &RunOfGraph,
 ) -> Result<(), ToolFault>
     ensures put { OnOk result (Asks (D.acts disk.old) (D.acts disk.new)
         (map put_whole (files_of (order_view order.entry) ran.now.graph ran.now.outcome))) }
@@ -352,7 +352,7 @@ fn put_sinks<D: Disk>(
 }
 
 /// The report of a run in a form.
-fn report_in(alloc: Global, form: Form, ran: &Ran) -> Result<Vec<u8>, AllocError>
+fn report_in(alloc: Global, form: Form, ran: &RunOfGraph) -> Result<Vec<u8>, AllocError>
     ensures { IfOk result (λ text. TellsReport form ran.now.graph ran.now.outcome text.items) }
 {
     match form {

@@ -18,7 +18,7 @@ ghost use Rattle.csdf_tool.specs.GraphFiles.{IsGivenBy, IsNotGiven, is_input};
 use crate::apart::keep_sinks_apart;
 use crate::crew::{chosen, workers_of};
 use crate::files::graph_bytes;
-use crate::flow_fault::{Side, stream_fault};
+use crate::flow_fault::{Medium, stream_fault};
 use crate::flow_files::{
     FlowFile, give_up, keep_all, make_all, open_all, sink_files, source_files,
 };
@@ -126,7 +126,7 @@ fn flow_over<R: AllocGlobal + Eprint + Threads + Wait + Sync, I: Intake, O: Outl
     rt: &R,
     accepted: Accepted,
     order: StreamWords<'_>,
-    side: Side,
+    medium: Medium,
     intakes: &mut [I],
     outlets: &mut [O],
 ) -> Result<Vec<u8>, ToolFault>
@@ -134,7 +134,7 @@ fn flow_over<R: AllocGlobal + Eprint + Threads + Wait + Sync, I: Intake, O: Outl
     requires outlets { length outlets.old ≡ length (sinks_in accepted.graph) }
     ensures flows { IfOk result (λ report. IsFlow (stream_view order.entry) accepted
         (flow (map I.left intakes.old) (map I.left intakes.new) (map O.written outlets.old) (map O.written outlets.new)) report.items) }
-    ensures stopped { IfErr result (λ fault. (fault ≡ ToolFault.Memory) ⊎ IsStoppedBy (stream_view order.entry) side accepted
+    ensures stopped { IfErr result (λ fault. (fault ≡ ToolFault.Memory) ⊎ IsStoppedBy (stream_view order.entry) medium accepted
         (flow (map I.left intakes.old) (map I.left intakes.new) (map O.written outlets.old) (map O.written outlets.new))
         (map I.failed intakes.new) (map O.failed outlets.new) fault) }
 {
@@ -158,7 +158,7 @@ fn flow_over<R: AllocGlobal + Eprint + Threads + Wait + Sync, I: Intake, O: Outl
             let report = stream_report(alloc, order.form, graph, stream.totals(), &end)?;
             Ok(report)
         }
-        Err(fault) => Err(stream_fault(alloc, side, graph.actors(), fault)?),
+        Err(fault) => Err(stream_fault(alloc, medium, graph.actors(), fault)?),
     }
 }
 
@@ -186,7 +186,7 @@ fn flow_from_input<R: AllocGlobal + Eprint + Threads + Wait + Sync, I: Intake, O
     ensures flows { IfOk result (λ report. IsFlow (stream_view order.entry) accepted
         (flow (one_for (sources_in accepted.graph) (I.left reader.old)) (one_for (sources_in accepted.graph) (I.left reader.new))
         (map O.written outlets.old) (map O.written outlets.new)) report.items) }
-    ensures stopped { IfErr result (λ fault. (fault ≡ ToolFault.Memory) ⊎ IsStoppedBy (stream_view order.entry) Side.Standard accepted
+    ensures stopped { IfErr result (λ fault. (fault ≡ ToolFault.Memory) ⊎ IsStoppedBy (stream_view order.entry) Medium.Standard accepted
         (flow (one_for (sources_in accepted.graph) (I.left reader.old)) (one_for (sources_in accepted.graph) (I.left reader.new))
         (map O.written outlets.old) (map O.written outlets.new))
         (one_for (sources_in accepted.graph) (I.failed reader.new)) (map O.failed outlets.new) fault) }
@@ -196,12 +196,12 @@ fn flow_from_input<R: AllocGlobal + Eprint + Threads + Wait + Sync, I: Intake, O
             rt,
             accepted,
             order,
-            Side::Standard,
+            Medium::Standard,
             slice::from_mut(reader),
             outlets,
         )
     } else {
-        flow_over::<R, I, O>(rt, accepted, order, Side::Standard, &mut [], outlets)
+        flow_over::<R, I, O>(rt, accepted, order, Medium::Standard, &mut [], outlets)
     }
 }
 
@@ -222,7 +222,7 @@ fn flow_in_memory<R: AllocGlobal + Eprint + Threads + Wait + Sync, I: Intake, O:
     requires sinks { length (sinks_in accepted.graph) ≡ count_of has_sink }
     ensures flows { IfOk result (λ report. IsFlow (stream_view order.entry) accepted
         (standard_flow accepted.graph (I.left reader.old) (I.left reader.new) (O.written out.old) (O.written out.new)) report.items) }
-    ensures stopped { IfErr result (λ fault. (fault ≡ ToolFault.Memory) ⊎ IsStoppedBy (stream_view order.entry) Side.Standard accepted
+    ensures stopped { IfErr result (λ fault. (fault ≡ ToolFault.Memory) ⊎ IsStoppedBy (stream_view order.entry) Medium.Standard accepted
         (standard_flow accepted.graph (I.left reader.old) (I.left reader.new) (O.written out.old) (O.written out.new))
         (one_for (sources_in accepted.graph) (I.failed reader.new)) (one_for (sinks_in accepted.graph) (O.failed out.new)) fault) }
 {
@@ -247,7 +247,7 @@ fn flow_standard<R: AllocGlobal + Eprint + Threads + Wait + Sync, I: Intake, O: 
     requires sinks { length (sinks_in accepted.graph) ≤ 1 }
     ensures flows { IfOk result (λ report. IsFlow (stream_view order.entry) accepted
         (standard_flow accepted.graph (I.left reader.old) (I.left reader.new) (O.written out.old) (O.written out.new)) report.items) }
-    ensures stopped { IfErr result (λ fault. (fault ≡ ToolFault.Memory) ⊎ IsStoppedBy (stream_view order.entry) Side.Standard accepted
+    ensures stopped { IfErr result (λ fault. (fault ≡ ToolFault.Memory) ⊎ IsStoppedBy (stream_view order.entry) Medium.Standard accepted
         (standard_flow accepted.graph (I.left reader.old) (I.left reader.new) (O.written out.old) (O.written out.new))
         (one_for (sources_in accepted.graph) (I.failed reader.new)) (one_for (sinks_in accepted.graph) (O.failed out.new)) fault) }
 {
@@ -277,7 +277,7 @@ fn flow_made<R: AllocGlobal + Eprint + Threads + Wait + Sync, D: Disk>(
         × Asks (D.acts disk.old) (D.acts disk.new) (keeps (map flow_file_view files.now) d.after)) }
     ensures stopped { IfErr result (StopsMade (stream_view order.entry) accepted (map flow_file_view files.now) (D.acts disk.old) (D.acts disk.new)) }
 {
-    match flow_over(rt, accepted, order, Side::Files, sources, sinks) {
+    match flow_over(rt, accepted, order, Medium::Files, sources, sinks) {
         Ok(report) => {
             keep_all(rt.alloc(), disk, files, sinks)?;
             Ok(report)

@@ -30,9 +30,9 @@ impl fmt::Display for Most {
 
 /// How many workers were chosen, where as many as pay were asked for.
 #[derive(Clone, Copy)]
-struct Crew(Option<u32>);
+struct ChosenWorkers(Option<u32>);
 
-impl fmt::Display for Crew {
+impl fmt::Display for ChosenWorkers {
     ghost use Rattle.std.specs.Prelude.{Some};
     ghost use Rattle.csdf_tool.specs.Telling.{crew_text};
 
@@ -49,7 +49,7 @@ impl fmt::Display for Crew {
 /// What a line tells beside the firings that were made: how many there are at most, where that is known, and
 /// how many workers were chosen, where as many as pay were asked for.
 #[derive(Clone, Copy)]
-pub(crate) struct Beside {
+pub(crate) struct Extra {
     pub(crate) most: Option<u64>,
     pub(crate) crew: Option<u32>,
 }
@@ -57,13 +57,13 @@ pub(crate) struct Beside {
 /// A line that tells how many firings were made, and what stands beside. Each is written over the one before,
 /// and the last one ends with a newline.
 #[derive(Clone, Copy)]
-pub(crate) struct Line {
+pub(crate) struct ProgressLine {
     made: u64,
-    beside: Beside,
+    beside: Extra,
     is_last: bool,
 }
 
-impl fmt::Display for Line {
+impl fmt::Display for ProgressLine {
     ghost use Rattle.std.specs.Prelude.{Some};
     ghost use Rattle.csdf_tool.specs.Telling.{line_text};
 
@@ -72,7 +72,7 @@ impl fmt::Display for Line {
     fn fmt<W: fmt::Write>(&self, f: &mut fmt::Formatter<W>) -> fmt::Result {
         let made = self.made;
         let most = Most(self.beside.most);
-        let crew = Crew(self.beside.crew);
+        let crew = ChosenWorkers(self.beside.crew);
         if self.is_last {
             write!(f, "\rcsdf: {made}{most} firings{crew}\n")
         } else {
@@ -82,20 +82,20 @@ impl fmt::Display for Line {
 }
 
 /// Where lines are told.
-pub(crate) trait Telling {
+pub(crate) trait Teller {
     /// What was told so far, where that is known.
     ghost told: { Self → Option (List ℕ) };
 
     /// Tells a line.
-    fn tell(&mut self, line: Line) -> Result<(), DeviceFailed>
+    fn tell(&mut self, line: ProgressLine) -> Result<(), DeviceFailed>
         ensures { OnOk result (Appends (told self.old) (told self.new) (line_text line)) };
 }
 
 /// Tells that a run begins, where it is asked for.
-pub(crate) fn tell_begin<T: Telling>(
+pub(crate) fn tell_begin<T: Teller>(
     place: &mut T,
     is_asked: bool,
-    beside: Beside,
+    beside: Extra,
 ) -> Result<(), DeviceFailed>
     ensures told { is_asked ≡ true → OnOk result (Appends (T.told place.old) (T.told place.new) (line_text (line 0 beside false))) }
     ensures silent { is_asked ≡ false → place.new ≡ place.old }
@@ -103,7 +103,7 @@ pub(crate) fn tell_begin<T: Telling>(
     if !is_asked {
         return Ok(());
     }
-    place.tell(Line {
+    place.tell(ProgressLine {
         made: 0,
         beside,
         is_last: false,
@@ -118,12 +118,12 @@ fn is_due(before: u64, made: u64) -> bool
 }
 
 /// Tells that so many firings more were made than before, where that is asked for and the line is due.
-pub(crate) fn tell_made<T: Telling>(
+pub(crate) fn tell_made<T: Teller>(
     place: &mut T,
     is_asked: bool,
     before: u64,
     firings: u32,
-    beside: Beside,
+    beside: Extra,
 ) -> Result<(), DeviceFailed>
     ensures told { is_asked ≡ true → is_due before (made_after before firings) ≡ true
         → OnOk result (Appends (T.told place.old) (T.told place.new) (line_text (line (made_after before firings) beside false))) }
@@ -133,7 +133,7 @@ pub(crate) fn tell_made<T: Telling>(
     if !is_asked || !is_due(before, made) {
         return Ok(());
     }
-    place.tell(Line {
+    place.tell(ProgressLine {
         made,
         beside,
         is_last: false,
@@ -141,11 +141,11 @@ pub(crate) fn tell_made<T: Telling>(
 }
 
 /// Tells how many firings a run has made that has ended, where that is asked for.
-pub(crate) fn tell_end<T: Telling>(
+pub(crate) fn tell_end<T: Teller>(
     place: &mut T,
     is_asked: bool,
     made: u64,
-    beside: Beside,
+    beside: Extra,
 ) -> Result<(), DeviceFailed>
     ensures told { is_asked ≡ true → OnOk result (Appends (T.told place.old) (T.told place.new) (line_text (line made beside true))) }
     ensures silent { is_asked ≡ false → place.new ≡ place.old }
@@ -153,7 +153,7 @@ pub(crate) fn tell_end<T: Telling>(
     if !is_asked {
         return Ok(());
     }
-    place.tell(Line {
+    place.tell(ProgressLine {
         made,
         beside,
         is_last: true,

@@ -28,5 +28,5 @@ returns-clause-stopped g c =
           stopped_by_more c.workers_of-workers.result (most_workers c.args.order.workers) c.args.accepted _ _ c.in-Err.fault c.workers_of-workers.ensures.most
           (IfErr-at_err _ c.in-Err.is c.in_ok-stream.ensures.stopped);
       marked = IfErr-at_err _ c.in-Err.is c.in_ok-stream.ensures.marked;
-      told = inl (c.in_ok-stream_fault-in-Err.ensures ∙ ap (λ actors. stream_fault c.args.side (actor_names actors) c.in-Err.fault) same);
+      told = inl (c.in_ok-stream_fault-in-Err.ensures ∙ ap (λ actors. stream_fault c.args.medium (actor_names actors) c.in-Err.fault) same);
     })
