@@ -38,7 +38,7 @@ pub fn read_token_file<I: Intake>(
         → IfSome (I.left reader.old) (λ bytes. INPUT_LIMIT < length bytes) }
     ensures few { TakesAtMost 16777217 (I.left reader.old) (I.left reader.new) }
 {
-    let mut file = match TokenFile::new(alloc) {
+    let mut file = match TokensRead::new(alloc) {
         Ok(file) => file,
         Err(AllocError) => return Err(unread(reader)),
     };
@@ -86,20 +86,20 @@ fn told(outcome: Result<Vec<i32>, TokenFault>) -> Result<Result<Vec<i32>, TokenF
 
 /// What was read of a file so far: its tokens, or its first fault.
 #[derive(Drop)]
-struct TokenFile {
+struct TokensRead {
     lines: TokenReader,
     tokens: Vec<i32>,
     found: Result<(), TokenFault>,
 }
 
-impl TokenFile {
-    fn new(alloc: Global) -> Result<TokenFile, AllocError>
+impl TokensRead {
+    fn new(alloc: Global) -> Result<TokensRead, AllocError>
         ensures read { IfOk result (λ file.
             HasRead [] file.lines.line file.lines.bytes file.tokens.items file.found) }
         ensures whole { IfOk result (λ file. IsOneLine file.lines.bytes) }
     {
         let lines = TokenReader::new(alloc)?;
-        Ok(TokenFile {
+        Ok(TokensRead {
             lines,
             tokens: Vec::new(alloc),
             found: Ok(()),
@@ -126,7 +126,7 @@ impl TokenFile {
             → OnOk self.found (IsOneLine self.lines.bytes)
             → Tells text (result_map_both (λ tokens. tokens.items) (λ fault. fault) result) }
     {
-        let TokenFile {
+        let TokensRead {
             mut lines,
             mut tokens,
             found,

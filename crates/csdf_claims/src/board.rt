@@ -13,7 +13,7 @@ ghost use Rattle.csdf_claims.specs.declared.place.Entry.{Entry};
 ghost use Rattle.csdf_claims.specs.declared.rule.View.{View};
 
 use crate::place::{Entry, Place, blank_entries};
-use crate::rule::{Beside, Claim, Finish, GiveUp, Law, Look, Stand, Together, View};
+use crate::rule::{Beside, Take, Finish, GiveUp, Law, Look, Stand, Together, View};
 use atomic_table::{Closed, Seat, Table};
 use csdf_model::{MAX_ACTORS, MAX_FIRINGS_PER_ACTOR};
 use std::alloc::{AllocError, Global};
@@ -110,7 +110,7 @@ impl Board {
         let found = self
             .table
             .shared
-            .compare_exchange::<Claim>(seat, word, idle, idle + 1);
+            .compare_exchange::<Take>(seat, word, idle, idle + 1);
         if found != idle {
             return Err(lost_by(found));
         }

@@ -32,9 +32,9 @@ impl TableRule<(), View, u32> for Law {
 }
 
 /// A compare-exchange that claims a firing.
-pub(crate) struct Claim;
+pub(crate) struct Take;
 
-impl Play<(), View> for Claim {
+impl Play<(), View> for Take {
     ghost use Rattle.csdf_claims.specs.Steps.{ClaimTells};
 
     ghost then = { ClaimTells };

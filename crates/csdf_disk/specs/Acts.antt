@@ -7,7 +7,7 @@ use Rattle.clap.specs.Words.{Text}
 use Rattle.csdf_bytes.specs.declared.intake.InputFault.{InputFault}
 use Rattle.csdf_answers.specs.declared.fault.ToolFault.{ToolFault}
 use Rattle.csdf_answers.specs.declared.token_note.TokenFile.{TokenFile}
-use Rattle.csdf_disk.specs.declared.place.Place.{Place}
+use Rattle.csdf_disk.specs.declared.place.FilePlace.{FilePlace}
 use Rattle.csdf_disk.specs.declared.put_fault.PutFault.{PutFault}
 
 -- a file was asked for, by its path, and these bytes came or none for this reason; it was looked at, and this was found, where memory sufficed; it was looked for which file a path stands
@@ -17,7 +17,7 @@ use Rattle.csdf_disk.specs.declared.put_fault.PutFault.{PutFault}
 pub data Act : Type 0 where
   Read : Text → Result (List ℕ) InputFault → Act
   Look : Text → Option TokenFile → Act
-  Locate : Text → Option Place → Act
+  Locate : Text → Option FilePlace → Act
   Put : Text → List ℕ → Result (Unit {0}) PutFault → Act
   Open : Text → Bool → Act
   Make : Text → Result (Unit {0}) PutFault → Act
@@ -40,7 +40,7 @@ found (Ok file) = Some file
 found (Err why) = None
 
 -- the place that was found, where memory sufficed
-abbrev pub placed : Result Place AllocError → Option Place
+abbrev pub placed : Result FilePlace AllocError → Option FilePlace
 placed (Ok place) = Some place
 placed (Err why) = None
 

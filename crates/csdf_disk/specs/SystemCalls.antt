@@ -13,8 +13,8 @@ use Rattle.csdf_disk.specs.Contents.{content_text}
 use Rattle.csdf_disk.specs.declared.making.MadeFile.{MadeFile}
 use Rattle.csdf_disk.specs.declared.put_fault.PutFault.{PutFault}
 use Rattle.csdf_disk.specs.declared.put_fault.PutFault.TheVariants.{Device, Memory}
-use Rattle.csdf_disk.specs.declared.putting.Stage.{Stage}
-use Rattle.csdf_disk.specs.declared.putting.Stage.TheVariants as stage
+use Rattle.csdf_disk.specs.declared.putting.PartStage.{PartStage}
+use Rattle.csdf_disk.specs.declared.putting.PartStage.TheVariants as stage
 use Rattle.csdf_disk.specs.declared.putting.There.{There}
 use Rattle.csdf_disk.specs.declared.putting.There.TheVariants.{Free, Plain, Other}
 
@@ -76,7 +76,7 @@ abbrev pub part_of : List ℕ → List ℕ
 part_of path = path ++ codes ".part"
 
 -- what is done to a part, as a step
-abbrev pub step_of : Stage → Step
+abbrev pub step_of : PartStage → Step
 step_of (stage.Write part content) = Write part.now (content_text content)
 step_of (stage.Rename part path) = Rename part.now path.now
 

@@ -8,7 +8,7 @@ use crate::content::Content;
 use crate::locate::place_at;
 use crate::look::{bytes_at, source_at, token_file_at, tokens_at};
 use crate::making::{MadeFile, keep_at, leave_at, make_at};
-use crate::place::Place;
+use crate::place::FilePlace;
 use crate::put_fault::PutFault;
 use crate::putting::put_at;
 use crate::system::HostSystem;
@@ -45,7 +45,7 @@ pub trait Disk {
         ensures memory { IfErr result (λ fault. fault ≡ ToolFault.Memory) };
 
     /// Which file a path stands for: it is neither read nor written.
-    fn locate(&mut self, path: &str) -> Result<Place, AllocError>
+    fn locate(&mut self, path: &str) -> Result<FilePlace, AllocError>
         ensures { Asks (acts self.old) (acts self.new) (Locate path.now (placed result) ∷ []) };
 
     /// Puts a file with this content in its place, in that of a file that is there.
@@ -107,7 +107,7 @@ impl<R: Files + AllocGlobal> Disk for HostDisk<'_, R> {
         token_file_at(self.rt.alloc(), &mut HostSystem(self.rt), path)
     }
 
-    fn locate(&mut self, path: &str) -> Result<Place, AllocError> {
+    fn locate(&mut self, path: &str) -> Result<FilePlace, AllocError> {
         place_at(self.rt.alloc(), &mut HostSystem(self.rt), path)
     }
 

@@ -4,7 +4,7 @@ ghost use Rattle.std.specs.Prelude.{◌≡◌, ◌≢◌, None, IfErr, IfOk};
 ghost use Rattle.std.specs.Fs.{IsFile, file_type};
 ghost use Rattle.std.specs.IoError.{error_kind};
 
-use crate::place::{Node, Place};
+use crate::place::{Node, FilePlace};
 use crate::system::System;
 use csdf_answers::Name;
 use std::alloc::{AllocError, Global};
@@ -25,17 +25,17 @@ fn node_of(told: &Metadata) -> Node {
 }
 
 /// The place of a file, by what the system tells; none where it tells that no file is there.
-fn place_told(told: io::Result<Metadata>) -> Option<Place>
-    ensures plain { IfOk told (λ told. IsFile (file_type told) → (node : Node) × (result ≡ Some (Place.File node))) }
-    ensures other { IfOk told (λ told. ¬ IsFile (file_type told) → result ≡ Some Place.Other) }
+fn place_told(told: io::Result<Metadata>) -> Option<FilePlace>
+    ensures plain { IfOk told (λ told. IsFile (file_type told) → (node : Node) × (result ≡ Some (FilePlace.File node))) }
+    ensures other { IfOk told (λ told. ¬ IsFile (file_type told) → result ≡ Some FilePlace.Other) }
     ensures free { IfErr told (λ error. error_kind error ≡ ErrorKind.NotFound → result ≡ None) }
-    ensures unknown { IfErr told (λ error. error_kind error ≢ ErrorKind.NotFound → result ≡ Some Place.Other) }
+    ensures unknown { IfErr told (λ error. error_kind error ≢ ErrorKind.NotFound → result ≡ Some FilePlace.Other) }
 {
     match told {
-        Ok(told) if told.is_file() => Some(Place::File(node_of(&told))),
-        Ok(_) => Some(Place::Other),
+        Ok(told) if told.is_file() => Some(FilePlace::File(node_of(&told))),
+        Ok(_) => Some(FilePlace::Other),
         Err(error) if error.kind() == ErrorKind::NotFound => None,
-        Err(_) => Some(Place::Other),
+        Err(_) => Some(FilePlace::Other),
     }
 }
 
@@ -72,17 +72,17 @@ fn folder_of(path: &PathBuf) -> &str {
 }
 
 /// The place at a path where no file is: where one would be made.
-fn free_place<S: System>(alloc: Global, system: &mut S, path: &str) -> Result<Place, AllocError> {
+fn free_place<S: System>(alloc: Global, system: &mut S, path: &str) -> Result<FilePlace, AllocError> {
     let end = end_of_links(alloc, system, path)?;
     let Some(name) = end.file_name() else {
-        return Ok(Place::Other);
+        return Ok(FilePlace::Other);
     };
     match system.metadata(folder_of(&end)) {
         Ok(folder) => {
             let name = Name::new(alloc, name)?;
-            Ok(Place::Free(node_of(&folder), name))
+            Ok(FilePlace::Free(node_of(&folder), name))
         }
-        Err(_) => Ok(Place::Other),
+        Err(_) => Ok(FilePlace::Other),
     }
 }
 
@@ -91,7 +91,7 @@ pub(crate) fn place_at<S: System>(
     alloc: Global,
     system: &mut S,
     path: &str,
-) -> Result<Place, AllocError> {
+) -> Result<FilePlace, AllocError> {
     match place_told(system.metadata(path)) {
         Some(place) => Ok(place),
         None => free_place(alloc, system, path),

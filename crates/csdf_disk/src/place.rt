@@ -25,7 +25,7 @@ impl Node {
 
 /// Which file a path stands for, at the end of the links there.
 #[derive(Debug, Drop)]
-pub enum Place {
+pub enum FilePlace {
     /// A plain file that is there.
     File(Node),
     /// A file that is not there, by its folder and its name there.
@@ -34,35 +34,35 @@ pub enum Place {
     Other,
 }
 
-impl Place {
+impl FilePlace {
     /// Whether both are one file.
-    pub fn is_one(&self, other: &Place) -> bool
+    pub fn is_one(&self, other: &FilePlace) -> bool
         ensures { result ≡ is_one self.now other.now }
     {
         match self {
-            Place::File(node) => is_file(node, other),
-            Place::Free(folder, name) => is_free(folder, name.as_str(), other),
-            Place::Other => false,
+            FilePlace::File(node) => is_file(node, other),
+            FilePlace::Free(folder, name) => is_free(folder, name.as_str(), other),
+            FilePlace::Other => false,
         }
     }
 }
 
 /// Whether a place is this file.
-fn is_file(node: &Node, place: &Place) -> bool
-    ensures { result ≡ is_one (Place.File node.now) place.now }
+fn is_file(node: &Node, place: &FilePlace) -> bool
+    ensures { result ≡ is_one (FilePlace.File node.now) place.now }
 {
     match place {
-        Place::File(other) => node.is_one(other),
+        FilePlace::File(other) => node.is_one(other),
         _ => false,
     }
 }
 
 /// Whether a place is the one of this name in a folder.
-fn is_free(folder: &Node, name: &str, place: &Place) -> bool
-    ensures { result ≡ is_one (Place.Free folder.now name.now) place.now }
+fn is_free(folder: &Node, name: &str, place: &FilePlace) -> bool
+    ensures { result ≡ is_one (FilePlace.Free folder.now name.now) place.now }
 {
     match place {
-        Place::Free(other, again) => folder.is_one(other) && name == again.as_str(),
+        FilePlace::Free(other, again) => folder.is_one(other) && name == again.as_str(),
         _ => false,
     }
 }

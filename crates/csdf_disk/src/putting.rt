@@ -57,7 +57,7 @@ pub(crate) fn ended(call: io::Result<()>) -> Result<(), PutFault>
 
 /// What is done to a part.
 #[derive(Clone, Copy)]
-enum Stage<'a> {
+enum PartStage<'a> {
     /// It is made or emptied, and this is written to it.
     Write(&'a str, Content<'a>),
     /// It is put in the place of a file.
@@ -65,12 +65,12 @@ enum Stage<'a> {
 }
 
 /// Does one thing to a part.
-fn advance<S: System>(system: &mut S, stage: Stage<'_>) -> Result<(), PutFault>
+fn advance<S: System>(system: &mut S, stage: PartStage<'_>) -> Result<(), PutFault>
     ensures { Steps (step_of stage.entry ∷ []) (S.calls system.old) (S.calls system.new) result }
 {
     match stage {
-        Stage::Write(part, content) => ended(system.write(part, content)),
-        Stage::Rename(part, path) => ended(system.rename(part, path)),
+        PartStage::Write(part, content) => ended(system.write(part, content)),
+        PartStage::Rename(part, path) => ended(system.rename(part, path)),
     }
 }
 
@@ -98,10 +98,10 @@ fn put_whole<S: System>(
 ) -> Result<(), PutFault>
     ensures { Steps (steps_beside part.now (option_map permissions_mode permissions) path.now (content_text content.entry)) (S.calls system.old) (S.calls system.new) result }
 {
-    advance(system, Stage::Write(part, Content::Bytes(&[])))?;
+    advance(system, PartStage::Write(part, Content::Bytes(&[])))?;
     permit(system, part, permissions)?;
-    advance(system, Stage::Write(part, content))?;
-    advance(system, Stage::Rename(part, path))
+    advance(system, PartStage::Write(part, content))?;
+    advance(system, PartStage::Rename(part, path))
 }
 
 /// Puts a text beside its place and then there. A part that is not put there is taken away.

@@ -23,7 +23,7 @@ use std::alloc::{AllocError, Global};
 /// has a channel to itself, a journal of no moves with room for the closing of each channel, an empty list
 /// for each actor, and an empty buffer.
 #[derive(Drop)]
-pub(crate) struct Blank {
+pub(crate) struct BlankBook {
     pub(crate) core: Core,
     pub(crate) loops: Vec<bool>,
     pub(crate) journal: Journal,
@@ -127,7 +127,7 @@ fn parts_of(
     core: Core,
     loops: Vec<bool>,
     keeping: Keeping,
-) -> Result<Blank, AllocError>
+) -> Result<BlankBook, AllocError>
     requires opening { Shows core (opening core.plan) }
     requires peaks { core.peaks ≡ first_peaks core.plan }
     ensures blank { IfOk result (IsBlank core.plan) }
@@ -135,7 +135,7 @@ fn parts_of(
 {
     let journal = empty_journal(alloc, keeping, core.channels() as usize)?;
     let (sinks, reads) = no_tokens(alloc, core.actors())?;
-    Ok(Blank {
+    Ok(BlankBook {
         core,
         loops,
         journal,
@@ -144,14 +144,14 @@ fn parts_of(
     })
 }
 
-impl Blank {
+impl BlankBook {
     /// That of a run of the graph over these feeds. An error says that memory ran out.
     pub(crate) fn of(
         alloc: Global,
         fed: &Fed,
         bounds: RunBounds,
         keeping: Keeping,
-    ) -> Result<Blank, AllocError>
+    ) -> Result<BlankBook, AllocError>
         requires fed { AreFeeds fed.now.accepted.graph (feeds_in fed.now.feeds.items) }
         requires few_firings { HasFewFirings fed.now.accepted bounds.periods }
         ensures blank { IfOk result (IsBlank (program_for fed.now.accepted (feeds_in fed.now.feeds.items) bounds.periods bounds.firings).plan) }

@@ -22,7 +22,7 @@ ghost use Rattle.csdf_floor.specs.Outcome.{report_of, report_on};
 ghost use Rattle.csdf_floor.specs.Inside.{AreClosed, HasGiven, HasRoom, HasTaken, IsBook, IsNext, is_due};
 ghost use Rattle.csdf_floor.specs.Beginnings.{IsBlank};
 
-use crate::blank::Blank;
+use crate::blank::BlankBook;
 use crate::counts::{are_counts, put_counts};
 use crate::fed::{Fed, RunBounds};
 use crate::lists::Lists;
@@ -77,7 +77,7 @@ impl Model for Book {
 
 impl Book {
     /// The book of a core that has not moved, of a run of the graph over these feeds.
-    pub(crate) fn open(fed: Fed, bounds: RunBounds, blank: Blank) -> Book
+    pub(crate) fn open(fed: Fed, bounds: RunBounds, blank: BlankBook) -> Book
         requires fed { AreFeeds fed.accepted.graph (feeds_in fed.feeds.items) }
         requires some_period { 1 ≤ bounds.periods }
         requires few_firings { HasFewFirings fed.accepted bounds.periods }
@@ -88,7 +88,7 @@ impl Book {
         ensures opening { result.shown.core.now ≡ present (opening result.shown.core.plan) }
         ensures room { length result.shown.core.plan.channels ≤ result.room }
     {
-        let Blank {
+        let BlankBook {
             core,
             loops,
             journal,

@@ -19,7 +19,7 @@ ghost use Rattle.csdf_floor.specs.Outcome.{HasTotals, IsEndOf, IsOutcome, journa
 ghost use Rattle.csdf_floor.specs.Floor.{HasGone, IsFloor, IsReady, IsStartAnswer, IsUnderWay, IsDeliverAnswer, closes, closes_after, ending_of};
 ghost use Rattle.csdf_floor.specs.Floor.{present_task, start_refusal, task_of};
 
-use crate::blank::Blank;
+use crate::blank::BlankBook;
 use crate::book::Book;
 use crate::draft::Draft;
 use crate::ending::ending_of;
@@ -123,7 +123,7 @@ impl Floor {
         ensures keeps { IfOk result (λ floor. floor.keeps ≡ is_kept keeping) }
         ensures back { IfErr result (λ back. back ≡ fed) }
     {
-        let blank = match Blank::of(alloc, &fed, bounds, keeping) {
+        let blank = match BlankBook::of(alloc, &fed, bounds, keeping) {
             Ok(blank) => blank,
             Err(_error) => return Err(fed),
         };

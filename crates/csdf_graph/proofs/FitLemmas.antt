@@ -18,7 +18,7 @@ use Rattle.csdf_model.specs.Names.{is_name, number_in}
 use Rattle.csdf_graph.specs.Names.{is_free, name_at, names_of}
 use Rattle.csdf_graph.specs.Names as names
 use Rattle.csdf_model.specs.Graph.{Actor, Channel, Graph, phases_of}
-use Rattle.csdf_graph.specs.Shape.{ActorDraft, ChannelDraft, Draft}
+use Rattle.csdf_graph.specs.Shape.{ActorDraft, ChannelDraft, GraphDraft}
 use Rattle.csdf_graph.specs.Ranges.{RangedChannel, Ranged, actor_within, channel_within, ranged_actor, ranged_channel, counts_fit, initial_count, cells_within}
 use Rattle.csdf_graph.specs.Ranges.{range_of}
 use Rattle.csdf_graph.specs.Links.{linked, linked_at}
@@ -67,7 +67,7 @@ names_are kind ns ms e = record {
         absurd cc
 
 -- ranges that went through
-pub record IsInRange (d : Draft) (r : Ranged) : Type 0 where
+pub record IsInRange (d : GraphDraft) (r : Ranged) : Type 0 where
   pub actor_names : map (λ (a : Actor). a.name) r.actors ≡ map (λ (a : ActorDraft). a.name) d.actors
   pub channel_names : map (λ (c : RangedChannel). c.name) r.channels ≡ map (λ (c : ChannelDraft). c.name) d.channels
   pub some_actor : 1 ≤ length r.actors
@@ -91,7 +91,7 @@ same_sums f g xs ys e = sym (sum-map f xs) ∙ ap sum e ∙ sum-map g ys
 same_lengths : {A B K : Type 0} (f : A → K) (g : B → K) (xs : List A) (ys : List B) → map f xs ≡ map g ys → length xs ≡ length ys
 same_lengths f g xs ys e = sym (length-map xs f) ∙ ap length e ∙ length-map ys g
 
-pub range_fits : (d : Draft) (r : Ranged) → range_of d ≡ Ok r → IsInRange d r
+pub range_fits : (d : GraphDraft) (r : Ranged) → range_of d ≡ Ok r → IsInRange d r
 unfolding range_of
 range_fits d r e =
     let g = cond_ok (counts_fit d) _ (fault.Range at.File) r e in
@@ -185,7 +185,7 @@ given_cells channels None h = tt
 given_cells channels (Some n) h = record { fits = h.0; within = h.1 }
 
 -- all passes went through
-pub parts_fit : (d : Draft) (r : Ranged) (actor_names channel_names : List (List ℕ)) (g : Graph) → IsInRange d r
+pub parts_fit : (d : GraphDraft) (r : Ranged) (actor_names channel_names : List (List ℕ)) (g : Graph) → IsInRange d r
     → AreNames (map (λ (a : ActorDraft). a.name) d.actors) → AreNames (map (λ (c : ChannelDraft). c.name) d.channels)
     → actor_names ≡ map (λ (a : ActorDraft). a.name) d.actors → channel_names ≡ map (λ (c : ChannelDraft). c.name) d.channels
     → parts_of actor_names r ≡ Ok g → IsUnjoined actor_names channel_names g
@@ -227,7 +227,7 @@ parts_fit d r actor_names channel_names g range are_a are_c same_a same_c e =
     })
 
 -- as many names as actors in range
-pub few_keys : {K : Type 0} (f : K → List ℕ) (keys : List K) (d : Draft) (r : Ranged) → IsInRange d r → map f keys ≡ map (λ (a : ActorDraft). a.name) d.actors
+pub few_keys : {K : Type 0} (f : K → List ℕ) (keys : List K) (d : GraphDraft) (r : Ranged) → IsInRange d r → map f keys ≡ map (λ (a : ActorDraft). a.name) d.actors
     → length keys ≤ 64
 few_keys f keys d r range same =
     let len : length keys ≡ length r.actors = same_lengths f (λ (a : Actor). a.name) keys r.actors (same ∙ sym range.actor_names) in

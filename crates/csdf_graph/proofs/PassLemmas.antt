@@ -3,8 +3,8 @@ use Rattle.std.proofs.Common.{◌≡◌, ℕ, suc, ◌+◌, ◌<◌, ◌≤◌, 
 use Rattle.std.proofs.Common.{append-nil, add-one}
 use Rattle.std.proofs.lemmas.List.{drop_more, drop_all, length_push, map_push}
 use Rattle.csdf_graph.specs.declared.fault.GraphFault.{GraphFault}
-use Rattle.csdf_graph.specs.declared.fault.Misfit.{Misfit}
-use Rattle.csdf_graph.specs.declared.fault.Misfit.TheVariants as misfit
+use Rattle.csdf_graph.specs.declared.fault.Unfit.{Unfit}
+use Rattle.csdf_graph.specs.declared.fault.Unfit.TheVariants as misfit
 use Rattle.csdf_graph.specs.Passes.{◌>>=◌, each, Fails, Gives, Reads, answer_of, or_fault}
 
 -- what was made before, and what is still made
@@ -53,7 +53,7 @@ each_takes f v w done new items rest x y i total place taken ok made so_far =
     sym one ∙ so_far
 
 -- what a reader of one table answered, told by a pass
-pub gives_read : {X Y : Type 0} (view : X → Y) (fault : GraphFault) (read : Result X Misfit) (found : Option Y) → Reads view read found
+pub gives_read : {X Y : Type 0} (view : X → Y) (fault : GraphFault) (read : Result X Unfit) (found : Option Y) → Reads view read found
     → Gives view (answer_of fault read) (or_fault fault found)
 gives_read view fault (Ok x) found is = ap (or_fault fault) is
 gives_read view fault (Err misfit.Fault) found is = λ other. ap (or_fault fault) is

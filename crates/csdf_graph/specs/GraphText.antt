@@ -6,7 +6,7 @@ use Rattle.toml.specs.Parse.{parse_document}
 use Rattle.csdf_graph.specs.declared.fault.GraphFault.{GraphFault}
 use Rattle.csdf_graph.specs.declared.fault.GraphFault.TheVariants.{NotToml, PhaseLength, ZeroRate, KernelPorts, NotConnected}
 use Rattle.csdf_graph.specs.declared.names.Kind.TheVariants as kind
-use Rattle.csdf_graph.specs.declared.read.Parts.{Parts}
+use Rattle.csdf_graph.specs.declared.read.JoinedParts.{JoinedParts}
 use Rattle.csdf_graph.specs.Passes.{◌>>=◌, or_fault, each, check}
 use Rattle.csdf_model.specs.Graph.{Graph, actor_view, channel_view}
 use Rattle.csdf_graph.specs.Shape.{draft_of}
@@ -16,7 +16,7 @@ use Rattle.csdf_graph.specs.Links.{linked_at}
 use Rattle.csdf_model.specs.Joined.{AreJoined}
 use Rattle.csdf_model.specs.Checks.{phase_lengths_fit, has_rates, has_ports}
 
-abbrev pub parts_view : Parts → Graph
+abbrev pub parts_view : JoinedParts → Graph
 parts_view p = record { actors = map actor_view p.actors.items; channels = map channel_view p.channels.items; cells = p.cells }
 
 -- the checks of channels against actors

@@ -2,8 +2,8 @@
 use Rattle.std.specs.Prelude.{◌≡◌, ℕ, suc, Bool, if◌then◌else◌, List, [], ◌∷◌, Option, Some, None, Result, Ok, Err}
 use Rattle.csdf_graph.specs.declared.fault.GraphFault.{GraphFault}
 use Rattle.csdf_graph.specs.declared.fault.GraphFault.TheVariants.{Memory}
-use Rattle.csdf_graph.specs.declared.fault.Misfit.{Misfit}
-use Rattle.csdf_graph.specs.declared.fault.Misfit.TheVariants as misfit
+use Rattle.csdf_graph.specs.declared.fault.Unfit.{Unfit}
+use Rattle.csdf_graph.specs.declared.fault.Unfit.TheVariants as misfit
 use Rattle.csdf_graph.specs.FaultPlace.{fault_place}
 
 infixl 10 ◌>>=◌
@@ -35,7 +35,7 @@ Gives view (Ok x) read = read ≡ Ok (view x)
 Gives view (Err fault) read = Fails fault read
 
 -- what a reader of one table answered, as the pass over the file tells it: out of shape is this fault
-abbrev pub answer_of : {X : Type 0} → GraphFault → Result X Misfit → Result X GraphFault
+abbrev pub answer_of : {X : Type 0} → GraphFault → Result X Unfit → Result X GraphFault
 answer_of fault (Ok x) = Ok x
 answer_of fault (Err misfit.Fault) = Err fault
 answer_of fault (Err misfit.Memory) = Err Memory
@@ -46,7 +46,7 @@ Tells view (Ok x) Allows = Allows (Ok (view x))
 Tells view (Err fault) Allows = (fault ≡ Memory → ⊥) → Allows (Err fault)
 
 -- what a reader of one table answered: what is found, or that the table is out of shape
-abbrev pub Reads : {X Y : Type 0} → (X → Y) → Result X Misfit → Option Y → Type 0
+abbrev pub Reads : {X Y : Type 0} → (X → Y) → Result X Unfit → Option Y → Type 0
 Reads view (Ok x) found = found ≡ Some (view x)
 Reads view (Err misfit.Fault) found = found ≡ None
 Reads view (Err misfit.Memory) found = Unit {0}

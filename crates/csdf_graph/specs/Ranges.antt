@@ -12,7 +12,7 @@ use Rattle.csdf_graph.specs.declared.ranges.RangedChannel.{RangedChannel as Rang
 use Rattle.csdf_graph.specs.declared.ranges.RangedLists.{RangedLists as ListsCode}
 use Rattle.csdf_graph.specs.declared.ranges.Ranged.{Ranged as FileCode}
 use Rattle.csdf_model.specs.Graph.{Actor, actor_view}
-use Rattle.csdf_graph.specs.Shape.{KernelDraft, source, sink, copy, sum, fir, ActorDraft, ChannelDraft, Draft}
+use Rattle.csdf_graph.specs.Shape.{KernelDraft, source, sink, copy, sum, fir, ActorDraft, ChannelDraft, GraphDraft}
 use Rattle.csdf_graph.specs.Passes as passes
 use Rattle.csdf_graph.specs.FaultPlace.{fault_place}
 use Rattle.csdf_graph.specs.Optional.{◌>>=◌}
@@ -123,7 +123,7 @@ abbrev pub file_view : FileCode → Ranged
 file_view f = record { actors = map actor_view f.actors.items; channels = map ranged_view f.channels.items; cells = f.cells }
 
 -- some actors, and no more actors or channels than the most
-abbrev pub counts_fit : Draft → Bool
+abbrev pub counts_fit : GraphDraft → Bool
 counts_fit d = (nat_le 1 (length d.actors) && nat_le (length d.actors) MAX_ACTORS) && nat_le (length d.channels) MAX_CHANNELS
 
 -- how many tokens the channels begin with
@@ -135,7 +135,7 @@ abbrev pub cells_within : List ChannelDraft → Option ℤ → Option (Option �
 cells_within channels None = Some None
 cells_within channels (Some z) = option_map Some (number_within (initial_count channels) MAX_CELLS z)
 
-unfoldable pub range_of : Draft → Result Ranged GraphFault
+unfoldable pub range_of : GraphDraft → Result Ranged GraphFault
 range_of d =
     if counts_fit d
     then passes.◌>>=◌ (or_fault (fault.Range at.File) (cells_within d.channels d.cells)) (λ cells.

@@ -11,7 +11,7 @@ use Rattle.csdf_graph.specs.declared.shape.ActorDraft.{ActorDraft as ActorCode}
 use Rattle.csdf_graph.specs.declared.shape.ChannelDraft.{ChannelDraft as ChannelCode}
 use Rattle.csdf_graph.specs.declared.shape.ChannelLists.{ChannelLists as ListsCode}
 use Rattle.csdf_graph.specs.declared.shape.FileTables.{FileTables}
-use Rattle.csdf_graph.specs.declared.shape.Draft.{Draft as DraftCode}
+use Rattle.csdf_graph.specs.declared.shape.GraphDraft.{GraphDraft as DraftCode}
 use Rattle.toml.specs.View.{table_view}
 use Rattle.csdf_graph.specs.Passes as passes
 use Rattle.csdf_graph.specs.FaultPlace.{fault_place}
@@ -151,15 +151,15 @@ tables_of_file ms = if has_only file_keys ms then (do
       else None) else None
 
 -- a file of the right shape
-pub record Draft : Type 0 where
+pub record GraphDraft : Type 0 where
   pub actors : List ActorDraft
   pub channels : List ChannelDraft
   pub cells : Option ℤ
 
-abbrev pub draft_view : DraftCode → Draft
+abbrev pub draft_view : DraftCode → GraphDraft
 draft_view d = record { actors = map actor_view d.actors.items; channels = map channel_view d.channels.items; cells = d.cells }
 
-unfoldable pub draft_of : Members → Result Draft GraphFault
+unfoldable pub draft_of : Members → Result GraphDraft GraphFault
 draft_of ms =
     passes.◌>>=◌ (or_fault (Shape File) (tables_of_file ms)) (λ tables.
     passes.◌>>=◌ (each actor_at 0 tables.actors) (λ actors.

@@ -91,31 +91,31 @@ impl<T: Drop> From<AllocFailed<T>> for GraphFault {
 
 /// Why a table was not read: it has a fault, or memory ran out.
 #[derive(Clone, Copy)]
-pub(crate) enum Misfit {
+pub(crate) enum Unfit {
     Fault,
     Memory,
 }
 
-impl From<AllocError> for Misfit {
-    ghost use Rattle.csdf_graph.specs.declared.fault.Misfit.TheVariants as misfit;
+impl From<AllocError> for Unfit {
+    ghost use Rattle.csdf_graph.specs.declared.fault.Unfit.TheVariants as misfit;
     ghost use Rattle.std.specs.Prelude.{◌≡◌};
 
     ghost from_gives = { λ _ e. e ≡ misfit.Memory };
 
-    fn from(_e: AllocError) -> Misfit {
-        Misfit::Memory
+    fn from(_e: AllocError) -> Unfit {
+        Unfit::Memory
     }
 }
 
 /// What a reader of one table answered, as the pass over the file tells it: out of shape is this
 /// fault.
-pub(crate) fn answer_of<T>(read: Result<T, Misfit>, fault: GraphFault) -> Result<T, GraphFault>
+pub(crate) fn answer_of<T>(read: Result<T, Unfit>, fault: GraphFault) -> Result<T, GraphFault>
     ensures { result ≡ answer_of fault read }
 {
     match read {
         Ok(found) => Ok(found),
-        Err(Misfit::Fault) => Err(fault),
-        Err(Misfit::Memory) => Err(GraphFault::Memory),
+        Err(Unfit::Fault) => Err(fault),
+        Err(Unfit::Memory) => Err(GraphFault::Memory),
     }
 }
 

@@ -7,7 +7,7 @@ ghost use Rattle.csdf_graph.specs.Ranges.{ranged_view};
 ghost use Rattle.csdf_model.specs.Names.{number_in};
 ghost use Rattle.csdf_graph.specs.Links.{linked, linked_at};
 
-use crate::fault::{GraphFault, Misfit, answer_of, fault_place};
+use crate::fault::{GraphFault, Unfit, answer_of, fault_place};
 use crate::ranges::RangedChannel;
 use csdf_model::{Channel, MAX_ACTORS, number_in};
 use indexmap::IndexSet;
@@ -29,15 +29,15 @@ fn linked(
     alloc: Global,
     names: &IndexSet<String>,
     channel: RangedChannel<'_>,
-) -> Result<Channel, Misfit>
+) -> Result<Channel, Unfit>
     requires { length names.now.keys ≤ MAX_ACTORS }
     ensures { Reads channel_view result (linked (map string_bytes names.now.keys) (ranged_view channel.entry)) }
 {
     let Some(from) = end_of(names, channel.from) else {
-        return Err(Misfit::Fault);
+        return Err(Unfit::Fault);
     };
     let Some(to) = end_of(names, channel.to) else {
-        return Err(Misfit::Fault);
+        return Err(Unfit::Fault);
     };
     Ok(Channel {
         name: String::from_str(alloc, channel.name)?,

@@ -8,8 +8,8 @@ ghost use Rattle.csdf_graph.specs.Shape.{kernel_view, actor_view as draft_of_act
 ghost use Rattle.csdf_graph.specs.Ranges.{number_within, signed_within, weights_within, kernel_within, actor_within, tokens_within, capacity_within};
 ghost use Rattle.csdf_graph.specs.Ranges.{initial_count, cells_within, lists_view, lists_within, channel_within, ranged_view, ranged_actor, ranged_channel, file_view, range_of};
 
-use crate::fault::{At, GraphFault, Misfit, answer_of, fault_place};
-use crate::shape::{ActorDraft, ChannelDraft, Draft, KernelDraft};
+use crate::fault::{At, GraphFault, Unfit, answer_of, fault_place};
+use crate::shape::{ActorDraft, ChannelDraft, GraphDraft, KernelDraft};
 use csdf_model::{
     Actor, Kernel, MAX_ACTORS, MAX_CAPACITY, MAX_CELLS, MAX_CHANNELS, MAX_INITIAL_TOKENS,
     MAX_PHASES, MAX_SHIFT, MAX_TOKENS_PER_FIRING, MAX_WEIGHTS,
@@ -130,14 +130,14 @@ fn kernel_within(draft: &KernelDraft) -> Option<Kernel>
 }
 
 #[tactic(auto, unfolding(crate::specs::Ranges::actor_within))]
-fn actor_within(alloc: Global, draft: &ActorDraft<'_>) -> Result<Actor, Misfit>
+fn actor_within(alloc: Global, draft: &ActorDraft<'_>) -> Result<Actor, Unfit>
     ensures { Reads actor_view result (actor_within (draft_of_actor draft.now)) }
 {
     let Some(kernel) = kernel_within(&draft.kernel) else {
-        return Err(Misfit::Fault);
+        return Err(Unfit::Fault);
     };
     let Some(phases) = number_within(1, MAX_PHASES, draft.phases) else {
-        return Err(Misfit::Fault);
+        return Err(Unfit::Fault);
     };
     let name = String::from_str(alloc, draft.name)?;
     Ok(Actor {
@@ -200,18 +200,18 @@ struct RangedLists {
 }
 
 #[tactic(auto, unfolding(crate::specs::Ranges::lists_within))]
-fn lists_within(alloc: Global, draft: &ChannelDraft<'_>) -> Result<RangedLists, Misfit>
+fn lists_within(alloc: Global, draft: &ChannelDraft<'_>) -> Result<RangedLists, Unfit>
     ensures { Reads lists_view result (lists_within (draft_of_channel draft.now)) }
 {
     let most = MAX_TOKENS_PER_FIRING;
     let Some(produce) = numbers_within(alloc, 0, most, &draft.produce)? else {
-        return Err(Misfit::Fault);
+        return Err(Unfit::Fault);
     };
     let Some(consume) = numbers_within(alloc, 0, most, &draft.consume)? else {
-        return Err(Misfit::Fault);
+        return Err(Unfit::Fault);
     };
     let Some(initial) = tokens_within(alloc, &draft.initial)? else {
-        return Err(Misfit::Fault);
+        return Err(Unfit::Fault);
     };
     Ok(RangedLists {
         produce,
@@ -221,11 +221,11 @@ fn lists_within(alloc: Global, draft: &ChannelDraft<'_>) -> Result<RangedLists, 
 }
 
 #[tactic(auto, unfolding(crate::specs::Ranges::channel_within, crate::specs::Ranges::lists_within))]
-fn channel_within<'a>(alloc: Global, draft: &ChannelDraft<'a>) -> Result<RangedChannel<'a>, Misfit>
+fn channel_within<'a>(alloc: Global, draft: &ChannelDraft<'a>) -> Result<RangedChannel<'a>, Unfit>
     ensures { Reads ranged_view result (channel_within (draft_of_channel draft.now)) }
 {
     let Some(capacity) = capacity_within(draft.initial.len(), draft.capacity) else {
-        return Err(Misfit::Fault);
+        return Err(Unfit::Fault);
     };
     let lists = lists_within(alloc, draft)?;
     Ok(RangedChannel {
@@ -302,7 +302,7 @@ pub(crate) struct Ranged<'a> {
 }
 
 #[tactic(auto, unfolding(crate::specs::Ranges::range_of))]
-pub(crate) fn range_of<'a>(alloc: Global, draft: &Draft<'a>) -> Result<Ranged<'a>, GraphFault>
+pub(crate) fn range_of<'a>(alloc: Global, draft: &GraphDraft<'a>) -> Result<Ranged<'a>, GraphFault>
     ensures { Gives file_view result (range_of (draft_view draft.now)) }
 {
     if draft.actors.is_empty()

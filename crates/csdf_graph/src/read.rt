@@ -17,7 +17,7 @@ use crate::fault::GraphFault;
 use crate::links::linked_channels;
 use crate::names::{Kind, Names, numbered};
 use crate::ranges::{Ranged, range_of};
-use crate::shape::{ActorDraft, ChannelDraft, Draft, draft_of};
+use crate::shape::{ActorDraft, ChannelDraft, GraphDraft, draft_of};
 use csdf_model::{Actor, Channel, Graph, MAX_ACTORS};
 use indexmap::IndexSet;
 use std::alloc::{AllocError, Global};
@@ -36,7 +36,7 @@ fn channel_names<'a>(alloc: Global, drafts: &[ChannelDraft<'a>]) -> Result<Vec<&
 }
 
 #[tactic(auto, using(crate::proofs::ReadLemmas::map_map))]
-fn numbered_actors(alloc: Global, draft: &Draft<'_>) -> Result<Names, GraphFault>
+fn numbered_actors(alloc: Global, draft: &GraphDraft<'_>) -> Result<Names, GraphFault>
     ensures { Gives (λ n. map string_bytes n.numbers.keys) result (names_of kind.Actor (map (λ a. a.name) (draft_view draft.now).actors)) }
 {
     let names = actor_names(alloc, &draft.actors)?;
@@ -44,7 +44,7 @@ fn numbered_actors(alloc: Global, draft: &Draft<'_>) -> Result<Names, GraphFault
 }
 
 #[tactic(auto, using(crate::proofs::ReadLemmas::map_map))]
-fn numbered_channels(alloc: Global, draft: &Draft<'_>) -> Result<Names, GraphFault>
+fn numbered_channels(alloc: Global, draft: &GraphDraft<'_>) -> Result<Names, GraphFault>
     ensures { Gives (λ n. map string_bytes n.numbers.keys) result (names_of kind.Channel (map (λ c. c.name) (draft_view draft.now).channels)) }
 {
     let names = channel_names(alloc, &draft.channels)?;
@@ -53,7 +53,7 @@ fn numbered_channels(alloc: Global, draft: &Draft<'_>) -> Result<Names, GraphFau
 
 /// Actors and channels that fit each other.
 #[derive(Drop)]
-struct Parts {
+struct JoinedParts {
     actors: Vec<Actor>,
     channels: Vec<Channel>,
     cells: Option<u32>,
@@ -65,7 +65,7 @@ fn parts_of(
     alloc: Global,
     names: &IndexSet<String>,
     ranged: Ranged<'_>,
-) -> Result<Parts, GraphFault>
+) -> Result<JoinedParts, GraphFault>
     requires { length names.now.keys ≤ MAX_ACTORS }
     ensures { Gives parts_view result (parts_of (map string_bytes names.now.keys) (file_view ranged.entry)) }
 {
@@ -74,7 +74,7 @@ fn parts_of(
     check_phase_lengths(&actors, &channels)?;
     check_rates(&channels)?;
     check_ports(&actors, &channels)?;
-    Ok(Parts {
+    Ok(JoinedParts {
         actors,
         channels,
         cells: ranged.cells,
@@ -83,7 +83,7 @@ fn parts_of(
 
 /// The parts of a graph, with the names that have become numbers.
 struct Named {
-    parts: Parts,
+    parts: JoinedParts,
     actor_names: Names,
     channel_names: Names,
 }
@@ -131,7 +131,7 @@ impl Named {
             actor_names,
             channel_names,
         } = self;
-        let Parts {
+        let JoinedParts {
             actors,
             channels,
             cells,

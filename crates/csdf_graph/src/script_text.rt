@@ -5,7 +5,7 @@ ghost use Rattle.toml.specs.View.{table_view};
 ghost use Rattle.csdf_graph.specs.Passes.{Gives, Reads};
 ghost use Rattle.csdf_graph.specs.ScriptText.{script_table, script_draft, draft_view, script_view, optional_within, script_within, script_of, script_in};
 
-use crate::fault::{At, GraphFault, Misfit, answer_of};
+use crate::fault::{At, GraphFault, Unfit, answer_of};
 use crate::ranges::number_within;
 use crate::read::file_of;
 use crate::script::Script;
@@ -32,23 +32,23 @@ const DEFAULT_SUPPLY: i64 = MAX_SCRIPT_SUPPLY as i64;
 const SCRIPT_KEYS: [&str; 4] = ["limit", "supply", "firings", "moves"];
 
 #[tactic(auto, unfolding(crate::specs::ScriptText::script_draft))]
-fn draft_of(alloc: Global, table: &Table) -> Result<ScriptDraft<'_>, Misfit>
+fn draft_of(alloc: Global, table: &Table) -> Result<ScriptDraft<'_>, Unfit>
     ensures { Reads draft_view result (script_draft (table_view table.now)) }
 {
     if !has_only(table, &SCRIPT_KEYS) {
-        return Err(Misfit::Fault);
+        return Err(Unfit::Fault);
     }
     let Some(limit) = integer_or(DEFAULT_LIMIT, table, "limit") else {
-        return Err(Misfit::Fault);
+        return Err(Unfit::Fault);
     };
     let Some(supply) = integer_or(DEFAULT_SUPPLY, table, "supply") else {
-        return Err(Misfit::Fault);
+        return Err(Unfit::Fault);
     };
     let Some(firings) = optional_integer_at(table, "firings") else {
-        return Err(Misfit::Fault);
+        return Err(Unfit::Fault);
     };
     let Some(lines) = texts_or_none(alloc, table, "moves")? else {
-        return Err(Misfit::Fault);
+        return Err(Unfit::Fault);
     };
     Ok(ScriptDraft {
         limit,
@@ -60,7 +60,7 @@ fn draft_of(alloc: Global, table: &Table) -> Result<ScriptDraft<'_>, Misfit>
 
 /// The script of a file, with its numbers as they stand there.
 #[tactic(auto, unfolding(crate::specs::ScriptText::script_draft))]
-fn file_draft(alloc: Global, file: &Table) -> Result<ScriptDraft<'_>, Misfit>
+fn file_draft(alloc: Global, file: &Table) -> Result<ScriptDraft<'_>, Unfit>
     ensures { Reads draft_view result (option_and_then script_draft (script_table (table_view file.now))) }
 {
     let Some(value) = value_at(file, "script") else {
@@ -73,7 +73,7 @@ fn file_draft(alloc: Global, file: &Table) -> Result<ScriptDraft<'_>, Misfit>
     };
     match value.as_table() {
         Some(table) => draft_of(alloc, table),
-        None => Err(Misfit::Fault),
+        None => Err(Unfit::Fault),
     }
 }
 
@@ -100,20 +100,20 @@ fn owned(alloc: Global, texts: &[&str]) -> Result<Vec<String>, AllocError>
 
 /// The script, where its numbers and the count of its lines are within their limits.
 #[tactic(auto, unfolding(crate::specs::ScriptText::script_within))]
-fn script_within(alloc: Global, draft: &ScriptDraft<'_>) -> Result<Script, Misfit>
+fn script_within(alloc: Global, draft: &ScriptDraft<'_>) -> Result<Script, Unfit>
     ensures { Reads script_view result (script_within (draft_view draft.now)) }
 {
     let Some(limit) = number_within(0, MAX_SCRIPT_LIMIT, draft.limit) else {
-        return Err(Misfit::Fault);
+        return Err(Unfit::Fault);
     };
     let Some(supply) = number_within(0, MAX_SCRIPT_SUPPLY, draft.supply) else {
-        return Err(Misfit::Fault);
+        return Err(Unfit::Fault);
     };
     let Some(firings) = optional_within(MAX_FIRINGS, draft.firings) else {
-        return Err(Misfit::Fault);
+        return Err(Unfit::Fault);
     };
     if draft.lines.len() > MAX_SCRIPT_LINES {
-        return Err(Misfit::Fault);
+        return Err(Unfit::Fault);
     }
     let lines = owned(alloc, &draft.lines)?;
     Ok(Script {

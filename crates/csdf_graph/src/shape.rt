@@ -6,7 +6,7 @@ ghost use Rattle.csdf_graph.specs.Shape.{plain_kernel, kernel_of, kernel_view, a
 ghost use Rattle.csdf_graph.specs.Shape.{tables_of_file, tables_view, draft_of, draft_view};
 ghost use Rattle.csdf_graph.specs.Passes.{Gives, Reads, each};
 
-use crate::fault::{At, GraphFault, Misfit, answer_of, fault_place};
+use crate::fault::{At, GraphFault, Unfit, answer_of, fault_place};
 use crate::tree::{
     has_only, integer_at, integer_or, integers_at, integers_or_none, optional_integer_at,
     tables_at, tables_or_none, text_at, value_at,
@@ -139,17 +139,17 @@ struct ChannelLists {
 }
 
 #[tactic(auto, unfolding(crate::specs::Shape::lists_of))]
-fn lists_of(alloc: Global, table: &Table) -> Result<ChannelLists, Misfit>
+fn lists_of(alloc: Global, table: &Table) -> Result<ChannelLists, Unfit>
     ensures { Reads lists_view result (lists_of (table_view table.now)) }
 {
     let Some(produce) = integers_at(alloc, table, "produce")? else {
-        return Err(Misfit::Fault);
+        return Err(Unfit::Fault);
     };
     let Some(consume) = integers_at(alloc, table, "consume")? else {
-        return Err(Misfit::Fault);
+        return Err(Unfit::Fault);
     };
     let Some(initial) = integers_or_none(alloc, table, "initial")? else {
-        return Err(Misfit::Fault);
+        return Err(Unfit::Fault);
     };
     Ok(ChannelLists {
         produce,
@@ -159,23 +159,23 @@ fn lists_of(alloc: Global, table: &Table) -> Result<ChannelLists, Misfit>
 }
 
 #[tactic(auto, unfolding(crate::specs::Shape::channel_of, crate::specs::Shape::lists_of))]
-fn channel_of(alloc: Global, table: &Table) -> Result<ChannelDraft<'_>, Misfit>
+fn channel_of(alloc: Global, table: &Table) -> Result<ChannelDraft<'_>, Unfit>
     ensures { Reads channel_view result (channel_of (table_view table.now)) }
 {
     if !has_only(table, &CHANNEL_KEYS) {
-        return Err(Misfit::Fault);
+        return Err(Unfit::Fault);
     }
     let Some(name) = text_at(table, "name") else {
-        return Err(Misfit::Fault);
+        return Err(Unfit::Fault);
     };
     let Some(from) = text_at(table, "from") else {
-        return Err(Misfit::Fault);
+        return Err(Unfit::Fault);
     };
     let Some(to) = text_at(table, "to") else {
-        return Err(Misfit::Fault);
+        return Err(Unfit::Fault);
     };
     let Some(capacity) = optional_integer_at(table, "capacity") else {
-        return Err(Misfit::Fault);
+        return Err(Unfit::Fault);
     };
     let lists = lists_of(alloc, table)?;
     Ok(ChannelDraft {
@@ -246,23 +246,23 @@ impl Drop for FileTables<'_> {
 const FILE_KEYS: [&str; 4] = ["actor", "channel", "script", "cells"];
 
 #[tactic(auto, unfolding(crate::specs::Shape::tables_of_file))]
-fn file_tables(alloc: Global, file: &Table) -> Result<FileTables<'_>, Misfit>
+fn file_tables(alloc: Global, file: &Table) -> Result<FileTables<'_>, Unfit>
     ensures { Reads tables_view result (tables_of_file (table_view file.now)) }
 {
     if !has_only(file, &FILE_KEYS) {
-        return Err(Misfit::Fault);
+        return Err(Unfit::Fault);
     }
     let Some(cells) = optional_integer_at(file, "cells") else {
-        return Err(Misfit::Fault);
+        return Err(Unfit::Fault);
     };
     if value_at(file, "script").is_some_and(|script| !script.is_table()) {
-        return Err(Misfit::Fault);
+        return Err(Unfit::Fault);
     }
     let Some(actors) = tables_at(alloc, file, "actor")? else {
-        return Err(Misfit::Fault);
+        return Err(Unfit::Fault);
     };
     let Some(channels) = tables_or_none(alloc, file, "channel")? else {
-        return Err(Misfit::Fault);
+        return Err(Unfit::Fault);
     };
     Ok(FileTables {
         actors,
@@ -272,15 +272,15 @@ fn file_tables(alloc: Global, file: &Table) -> Result<FileTables<'_>, Misfit>
 }
 
 /// A file that has the right shape.
-pub(crate) struct Draft<'a> {
+pub(crate) struct GraphDraft<'a> {
     pub(crate) actors: Vec<ActorDraft<'a>>,
     pub(crate) channels: Vec<ChannelDraft<'a>>,
     pub(crate) cells: Option<i64>,
 }
 
-impl Drop for Draft<'_> {
+impl Drop for GraphDraft<'_> {
     fn drop(self) {
-        let Draft {
+        let GraphDraft {
             actors: _,
             channels: _,
             cells: _,
@@ -290,13 +290,13 @@ impl Drop for Draft<'_> {
 
 /// The file's tables, read, or the first that is out of shape.
 #[tactic(auto, unfolding(crate::specs::Shape::draft_of), using(crate::proofs::PassLemmas::gives_read))]
-pub(crate) fn draft_of(alloc: Global, file: &Table) -> Result<Draft<'_>, GraphFault>
+pub(crate) fn draft_of(alloc: Global, file: &Table) -> Result<GraphDraft<'_>, GraphFault>
     ensures { Gives draft_view result (draft_of (table_view file.now)) }
 {
     let tables = answer_of(file_tables(alloc, file), GraphFault::Shape(At::File))?;
     let actors = actors_of(alloc, &tables.actors)?;
     let channels = channels_of(alloc, &tables.channels)?;
-    Ok(Draft {
+    Ok(GraphDraft {
         actors,
         channels,
         cells: tables.cells,

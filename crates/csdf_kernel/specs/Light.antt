@@ -1,13 +1,13 @@
 -- The tokens of a block of firings, where each firing gives as many, end to end.
 use Rattle.std.specs.Prelude.{ℕ, ◌≡◌, ◌+◌, ◌*◌, ◌<◌, ◌≤◌, IsTrue, List, ℤ, length, slice_range}
 use Rattle.csdf_model.specs.declared.limits.TheConstants.{MAX_TOTAL_PER_FIRING}
-use Rattle.csdf_kernel.specs.declared.light.Block.{Block}
+use Rattle.csdf_kernel.specs.declared.light.LightBlock.{LightBlock}
 use Rattle.csdf_kernel.specs.declared.light.TheConstants.{MOST_GIVEN}
 use Rattle.csdf_kernel.specs.Filter.{AreNarrow, IsInRange, filtered}
 use Rattle.csdf_kernel.specs.Value.{token_at}
 
 -- a block of firings of a filter with small weights, of few tokens each, whose inputs are all there
-pub record IsLight (b : Block) : Type 0 where
+pub record IsLight (b : LightBlock) : Type 0 where
   pub in_range : IsInRange b.filter
   pub small : IsTrue b.filter.small
   pub narrow : IsTrue b.narrow → AreNarrow b.filter.weights.now b.inputs.now
@@ -16,7 +16,7 @@ pub record IsLight (b : Block) : Type 0 where
   pub whole : b.firings * b.need ≤ length b.inputs.now
 
 -- the token at a place of firing f
-abbrev pub firing_token : Block → ℕ → ℕ → ℤ
+abbrev pub firing_token : LightBlock → ℕ → ℕ → ℤ
 firing_token b place f = filtered b.filter (slice_range b.inputs.now (f * b.need) (f * b.need + b.need)) place
 
 -- at a place of firings of `each` tokens stands what is told of it, from the first of some firings to before the last

@@ -86,7 +86,7 @@ pub(crate) fn light_values_into(
     ensures unchanged { OnErr result (outputs.new ≡ outputs.old) }
     ensures room { firings * each ≤ outputs.old.capacity → IsOk result }
 {
-    let block = Block {
+    let block = LightBlock {
         filter: *filter,
         narrow: filter.has_narrow_products(inputs),
         each: each as usize,
@@ -101,7 +101,7 @@ pub(crate) fn light_values_into(
 
 /// Firings of a light filter.
 #[derive(Clone, Copy)]
-struct Block<'a> {
+struct LightBlock<'a> {
     filter: Filter<'a>,
     /// Whether the products of its weights with the inputs are narrow.
     narrow: bool,
@@ -113,7 +113,7 @@ struct Block<'a> {
     inputs: &'a [i32],
 }
 
-impl Block<'_> {
+impl LightBlock<'_> {
     /// The values of all firings, in the place of as many tokens.
     fn fill(&self, values: &mut [i32])
         requires light { IsLight self.now }

@@ -17,7 +17,7 @@ const APART: usize = 512;
 
 // The next cells of a walk that are gone over together.
 #[derive(Clone, Copy)]
-pub(crate) struct Stretch {
+pub(crate) struct CellStretch {
     // How many they are.
     pub(crate) cells: usize,
     // Whether they stand in a long row.
@@ -91,20 +91,20 @@ fn row_length(links: &[u32], at: u32, cells: usize) -> usize
 
 // Cells that stand in no long row: so many, but no more than `APART`, so that one is looked for
 // again.
-fn walk_of(cells: usize) -> Stretch
+fn walk_of(cells: usize) -> CellStretch
     requires { 0 < cells }
     ensures some { 0 < result.cells }
     ensures fits { result.cells ≤ cells }
     ensures no_row { result.in_row ≡ false }
 {
-    Stretch {
+    CellStretch {
         cells: min(cells, APART),
         in_row: false,
     }
 }
 
 // What is gone over next, of so many cells from one on. Behind a long row stands no other.
-pub(crate) fn stretch_at(links: &[u32], at: u32, cells: usize, behind_row: bool) -> Stretch
+pub(crate) fn stretch_at(links: &[u32], at: u32, cells: usize, behind_row: bool) -> CellStretch
     requires start { at < length links.now }
     requires cells { 0 < cells }
     ensures some { 0 < result.cells }
@@ -121,7 +121,7 @@ pub(crate) fn stretch_at(links: &[u32], at: u32, cells: usize, behind_row: bool)
     if row == 0 {
         return walk_of(cells);
     }
-    Stretch {
+    CellStretch {
         cells: row,
         in_row: true,
     }

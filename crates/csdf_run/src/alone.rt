@@ -11,7 +11,7 @@ ghost use Rattle.csdf_run.specs.Requests.{IsFedOf, most_firings};
 use crate::claims::most_from;
 use crate::hints::Hints;
 use crate::no_outcome::{NoOutcome, Ran};
-use crate::request::Request;
+use crate::request::RunRequest;
 use crate::told::Told;
 use csdf_analysis::mask::lowest;
 use csdf_floor::{Floor, Settled, StartFault};
@@ -113,7 +113,7 @@ fn told_of(settled: Settled) -> Ran
 pub(crate) fn outcome_alone<R: Wait, G: Told>(
     rt: &R,
     alloc: Global,
-    request: Request,
+    request: RunRequest,
     gate: &G,
 ) -> Ran
     ensures fed { IsFedOf request.work result.fed }

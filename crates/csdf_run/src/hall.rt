@@ -12,7 +12,7 @@ use crate::hints::Hints;
 use crate::policy::{Crew, Policy, Teller};
 use crate::run_end::{EndCause, EndWord, RunEnd};
 use crate::run_floor::{Asked, Delivered, Made, NotStarted, NotTaken, RunFloor};
-use crate::watched::{Stand, Watched};
+use crate::watched::{LastSeen, Watched};
 use csdf_claims::Place;
 use csdf_floor::Floor;
 use std::alloc::Global;
@@ -48,7 +48,7 @@ pub(crate) struct Hall<K: Asked> {
 /// What came of a turn: what was delivered, whether a job was started, and whether another worker is to be
 /// woken.
 #[derive(Drop)]
-pub(crate) struct Turn {
+pub(crate) struct JobTurn {
     pub(crate) delivered: Result<Option<Delivered>, NotTaken>,
     pub(crate) started: Result<bool, NotStarted>,
     pub(crate) wakes: bool,
@@ -134,8 +134,8 @@ impl<K: Asked> Hall<K> {
     }
 
     /// A worker comes in.
-    pub(crate) fn stand(&self) -> Stand {
-        Stand {
+    pub(crate) fn stand(&self) -> LastSeen {
+        LastSeen {
             tends: false,
             ready: self.ready.load(SeqCst),
             next: 0,
@@ -150,7 +150,7 @@ impl<K: Asked> Hall<K> {
     }
 
     /// The actors that this worker may take.
-    pub(crate) fn seen(&self, stand: &Stand) -> u64 {
+    pub(crate) fn seen(&self, stand: &LastSeen) -> u64 {
         if self.is_alone {
             stand.ready
         } else if stand.tends {
@@ -161,7 +161,7 @@ impl<K: Asked> Hall<K> {
     }
 
     /// Whether this worker makes the actor's firings one after another.
-    pub(crate) fn makes_blocks(&self, stand: &Stand, actor: u32) -> bool {
+    pub(crate) fn makes_blocks(&self, stand: &LastSeen, actor: u32) -> bool {
         let bit = bit_of(actor);
         let tends = self.is_alone || stand.tends;
         (tends && stand.light & bit != 0) || stand.drafted & bit != 0
@@ -169,7 +169,7 @@ impl<K: Asked> Hall<K> {
 
     /// Whether this worker can go on by making an actor's firings under the lock, once what is in hand is
     /// delivered.
-    pub(crate) fn has_blocks(&self, stand: &Stand) -> bool {
+    pub(crate) fn has_blocks(&self, stand: &LastSeen) -> bool {
         let near = self.seen(stand) | stand.next;
         let tends = self.is_alone || stand.tends;
         (tends && near & stand.light != 0) || near & stand.drafted != 0
@@ -194,10 +194,10 @@ impl<K: Asked> Hall<K> {
         rt: &R,
         alloc: Global,
         place: &Place,
-        stand: &mut Stand,
+        stand: &mut LastSeen,
         hand: &mut Hand,
         next: Option<Claim>,
-    ) -> Turn
+    ) -> JobTurn
         requires given { HasClaim place.now.view (claim_in hand.old) }
         requires next { HasClaim place.now.view next }
         ensures idle { hand.new.is_made ≡ false }
@@ -216,7 +216,7 @@ impl<K: Asked> Hall<K> {
         };
         *stand = watched.stand(stand.tends, job);
         let wakes = self.tell(watched, teller);
-        Turn {
+        JobTurn {
             delivered,
             started,
             wakes,
@@ -228,7 +228,7 @@ impl<K: Asked> Hall<K> {
     fn draft(
         &self,
         watched: &mut Watched<K>,
-        stand: &mut Stand,
+        stand: &mut LastSeen,
         hand: &mut Hand,
         claim: Claim,
     ) -> bool
@@ -246,7 +246,7 @@ impl<K: Asked> Hall<K> {
     fn draft_next(
         &self,
         watched: &mut Watched<K>,
-        stand: &mut Stand,
+        stand: &mut LastSeen,
         hand: &mut Hand,
         next: Option<Claim>,
     ) -> bool
@@ -267,7 +267,7 @@ impl<K: Asked> Hall<K> {
         rt: &R,
         gate: &G,
         place: &Place,
-        stand: &mut Stand,
+        stand: &mut LastSeen,
         hand: &mut Hand,
         claim: Claim,
         next: Option<Claim>,
@@ -307,7 +307,7 @@ impl<K: Asked> Hall<K> {
         rt: &R,
         gate: &G,
         place: &Place,
-        stand: &mut Stand,
+        stand: &mut LastSeen,
         hand: &mut Hand,
         claim: Claim,
     ) -> Option<BlockTurn>
@@ -369,7 +369,7 @@ impl<K: Asked> Hall<K> {
     }
 
     /// The worker tends no longer. The end of the run, where all is over.
-    fn rest<R: Wait>(&self, rt: &R, stand: &mut Stand) -> Option<RunEnd> {
+    fn rest<R: Wait>(&self, rt: &R, stand: &mut LastSeen) -> Option<RunEnd> {
         let mut guard = self.hold(rt);
         let watched = &mut *guard;
         watched.policy.rests(stand.tends);
@@ -386,7 +386,7 @@ impl<K: Asked> Hall<K> {
     }
 
     /// The end of the run, where it has ended or all is over.
-    fn seen_or_rest<R: Wait>(&self, rt: &R, stand: &mut Stand) -> Option<RunEnd> {
+    fn seen_or_rest<R: Wait>(&self, rt: &R, stand: &mut LastSeen) -> Option<RunEnd> {
         match self.end.get() {
             Some(end) => Some(end),
             None => self.rest(rt, stand),
@@ -394,7 +394,7 @@ impl<K: Asked> Hall<K> {
     }
 
     /// Waits until something is spare. The end of the run, where there is nothing more to do.
-    pub(crate) fn wait<R: Wait>(&self, rt: &R, stand: &mut Stand) -> Option<RunEnd> {
+    pub(crate) fn wait<R: Wait>(&self, rt: &R, stand: &mut LastSeen) -> Option<RunEnd> {
         if let Some(end) = self.seen_or_rest(rt, stand) {
             return Some(end);
         }

@@ -20,13 +20,13 @@ use std::marker::Model;
 /// A contract sees the work apart from the number of workers and from whether the journal is kept, since
 /// no outcome depends on these.
 #[derive(Drop)]
-pub(crate) struct Request {
+pub(crate) struct RunRequest {
     fed: Fed,
     periods: u32,
     options: RunOptions,
 }
 
-impl Model for Request {
+impl Model for RunRequest {
     ghost use Rattle.std.specs.Prelude.{◌≤◌};
     ghost use Rattle.csdf_floor.specs.Work.{AreFeeds, HasFewFirings, feeds_in};
     ghost use Rattle.csdf_journal.specs.View.{is_kept};
@@ -65,8 +65,8 @@ fn firings_in(periods: u32, q: &[u32]) -> u64
     all
 }
 
-impl Request {
-    pub(crate) fn new(fed: Fed, options: RunOptions) -> Request
+impl RunRequest {
+    pub(crate) fn new(fed: Fed, options: RunOptions) -> RunRequest
         requires fed { AreFeeds fed.accepted.graph (feeds_in fed.feeds.items) }
         requires goes_on { MayGoOnOver options.how_long fed.accepted }
         ensures work { (periods : ℕ) × GoesOnFor options.how_long fed.accepted periods
@@ -75,7 +75,7 @@ impl Request {
         ensures keeps { result.keeps ≡ is_kept options.keeping }
     {
         let periods = periods_of(options.how_long, &fed.accepted);
-        Request {
+        RunRequest {
             fed,
             periods,
             options,
@@ -83,7 +83,7 @@ impl Request {
     }
 
     /// A request that is carried out so.
-    pub(crate) fn on(fed: Fed, terms: Terms) -> Request
+    pub(crate) fn on(fed: Fed, terms: Terms) -> RunRequest
         requires fed { AreFeeds fed.accepted.graph (feeds_in fed.feeds.items) }
         requires some_period { 1 ≤ terms.periods }
         requires few_firings { HasFewFirings fed.accepted terms.periods }
@@ -92,7 +92,7 @@ impl Request {
         ensures keeps { result.keeps ≡ is_kept terms.options.keeping }
     {
         let Terms { periods, options } = terms;
-        Request {
+        RunRequest {
             fed,
             periods,
             options,
@@ -159,7 +159,7 @@ impl Request {
         ensures keeps { IfOk result (λ floor. floor.keeps ≡ self.keeps) }
         ensures back { IfErr result (IsFedOf self.work) }
     {
-        let Request {
+        let RunRequest {
             fed,
             periods,
             options,

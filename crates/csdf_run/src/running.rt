@@ -17,7 +17,7 @@ use crate::hall::Hall;
 use crate::no_outcome::{NoOutcome, Ran};
 use crate::options::RunOptions;
 use crate::policy::Crew;
-use crate::request::Request;
+use crate::request::RunRequest;
 use crate::run_end::{EndCause, RunEnd, Unstarted};
 use crate::run_floor::{Asked, RunFloor};
 use crate::told::{Telling, Told};
@@ -284,7 +284,7 @@ fn run_hall<K: Asked + Send + Sync, R: Threads + Wait + Sync, G: Told>(
 }
 
 /// A hall for the run. What is run comes back where memory runs out.
-fn hall_of<K: Asked>(alloc: Global, request: Request, crew: Crew) -> Result<Hall<K>, Fed>
+fn hall_of<K: Asked>(alloc: Global, request: RunRequest, crew: Crew) -> Result<Hall<K>, Fed>
     requires keeps { request.keeps ≡ K.keeps }
     requires work { request.work ≡ K.work }
     ensures back { IfErr result (IsFedOf request.work) }
@@ -315,7 +315,7 @@ fn processors(rt: &impl Threads) -> u32 {
 fn outcome_as<K: Asked + Send + Sync, R: Threads + Wait + Sync, G: Told>(
     rt: &R,
     alloc: Global,
-    request: Request,
+    request: RunRequest,
     gate: &G,
 ) -> Settled
     requires keeps { request.keeps ≡ K.keeps }
@@ -357,7 +357,7 @@ fn outcome_as<K: Asked + Send + Sync, R: Threads + Wait + Sync, G: Told>(
 pub(crate) fn outcome_of<R: Threads + Wait + Sync, G: Gate>(
     rt: &R,
     alloc: Global,
-    request: Request,
+    request: RunRequest,
     gate: &G,
 ) -> Settled
     ensures fed { IsFedOf request.work result.fed }
@@ -376,7 +376,7 @@ pub(crate) fn outcome_of<R: Threads + Wait + Sync, G: Gate>(
 pub(crate) fn watched_outcome_of<R: Threads + Wait + Sync, W: Watch>(
     rt: &R,
     alloc: Global,
-    request: Request,
+    request: RunRequest,
     watch: &W,
 ) -> Ran
     ensures fed { IsFedOf request.work result.fed }
@@ -404,7 +404,7 @@ pub(crate) fn watched_outcome_of<R: Threads + Wait + Sync, W: Watch>(
             fed,
             outcome: Err(NoOutcome::Worker),
         },
-        Err(RunFault::Mixed) => outcome_alone(rt, alloc, Request::on(fed, terms), &told),
+        Err(RunFault::Mixed) => outcome_alone(rt, alloc, RunRequest::on(fed, terms), &told),
     }
 }
 
@@ -459,7 +459,7 @@ pub fn run<R: Threads + Wait + Sync, G: Gate>(
         room: Room::Least,
         keeping: Keeping::Kept,
     };
-    let request = Request::new(fed, options);
+    let request = RunRequest::new(fed, options);
     let Settled { fed: _, outcome } = outcome_of(rt, alloc, request, gate);
     let outcome = outcome?;
     Ok(outcome)

@@ -11,7 +11,7 @@ ghost use Rattle.csdf_run.specs.Totals.{totals_of, with_report};
 
 use crate::no_outcome::{NoOutcome, Ran};
 use crate::options::RunOptions;
-use crate::request::Request;
+use crate::request::RunRequest;
 use crate::running::watched_outcome_of;
 use crate::totals::{ChannelTotal, add_report, no_totals};
 use crate::watch::Watch;
@@ -213,7 +213,7 @@ impl Stream {
             room: Room::Least,
             keeping: Keeping::NotKept,
         };
-        let request = Request::new(Fed { accepted, feeds }, options);
+        let request = RunRequest::new(Fed { accepted, feeds }, options);
         let Ran { fed, outcome } = watched_outcome_of(rt, alloc, request, watch);
         let Fed { accepted, feeds } = fed;
         match outcome {

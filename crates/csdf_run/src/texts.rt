@@ -16,7 +16,7 @@ ghost use Rattle.csdf_run.specs.Scripts.{kept_script};
 
 use crate::gate::{Gate, Open};
 use crate::options::RunOptions;
-use crate::request::Request;
+use crate::request::RunRequest;
 use crate::running::outcome_of;
 use crate::script::kept_script;
 use csdf_analysis::{AcceptFault, Length, Room, accept_or_hand_back};
@@ -162,13 +162,13 @@ fn counted_feeds(
 
 /// A graph that is handed back, and why there are no tokens for its actors.
 #[derive(Drop)]
-struct Unfed {
+struct UnfedTexts {
     graph: Graph,
     fault: TextsFault,
 }
 
 /// The graph, accepted with this room, and the tokens in the texts for its sources.
-fn fed_of(alloc: Global, graph: Graph, texts: &[Vec<u8>], room: Room) -> Result<Fed, Unfed>
+fn fed_of(alloc: Global, graph: Graph, texts: &[Vec<u8>], room: Room) -> Result<Fed, UnfedTexts>
     requires { HasSomePeriod room }
     ensures read { IfOk result (λ fed. AreTextsOf room graph (texts_in texts.now) fed.accepted (feeds_in fed.feeds.items)) }
     ensures graph { IfErr result (λ unfed. IsHandedBack room graph unfed.graph) }
@@ -178,7 +178,7 @@ fn fed_of(alloc: Global, graph: Graph, texts: &[Vec<u8>], room: Room) -> Result<
     let accepted = match accept_or_hand_back(alloc, graph, room) {
         Ok(accepted) => accepted,
         Err(refused) => {
-            return Err(Unfed {
+            return Err(UnfedTexts {
                 graph: refused.graph,
                 fault: TextsFault::Accept(refused.fault),
             });
@@ -186,7 +186,7 @@ fn fed_of(alloc: Global, graph: Graph, texts: &[Vec<u8>], room: Room) -> Result<
     };
     match counted_feeds(alloc, accepted.graph(), texts) {
         Ok(feeds) => Ok(Fed { accepted, feeds }),
-        Err(fault) => Err(Unfed {
+        Err(fault) => Err(UnfedTexts {
             graph: accepted.into_graph(),
             fault,
         }),
@@ -412,7 +412,7 @@ pub fn run_and_hand_back<R: Threads + Wait + Sync, G: Gate>(
             };
         }
     };
-    let request = Request::new(fed, options);
+    let request = RunRequest::new(fed, options);
     let Settled { fed, outcome } = outcome_of(rt, alloc, request, gate);
     let texts = told_of(alloc, fed.accepted.graph(), outcome);
     GraphRun {

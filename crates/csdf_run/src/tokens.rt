@@ -10,7 +10,7 @@ ghost use Rattle.csdf_run.specs.Tokens.{AreReadOf, IsGraphRun, IsGraphRunSameInA
 
 use crate::no_outcome::{NoOutcome, Ran};
 use crate::options::RunOptions;
-use crate::request::Request;
+use crate::request::RunRequest;
 use crate::running::watched_outcome_of;
 use crate::watch::Watch;
 use csdf_analysis::{AcceptFault, Room, accept_or_hand_back};
@@ -58,7 +58,7 @@ pub struct TokensRun {
 
 /// A graph that is handed back, and why it is not run.
 #[derive(Drop)]
-struct Unfed {
+struct UnfedTokens {
     graph: Graph,
     fault: TokensFault,
 }
@@ -69,7 +69,7 @@ fn fed_with(
     graph: Graph,
     feeds: Result<Vec<Vec<i32>>, FeedFault>,
     room: Room,
-) -> Result<Fed, Unfed>
+) -> Result<Fed, UnfedTokens>
     requires { HasSomePeriod room }
     ensures fed { (texts : List (List ℕ)) → AreReadOf graph.actors texts feeds
         → IfOk result (λ fed. AreTextsOf room graph texts fed.accepted (feeds_in fed.feeds.items)) }
@@ -81,7 +81,7 @@ fn fed_with(
     let accepted = match accept_or_hand_back(alloc, graph, room) {
         Ok(accepted) => accepted,
         Err(refused) => {
-            return Err(Unfed {
+            return Err(UnfedTokens {
                 graph: refused.graph,
                 fault: TokensFault::Accept(refused.fault),
             });
@@ -89,7 +89,7 @@ fn fed_with(
     };
     match feeds {
         Ok(feeds) => Ok(Fed { accepted, feeds }),
-        Err(fault) => Err(Unfed {
+        Err(fault) => Err(UnfedTokens {
             graph: accepted.into_graph(),
             fault: TokensFault::Feed(fault),
         }),
@@ -151,7 +151,7 @@ pub fn run_tokens<R: Threads + Wait + Sync, W: Watch>(
             };
         }
     };
-    let request = Request::new(fed, options);
+    let request = RunRequest::new(fed, options);
     let Ran { fed, outcome } = watched_outcome_of(rt, alloc, request, watch);
     TokensRun {
         graph: fed.accepted.into_graph(),

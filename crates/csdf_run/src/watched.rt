@@ -21,7 +21,7 @@ use std::alloc::Global;
 
 /// What a worker knows since it had the lock last.
 #[derive(Clone, Copy)]
-pub(crate) struct Stand {
+pub(crate) struct LastSeen {
     /// Whether it tends.
     pub(crate) tends: bool,
     /// The actors that could begin.
@@ -159,8 +159,8 @@ impl<K: Asked> Watched<K> {
     }
 
     /// Where a worker stands that has started this job, or none.
-    pub(crate) fn stand(&mut self, tended: bool, started: Option<&Job>) -> Stand {
-        Stand {
+    pub(crate) fn stand(&mut self, tended: bool, started: Option<&Job>) -> LastSeen {
+        LastSeen {
             tends: self.policy.tends(tended, started),
             ready: self.hints.ready(),
             next: match started {

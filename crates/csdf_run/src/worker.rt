@@ -10,12 +10,12 @@ ghost use Rattle.csdf_run.specs.Workers.{CanEnd, HasMade, HoldsJust, HoldsNothin
 use crate::claims::{Claim, claim_among, finish, finish_block, give_back};
 use crate::gate::Gate;
 use crate::gave_up::{GaveUp, refused, unevaluated, untaken};
-use crate::hall::{BlockTurn, Hall, Turn};
+use crate::hall::{BlockTurn, Hall, JobTurn};
 use crate::hand::Hand;
 use crate::run_end::{EndCause, RunEnd};
 use crate::run_floor::{Asked, Made, NotStarted};
 use crate::told::Told;
-use crate::watched::Stand;
+use crate::watched::LastSeen;
 use csdf_claims::{Board, Place};
 use std::alloc::Global;
 use std::sync::Wait;
@@ -34,7 +34,7 @@ fn claim_next<K: Asked>(
     hall: &Hall<K>,
     board: &Board,
     place: &mut Place,
-    stand: &Stand,
+    stand: &LastSeen,
     beside: Option<Claim>,
     by_blocks: bool,
 ) -> Option<Claim>
@@ -96,7 +96,7 @@ fn turn<K: Asked, R: Wait, G: Told>(
     board: &Board,
     gate: &G,
     place: &mut Place,
-    stand: &mut Stand,
+    stand: &mut LastSeen,
     hand: &mut Hand,
     next: Option<Claim>,
 ) -> Result<bool, GaveUp>
@@ -111,7 +111,7 @@ fn turn<K: Asked, R: Wait, G: Told>(
     ensures actor { IfOk result (λ is_started. IsActor board.now.actors (claim_if is_started hand.new.job)) }
     ensures made { IfOk result (λ _. HasMade place.new.view (claim_in hand.old)) }
 {
-    let Turn {
+    let JobTurn {
         delivered,
         started,
         wakes,
@@ -200,7 +200,7 @@ fn make_drafted<K: Asked, R: Wait, G: Told>(
     board: &Board,
     gate: &G,
     place: &mut Place,
-    stand: &mut Stand,
+    stand: &mut LastSeen,
     hand: &mut Hand,
     claim: Claim,
 ) -> Result<bool, GaveUp>
@@ -244,7 +244,7 @@ fn make<K: Asked, R: Wait, G: Told>(
     board: &Board,
     gate: &G,
     place: &mut Place,
-    stand: &mut Stand,
+    stand: &mut LastSeen,
     hand: &mut Hand,
     claim: Claim,
 ) -> Result<bool, GaveUp>
@@ -277,7 +277,7 @@ fn advance<K: Asked, R: Wait, G: Told>(
     board: &Board,
     gate: &G,
     place: &mut Place,
-    stand: &mut Stand,
+    stand: &mut LastSeen,
     hand: &mut Hand,
 ) -> Result<bool, GaveUp>
     requires place { place.old.board ≡ board.now.id }

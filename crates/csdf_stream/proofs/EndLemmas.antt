@@ -25,7 +25,7 @@ use Rattle.csdf_stream.specs.declared.end.StreamEnd.{StreamEnd}
 use Rattle.csdf_stream.specs.declared.end.StreamFault.{StreamFault}
 use Rattle.csdf_stream.specs.declared.end.StreamFault.TheVariants as why
 use Rattle.csdf_stream.specs.declared.flow.Flow.{Flow}
-use Rattle.csdf_stream.specs.declared.flow.Plan.{Plan}
+use Rattle.csdf_stream.specs.declared.flow.FlowPlan.{FlowPlan}
 use Rattle.csdf_stream.specs.declared.options.StreamOptions.{StreamOptions}
 use Rattle.csdf_stream.specs.declared.options.TokenFormat.{TokenFormat}
 use Rattle.csdf_stream.specs.declared.options.TokenFormat.TheVariants.{Text}
@@ -52,7 +52,7 @@ pub record Follow (d now : Devices) : Type 0 where
 
 -- ---- at first
 
-pub stands_first : (a : Accepted) (p : Plan) (asked : Option ℕ) (lefts before : List (Option (List ℕ))) (flow : Flow) → StandsAfter a [] flow.stream
+pub stands_first : (a : Accepted) (p : FlowPlan) (asked : Option ℕ) (lefts before : List (Option (List ℕ))) (flow : Flow) → StandsAfter a [] flow.stream
     → flow.stream.is_over ≡ false
     → flow.buffers.readers.items ≡ replicate (length p.sources.items) (fresh p.format)
     → flow.buffers.clipped.items ≡ replicate (length p.sinks.items) 0
@@ -77,7 +77,7 @@ stands_first a p asked lefts before flow stream goes readers clipped many counts
 
 -- ---- a segment
 
-module _ (a : Accepted) (p : Plan) (asked : Option ℕ) (d now : Devices) (past : List Segment) (flow new : Flow) (part : Part) (ok : IsAccepted a)
+module _ (a : Accepted) (p : FlowPlan) (asked : Option ℕ) (d now : Devices) (past : List Segment) (flow new : Flow) (part : Part) (ok : IsAccepted a)
     (ready : IsReady a p) (follow : Follow d now) (stands : Stands a p asked d past flow) (on : GoesOnTo p flow new now part) where
   abbrev pub g : Segment
   g = on.stretch.segment
@@ -188,7 +188,7 @@ module _ (a : Accepted) (p : Plan) (asked : Option ℕ) (d now : Devices) (past 
 
 -- ---- a fault
 
-module _ (a : Accepted) (p : Plan) (asked : Option ℕ) (d now : Devices) (past : List Segment) (flow new : Flow) (ok : IsAccepted a)
+module _ (a : Accepted) (p : FlowPlan) (asked : Option ℕ) (d now : Devices) (past : List Segment) (flow new : Flow) (ok : IsAccepted a)
     (ready : IsReady a p) (follow : Follow d now) (stands : Stands a p asked d past flow) (format : TokenFormat) (workers : ℕ) (same : p.format ≡ format)
     (many : p.workers ≡ workers) where
   some_read : (given : ℕ → List ℤ)
@@ -317,7 +317,7 @@ read_clear sources rs0 rs ss ss0 ls ms fs gs hs read none old new same k lt =
     (subst (λ (xs : List ℤ). Reads (reader_at rs k) (reader_at ss k) (left_at ls k) (left_at ms k) xs)
     (given ∙ ap (λ (fs : List (List ℤ)). feed_of fs (source_at sources k)) same) here.read))
 
-pub stops_unfed : (p : Plan) (old new : Flow) (d : Devices) (fault : StreamFault) → new.stream ≡ old.stream → (given : ℕ → List ℤ)
+pub stops_unfed : (p : FlowPlan) (old new : Flow) (d : Devices) (fault : StreamFault) → new.stream ≡ old.stream → (given : ℕ → List ℤ)
     → ((k : ℕ) → k < length p.sources.items
     → Reads (reader_at old.buffers.readers.items k) (reader_at new.buffers.readers.items k) (left_at d.lefts k) (left_at d.rests k) (given k))
     → d.after ≡ d.before → IsUnfedBy old.stream.accepted p new.buffers.readers.items d.rests fault → StopsAt p old new d fault
@@ -340,11 +340,11 @@ read_flow old readers feeds = record {
 }
 
 -- the readers have given these tokens
-abbrev HaveGiven : Plan → Flow → Vec Reader → Devices → (ℕ → List ℤ) → Type 0
+abbrev HaveGiven : FlowPlan → Flow → Vec Reader → Devices → (ℕ → List ℤ) → Type 0
 HaveGiven p old readers d given =
     (k : ℕ) → k < length p.sources.items → Reads (reader_at old.buffers.readers.items k) (reader_at readers.items k) (left_at d.lefts k) (left_at d.rests k) (given k)
 
-pub goes_on_run : (p : Plan) (old new : Flow) (rs : Vec Reader) (fs : Vec (Vec ℤ)) (d : Devices) (periods : ℕ) (part : Part)
+pub goes_on_run : (p : FlowPlan) (old new : Flow) (rs : Vec Reader) (fs : Vec (Vec ℤ)) (d : Devices) (periods : ℕ) (part : Part)
     → IsSegmentOf old.stream.accepted p old.left periods
     → HaveGiven p old rs d (λ k. feed_of (feeds_in fs.items) (source_at p.sources.items k))
     → AreFull old.stream.accepted periods p.sources.items rs.items d.rests (feeds_in fs.items)
@@ -364,7 +364,7 @@ goes_on_run p old new rs fs d periods part segment read full many same run = rec
   feeds_each = run.feeds_each;
 }
 
-pub stops_run : (p : Plan) (old new : Flow) (rs : Vec Reader) (fs : Vec (Vec ℤ)) (d : Devices) (periods : ℕ) (fault : StreamFault)
+pub stops_run : (p : FlowPlan) (old new : Flow) (rs : Vec Reader) (fs : Vec (Vec ℤ)) (d : Devices) (periods : ℕ) (fault : StreamFault)
     → HaveGiven p old rs d (λ k. feed_of (feeds_in fs.items) (source_at p.sources.items k)) → new.buffers.readers ≡ rs
     → HasNotRun p (read_flow old rs fs) new periods d.before d.after fault → StopsAt p old new d fault
 stops_run p old new rs fs d periods (why.Sink t) read same not = record {
@@ -390,7 +390,7 @@ stops_run p old new rs fs d periods why.Memory read same not = absurd not
 
 -- ---- a plan
 
-pub plan_ready : (a : Accepted) (options : StreamOptions) (p : Plan) → IsPlanOf a options p → IsReady a p
+pub plan_ready : (a : Accepted) (options : StreamOptions) (p : FlowPlan) → IsPlanOf a options p → IsReady a p
 plan_ready a options p is = record {
   sources = is.sources;
   sinks = is.sinks;
@@ -437,7 +437,7 @@ stopped_first a format workers lefts before = record {
 
 -- ---- the graph of a stream stays alike
 
-module _ (a : Accepted) (p : Plan) (asked : Option ℕ) (d : Devices) (past : List Segment) (flow : Flow) (ok : IsAccepted a) (ready : IsReady a p)
+module _ (a : Accepted) (p : FlowPlan) (asked : Option ℕ) (d : Devices) (past : List Segment) (flow : Flow) (ok : IsAccepted a) (ready : IsReady a p)
     (stands : Stands a p asked d past flow) where
   alike_by : (new : StreamView) (feeds : List (List ℤ)) (periods : ℕ) (part : Part) → IsStretch flow.stream feeds periods new part → (b : Bool) → new.is_over ≡ b
       → IsAlike a new.accepted

@@ -13,7 +13,7 @@ use Rattle.csdf_floor.specs.Work.{AreFeeds, feed_of, feeds_in, is_source_of}
 use Rattle.csdf_stream.specs.declared.reader.Reader.{Reader}
 use Rattle.csdf_stream.specs.declared.end.StreamFault.{StreamFault}
 use Rattle.csdf_stream.specs.declared.end.StreamFault.TheVariants as why
-use Rattle.csdf_stream.specs.declared.flow.Plan.{Plan}
+use Rattle.csdf_stream.specs.declared.flow.FlowPlan.{FlowPlan}
 use Rattle.csdf_stream.specs.declared.reader.ReaderFault.{ReaderFault}
 use Rattle.csdf_stream.specs.Flowing.{IsUnfedBy}
 use Rattle.csdf_stream.specs.Feeding.{AreRead, IsCauseAt, IsFullFor, IsReadAt, IsUnfed, given_for, left_at, reader_at, source_at}
@@ -241,7 +241,7 @@ pub if_unfed : {X : Type 0} (r : Result X StreamFault) (fault : StreamFault) (P 
 if_unfed (Ok x) fault P same h = absurd same
 if_unfed (Err e) fault P same h = subst P (sym same) h
 
-pub unfed_by : (a : Accepted) (p : Plan) (periods : ℕ) (sources : List ℕ) (readers : List Reader) (rests : List (Option (List ℕ))) (fault : StreamFault)
+pub unfed_by : (a : Accepted) (p : FlowPlan) (periods : ℕ) (sources : List ℕ) (readers : List Reader) (rests : List (Option (List ℕ))) (fault : StreamFault)
     → sources ≡ p.sources.items → IsUnfed a periods sources readers rests fault → IsUnfedBy a p readers rests fault
 unfed_by a p periods sources readers rests fault same is = (
   is.0,

@@ -5,7 +5,7 @@ use Rattle.std.proofs.lemmas.List.{get_or-set_same, length-map, map-set}
 use Rattle.csdf_analysis.specs.Acceptance.{Accepted}
 use Rattle.csdf_stream.specs.declared.end.StreamFault.{StreamFault}
 use Rattle.csdf_stream.specs.declared.end.StreamFault.TheVariants as why
-use Rattle.csdf_stream.specs.declared.flow.Plan.{Plan}
+use Rattle.csdf_stream.specs.declared.flow.FlowPlan.{FlowPlan}
 use Rattle.csdf_stream.specs.declared.reader.Reader.{Reader}
 use Rattle.csdf_stream.specs.declared.reader.ReaderFault.{ReaderFault}
 use Rattle.csdf_stream.specs.declared.reader.ReaderFault.TheVariants as reader
@@ -33,7 +33,7 @@ module _ {D : Type 0} (failed : D → Bool) (actors : List ℕ) (ds : List D) (k
   marked_at reader.Memory is = tt
 
 -- a fault of sources alone
-pub marked_read : (a : Accepted) (p : Plan) (readers : List Reader) (rests : List (Option (List ℕ))) (sources sinks : List ℕ) (ins outs : List Bool) (fault : StreamFault)
+pub marked_read : (a : Accepted) (p : FlowPlan) (readers : List Reader) (rests : List (Option (List ℕ))) (sources sinks : List ℕ) (ins outs : List Bool) (fault : StreamFault)
     → IsUnfedBy a p readers rests fault → IsReadMarked sources ins fault → IsMarked sources sinks ins outs fault
 marked_read a p readers rests sources sinks ins outs (why.Source i reader.Read) unfed is = is
 marked_read a p readers rests sources sinks ins outs (why.Source i (reader.Syntax line)) unfed is = tt

@@ -12,7 +12,7 @@ use Rattle.csdf_floor.specs.Floor.{sink_of, sinks_of}
 use Rattle.csdf_floor.specs.Work.{AreFeeds, feeds_in}
 use Rattle.csdf_run.specs.Streaming.{StandsAfter}
 use Rattle.csdf_stream.specs.declared.flow.Flow.{Flow}
-use Rattle.csdf_stream.specs.declared.flow.Plan.{Plan}
+use Rattle.csdf_stream.specs.declared.flow.FlowPlan.{FlowPlan}
 use Rattle.csdf_stream.specs.Feeding.{source_at}
 use Rattle.csdf_stream.specs.Flowing.{AreBuffersFor, Devices, HaveClipped, HaveRead, HaveWritten, IsAlike, IsReady, IsSegmentOf}
 use Rattle.csdf_stream.specs.Lengths.{left_after}
@@ -42,7 +42,7 @@ IsLeft (Some k) past None = ⊥
 IsLeft (Some k) past (Some n) = (1 ≤ n) × (periods_in past + n ≡ k)
 
 -- a flow after these segments
-pub record Stands (a : Accepted) (p : Plan) (asked : Option ℕ) (d : Devices) (past : List Segment) (flow : Flow) : Type 0 where
+pub record Stands (a : Accepted) (p : FlowPlan) (asked : Option ℕ) (d : Devices) (past : List Segment) (flow : Flow) : Type 0 where
   pub stream : StandsAfter a past flow.stream
   pub goes : flow.stream.is_over ≡ false
   pub read : HaveRead p.format p.sources.items past flow.buffers.readers.items d
@@ -63,7 +63,7 @@ feeds_alike g h fs same is = record {
       (ap (λ (actors : List Actor). get_or (map (λ (actor : Actor). is_source_kernel actor.kernel) actors) i false) (sym same) ∙ none);
 }
 
-pub ready_alike : (a b : Accepted) (p : Plan) → IsAlike a b → IsReady a p → IsReady b p
+pub ready_alike : (a b : Accepted) (p : FlowPlan) → IsAlike a b → IsReady a p → IsReady b p
 ready_alike a b p same is = record {
   sources = is.sources ∙ ap (λ (actors : List Actor). numbers_from (λ (actor : Actor). is_source_kernel actor.kernel) 0 actors) (sym same.actors);
   sinks = is.sinks ∙ ap (λ (actors : List Actor). numbers_from (λ (actor : Actor). is_sink_kernel actor.kernel) 0 actors) (sym same.actors);
@@ -75,7 +75,7 @@ ready_alike a b p same is = record {
   few_last = subst (λ (q : List ℕ). All (λ n. p.last * n ≤ 16384000) q) (sym same.firings) is.few_last;
 }
 
-module _ (a : Accepted) (p : Plan) (asked : Option ℕ) (d : Devices) (past : List Segment) (flow : Flow) (ok : IsAccepted a) (ready : IsReady a p)
+module _ (a : Accepted) (p : FlowPlan) (asked : Option ℕ) (d : Devices) (past : List Segment) (flow : Flow) (ok : IsAccepted a) (ready : IsReady a p)
     (stands : Stands a p asked d past flow) where
   same : IsAlike a flow.stream.accepted
   same = subst (λ (b : Accepted). IsAlike a b) (sym stands.stream.here) (alike_all a past ok stands.stream.whole)
@@ -128,10 +128,10 @@ sink_list a sinks k g lists is lt told =
 
 -- ---- and back
 
-pub on_sinks : (a : Accepted) (p : Plan) (past : List Segment) → IsAccepted a → AreWhole a past → IsReady a p → p.sinks.items ≡ sinks_in (at_last a past).graph
+pub on_sinks : (a : Accepted) (p : FlowPlan) (past : List Segment) → IsAccepted a → AreWhole a past → IsReady a p → p.sinks.items ≡ sinks_in (at_last a past).graph
 on_sinks a p past ok whole ready = (ready_alike a (at_last a past) p (alike_all a past ok whole) ready).sinks
 
-pub on_sources : (a : Accepted) (p : Plan) (past : List Segment) → IsAccepted a → AreWhole a past → IsReady a p
+pub on_sources : (a : Accepted) (p : FlowPlan) (past : List Segment) → IsAccepted a → AreWhole a past → IsReady a p
     → p.sources.items ≡ sources_in (at_last a past).graph
 on_sources a p past ok whole ready = (ready_alike a (at_last a past) p (alike_all a past ok whole) ready).sources
 
@@ -145,13 +145,13 @@ feeds_back a past b fs ok whole is feeds =
 less_than : (u m n : ℕ) → n ≡ min u m → n ≤ m
 less_than u m n is = omega (arith, is)
 
-within_left : (a : Accepted) (p : Plan) (m n : ℕ) → IsSegmentOf a p (Some m) n → n ≤ m
+within_left : (a : Accepted) (p : FlowPlan) (m n : ℕ) → IsSegmentOf a p (Some m) n → n ≤ m
 within_left a p m n is = elim is.which [
   | inl usual ↦ less_than p.usual m n usual
   | inr last ↦ less_than p.last m n last
 ]
 
-pub left_next : (b : Accepted) (p : Plan) (asked old new : Option ℕ) (past : List Segment) (g : Segment) (n : ℕ) → IsLeft asked past old → IsSegmentOf b p old n
+pub left_next : (b : Accepted) (p : FlowPlan) (asked old new : Option ℕ) (past : List Segment) (g : Segment) (n : ℕ) → IsLeft asked past old → IsSegmentOf b p old n
     → g.periods ≡ n → new ≡ left_after old n → new ≢ Some 0 → IsLeft asked (past ++ g ∷ []) new
 left_next b p None None new past g n is segment many after some = subst (λ (o : Option ℕ). IsLeft None (past ++ g ∷ []) o) (sym after) tt
 left_next b p None (Some m) new past g n is segment many after some = absurd is
@@ -167,7 +167,7 @@ left_next b p (Some k) (Some m) new past g n is segment many after some =
     at_least zero not_none = absurd (not_none refl)
     at_least (suc x) not_none = omega arith
 
-pub left_done : (b : Accepted) (p : Plan) (asked old new : Option ℕ) (past : List Segment) (g : Segment) (n : ℕ) → IsLeft asked past old → IsSegmentOf b p old n
+pub left_done : (b : Accepted) (p : FlowPlan) (asked old new : Option ℕ) (past : List Segment) (g : Segment) (n : ℕ) → IsLeft asked past old → IsSegmentOf b p old n
     → g.periods ≡ n → new ≡ left_after old n → new ≡ Some 0 → asked ≡ Some (periods_of past g)
 left_done b p None None new past g n is segment many after none = absurd (let e : None ≡ Some 0 = sym after ∙ none in cc)
 left_done b p None (Some m) new past g n is segment many after none = absurd is

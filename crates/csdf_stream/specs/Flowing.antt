@@ -20,7 +20,7 @@ use Rattle.csdf_stream.specs.declared.end.StreamFault.{StreamFault}
 use Rattle.csdf_stream.specs.declared.end.StreamFault.TheVariants as why
 use Rattle.csdf_stream.specs.declared.flow.Buffers.{Buffers}
 use Rattle.csdf_stream.specs.declared.flow.Flow.{Flow}
-use Rattle.csdf_stream.specs.declared.flow.Plan.{Plan}
+use Rattle.csdf_stream.specs.declared.flow.FlowPlan.{FlowPlan}
 use Rattle.csdf_stream.specs.declared.options.StreamOptions.{StreamOptions}
 use Rattle.csdf_stream.specs.declared.options.TokenFormat.{TokenFormat}
 use Rattle.csdf_stream.specs.declared.reader.Reader.{Reader}
@@ -149,7 +149,7 @@ pub record IsAlike (a b : Accepted) : Type 0 where
   pub names : map (λ (c : Channel). c.name) b.graph.channels ≡ map (λ (c : Channel). c.name) a.graph.channels
   pub firings : b.q ≡ a.q
 
-pub record IsPlanOf (a : Accepted) (options : StreamOptions) (p : Plan) : Type 0 where
+pub record IsPlanOf (a : Accepted) (options : StreamOptions) (p : FlowPlan) : Type 0 where
   pub sources : p.sources.items ≡ sources_in a.graph
   pub sinks : p.sinks.items ≡ sinks_in a.graph
   pub workers : p.workers ≡ options.workers
@@ -160,7 +160,7 @@ pub record IsPlanOf (a : Accepted) (options : StreamOptions) (p : Plan) : Type 0
   pub few_last : HasFewFirings a p.last
 
 -- a plan that fits the graph
-pub record IsReady (a : Accepted) (p : Plan) : Type 0 where
+pub record IsReady (a : Accepted) (p : FlowPlan) : Type 0 where
   pub sources : p.sources.items ≡ sources_in a.graph
   pub sinks : p.sinks.items ≡ sinks_in a.graph
   pub some_worker : 1 ≤ p.workers
@@ -170,7 +170,7 @@ pub record IsReady (a : Accepted) (p : Plan) : Type 0 where
   pub few_usual : HasFewFirings a p.usual
   pub few_last : HasFewFirings a p.last
 
-pub record AreBuffersFor (a : Accepted) (p : Plan) (b : Buffers) : Type 0 where
+pub record AreBuffersFor (a : Accepted) (p : FlowPlan) (b : Buffers) : Type 0 where
   pub readers : length b.readers.items ≡ length p.sources.items
   pub fed : AreFeeds a.graph (feeds_in b.feeds.items)
   pub clipped : length b.clipped.items ≡ length p.sinks.items
@@ -179,18 +179,18 @@ abbrev pub IsNoneFed : List (List ℤ) → Type 0
 IsNoneFed feeds = (i : ℕ) → feed_of feeds i ≡ []
 
 -- a length of a segment: the usual one or that of the last, or what is left
-pub record IsSegmentOf (a : Accepted) (p : Plan) (left : Option ℕ) (n : ℕ) : Type 0 where
+pub record IsSegmentOf (a : Accepted) (p : FlowPlan) (left : Option ℕ) (n : ℕ) : Type 0 where
   pub some : 1 ≤ n
   pub few : HasFewFirings a n
   pub which : (n ≡ shortest p.usual left) ⊎ (n ≡ shortest p.last left)
 
 -- why no segment was read
-abbrev pub IsUnfedBy : Accepted → Plan → List Reader → List (Option (List ℕ)) → StreamFault → Type 0
+abbrev pub IsUnfedBy : Accepted → FlowPlan → List Reader → List (Option (List ℕ)) → StreamFault → Type 0
 IsUnfedBy a p readers rests fault =
     (k : ℕ) × (periods : ℕ) × (k < length p.sources.items) × IsCauseAt a periods (source_at p.sources.items k) (reader_at readers k) (left_at rests k) fault
 
 -- a flow after a segment: its tokens were read, it was run, and what the sinks took was written
-pub record GoesOnTo (p : Plan) (old new : Flow) (d : Devices) (part : Part) : Type 0 where
+pub record GoesOnTo (p : FlowPlan) (old new : Flow) (d : Devices) (part : Part) : Type 0 where
   pub periods : ℕ
   pub feeds : List (List ℤ)
   pub segment : IsSegmentOf old.stream.accepted p old.left periods
@@ -207,7 +207,7 @@ pub record GoesOnTo (p : Plan) (old new : Flow) (d : Devices) (part : Part) : Ty
   pub feeds_each : AreFeeds old.stream.accepted.graph (feeds_in new.buffers.feeds.items)
 
 -- tokens were read, and no segment was run
-pub record StopsBefore (p : Plan) (old new : Flow) (d : Devices) (Cause : Type 0) : Type 0 where
+pub record StopsBefore (p : FlowPlan) (old new : Flow) (d : Devices) (Cause : Type 0) : Type 0 where
   pub stream : new.stream ≡ old.stream
   pub given : ℕ → List ℤ
   pub read : (k : ℕ) → k < length p.sources.items
@@ -216,7 +216,7 @@ pub record StopsBefore (p : Plan) (old new : Flow) (d : Devices) (Cause : Type 0
   pub cause : Cause
 
 -- a segment was run, and a sink's device failed
-pub record StopsBySink (p : Plan) (old new : Flow) (d : Devices) (t : ℕ) : Type 0 where
+pub record StopsBySink (p : FlowPlan) (old new : Flow) (d : Devices) (t : ℕ) : Type 0 where
   pub periods : ℕ
   pub feeds : List (List ℤ)
   pub part : Part
@@ -228,7 +228,7 @@ pub record StopsBySink (p : Plan) (old new : Flow) (d : Devices) (t : ℕ) : Typ
   pub sink : (k : ℕ) × (k < length p.sinks.items) × (source_at p.sinks.items k ≡ t)
 
 -- a segment whose tokens were there was run, and what the sinks took is written
-pub record HasRun (p : Plan) (old new : Flow) (periods : ℕ) (before after : List (Option (List ℕ))) (part : Part) : Type 0 where
+pub record HasRun (p : FlowPlan) (old new : Flow) (periods : ℕ) (before after : List (Option (List ℕ))) (part : Part) : Type 0 where
   pub stretch : IsStretch old.stream (feeds_in old.buffers.feeds.items) periods new.stream part
   pub written : AreWritten p.format p.sinks.items (feeds_in part.sinks.items) before after
   pub clipped : AreClipped p.format p.sinks.items (feeds_in part.sinks.items) old.buffers.clipped.items new.buffers.clipped.items
@@ -237,20 +237,20 @@ pub record HasRun (p : Plan) (old new : Flow) (periods : ℕ) (before after : Li
   pub feeds_each : AreFeeds old.stream.accepted.graph (feeds_in new.buffers.feeds.items)
 
 -- it was run, and a sink's device failed
-pub record HasFailedAt (p : Plan) (old new : Flow) (periods : ℕ) (before after : List (Option (List ℕ))) (t : ℕ) : Type 0 where
+pub record HasFailedAt (p : FlowPlan) (old new : Flow) (periods : ℕ) (before after : List (Option (List ℕ))) (t : ℕ) : Type 0 where
   pub part : Part
   pub stretch : IsStretch old.stream (feeds_in old.buffers.feeds.items) periods new.stream part
   pub begun : AreBegun p.format p.sinks.items (feeds_in part.sinks.items) before after
   pub sink : (k : ℕ) × (k < length p.sinks.items) × (source_at p.sinks.items k ≡ t)
 
 -- that, or it was not run
-abbrev pub HasNotRun : Plan → Flow → Flow → ℕ → List (Option (List ℕ)) → List (Option (List ℕ)) → StreamFault → Type 0
+abbrev pub HasNotRun : FlowPlan → Flow → Flow → ℕ → List (Option (List ℕ)) → List (Option (List ℕ)) → StreamFault → Type 0
 HasNotRun p old new periods before after (why.Sink t) = HasFailedAt p old new periods before after t
 HasNotRun p old new periods before after (why.Run fault) = (new.stream ≡ old.stream) × (after ≡ before) × IsWantAmong p.workers fault
 HasNotRun p old new periods before after fault = ⊥
 
 -- a flow that is stopped: by a fault of a source, by one of the run, or since a sink's device failed after a segment
-abbrev pub StopsAt : Plan → Flow → Flow → Devices → StreamFault → Type 0
+abbrev pub StopsAt : FlowPlan → Flow → Flow → Devices → StreamFault → Type 0
 StopsAt p old new d (why.Sink t) = StopsBySink p old new d t
 StopsAt p old new d (why.Run fault) = StopsBefore p old new d (IsWantAmong p.workers fault)
 StopsAt p old new d fault = StopsBefore p old new d (IsUnfedBy old.stream.accepted p new.buffers.readers.items d.rests fault)

@@ -28,7 +28,7 @@ use std::thread::Threads;
 
 /// How a stream is run: what stays the same from segment to segment.
 #[derive(Drop)]
-struct Plan {
+struct FlowPlan {
     /// The actors that are sources, in file order.
     sources: Vec<u32>,
     /// The actors that are sinks, in file order.
@@ -44,14 +44,14 @@ struct Plan {
 /// How the graph is to be run.
 ///
 /// The error says that memory ran out.
-fn plan_of(alloc: Global, accepted: &Accepted, options: StreamOptions) -> Result<Plan, AllocError>
+fn plan_of(alloc: Global, accepted: &Accepted, options: StreamOptions) -> Result<FlowPlan, AllocError>
     ensures { IfOk result (IsPlanOf accepted.now options) }
 {
     let sources = sources_of(alloc, accepted.graph())?;
     let sinks = sinks_of(alloc, accepted.graph())?;
     let usual = usual_length(accepted, &sources, options.segment);
     let last = last_length(accepted, &sources, usual);
-    Ok(Plan {
+    Ok(FlowPlan {
         sources,
         sinks,
         workers: options.workers,
@@ -102,7 +102,7 @@ fn no_feeds(alloc: Global, actors: usize) -> Result<Vec<Vec<i32>>, AllocError>
 /// What a stream begins with.
 ///
 /// The error says that memory ran out.
-fn buffers_for(alloc: Global, plan: &Plan, actors: usize) -> Result<Buffers, AllocError>
+fn buffers_for(alloc: Global, plan: &FlowPlan, actors: usize) -> Result<Buffers, AllocError>
     ensures readers { IfOk result (λ b. b.readers.items ≡ replicate (length plan.now.sources.items) (fresh plan.now.format)) }
     ensures feeds { IfOk result (λ b. length b.feeds.items ≡ actors) }
     ensures none { IfOk result (λ b. IsNoneFed (feeds_in b.feeds.items)) }
@@ -143,7 +143,7 @@ fn at_most(periods: u32, left: Option<u32>) -> u32
 fn read_segment<R: Wait, I: Intake>(
     rt: &R,
     accepted: &Accepted,
-    plan: &Plan,
+    plan: &FlowPlan,
     left: Option<u32>,
     readers: &mut [Reader],
     intakes: &mut [I],
@@ -204,7 +204,7 @@ fn without(left: Option<u32>, periods: u32) -> Option<u32>
 fn run_segment<R: Threads + Wait + Sync, O: Outlet, W: Watch>(
     rt: &R,
     alloc: Global,
-    plan: &Plan,
+    plan: &FlowPlan,
     flow: Flow,
     periods: u32,
     outlets: &mut [O],
@@ -274,7 +274,7 @@ fn run_segment<R: Threads + Wait + Sync, O: Outlet, W: Watch>(
 fn advance<R: Threads + Wait + Sync, I: Intake, O: Outlet, W: Watch>(
     rt: &R,
     alloc: Global,
-    plan: &Plan,
+    plan: &FlowPlan,
     flow: Flow,
     intakes: &mut [I],
     outlets: &mut [O],
@@ -342,7 +342,7 @@ fn finish(flow: Flow, part: Part) -> StreamRun
 }
 
 /// The flow of a stream of which nothing has run, or the stream where memory ran out.
-fn flow_of(alloc: Global, plan: &Plan, stream: Stream, left: Option<u32>) -> Result<Flow, Stream>
+fn flow_of(alloc: Global, plan: &FlowPlan, stream: Stream, left: Option<u32>) -> Result<Flow, Stream>
     ensures flow { IfOk result (λ flow. (flow.stream ≡ stream) × (flow.left ≡ left)
         × (flow.buffers.readers.items ≡ replicate (length plan.now.sources.items) (fresh plan.now.format))
         × (length flow.buffers.feeds.items ≡ length stream.accepted.graph.actors) × IsNoneFed (feeds_in flow.buffers.feeds.items)

@@ -10,7 +10,7 @@ use Rattle.csdf_answers.specs.declared.fault.ToolFault.TheVariants.{InUse, Memor
 use Rattle.csdf_disk.specs.Acts.{Act, Asks, IsRead, Locate, OnlyReads}
 use Rattle.csdf_tool.specs.Places.{Apart, AreApart, IsInUse, Listed, file_on, files_on, is_in_use, located, more, none}
 use Rattle.csdf_tool.specs.declared.apart.Side.{Side}
-use Rattle.csdf_disk.specs.declared.place.Place.{Place}
+use Rattle.csdf_disk.specs.declared.place.FilePlace.{FilePlace}
 use Rattle.csdf_tool.proofs.DiskLemmas.{asks_more, asks_none, both_read}
 
 -- ---- the files of a run
@@ -25,39 +25,39 @@ files_step on folder actor actors before after total is so_far =
 
 -- ---- none is in use
 
-pub only_located : (a b : Option (List Act)) (path : List ℕ) (found : Option Place) → Asks a b (Locate path found ∷ []) → OnlyReads a b
+pub only_located : (a b : Option (List Act)) (path : List ℕ) (found : Option FilePlace) → Asks a b (Locate path found ∷ []) → OnlyReads a b
 only_located a b path found p = (Locate path found ∷ [], (tt, tt), p)
 
-pub apart_reads : {files : List Listed} {places : List Place} {acts : List Act} → AreApart files places acts → AllByRecursion IsRead acts
+pub apart_reads : {files : List Listed} {places : List FilePlace} {acts : List Act} → AreApart files places acts → AllByRecursion IsRead acts
 apart_reads none = tt
 apart_reads (more {files} {places} {acts} file p h free) = both_read acts (located file p ∷ []) (apart_reads h) (tt, tt)
 
 -- the files before a place were looked for, and none is in use
-abbrev pub AreApartTo : Option (List Act) → Option (List Act) → List Listed → ℕ → List Place → Type 0
+abbrev pub AreApartTo : Option (List Act) → Option (List Act) → List Listed → ℕ → List FilePlace → Type 0
 AreApartTo before now files i places = (acts : List Act) × Asks before now acts × AreApart (take i files) places acts
 
 pub none_apart : (before : Option (List Act)) (files : List Listed) → AreApartTo before before files 0 []
 none_apart before files = ([], asks_none before, none)
 
-pub only_apart : (before now : Option (List Act)) (files : List Listed) (i : ℕ) (places : List Place) → AreApartTo before now files i places → OnlyReads before now
+pub only_apart : (before now : Option (List Act)) (files : List Listed) (i : ℕ) (places : List FilePlace) → AreApartTo before now files i places → OnlyReads before now
 only_apart before now files i places h = (h.0, apart_reads h.2, h.1)
 
-module _ (before now next : Option (List Act)) (files : List Listed) (i : ℕ) (file : Listed) (places : List Place) (there : i < length files)
+module _ (before now next : Option (List Act)) (files : List Listed) (i : ℕ) (file : Listed) (places : List FilePlace) (there : i < length files)
     (at : get_or files i file ≡ file) (so_far : AreApartTo before now files i places) where
   longer : take (i + 1) files ≡ take i files ++ file ∷ []
   longer = take_more files i file there ∙ ap (λ (f : Listed). take i files ++ f ∷ []) at
 
-  pub one_apart : (now_places : List Place) → (p : Place) × Asks now next (located file p ∷ []) × (is_in_use file p places ≡ false) × (now_places ≡ places ++ p ∷ [])
+  pub one_apart : (now_places : List FilePlace) → (p : FilePlace) × Asks now next (located file p ∷ []) × (is_in_use file p places ≡ false) × (now_places ≡ places ++ p ∷ [])
       → AreApartTo before next files (i + 1) now_places
   one_apart now_places found =
-      subst (λ (ps : List Place). AreApartTo before next files (i + 1) ps) (sym found.3) (
+      subst (λ (ps : List FilePlace). AreApartTo before next files (i + 1) ps) (sym found.3) (
         so_far.0 ++ located file found.0 ∷ [],
         asks_more before now next so_far.0 (located file found.0 ∷ []) so_far.1 found.1,
         subst (λ (fs : List Listed). AreApart fs (places ++ found.0 ∷ []) (so_far.0 ++ located file found.0 ∷ [])) (sym longer)
             (more file found.0 so_far.2 found.2),
       )
 
-  pub one_in_use : (f : ToolFault) → (f ≡ Memory) ⊎ ((p : Place) × Asks now next (located file p ∷ []) × (is_in_use file p places ≡ true) × (f ≡ InUse file.name))
+  pub one_in_use : (f : ToolFault) → (f ≡ Memory) ⊎ ((p : FilePlace) × Asks now next (located file p ∷ []) × (is_in_use file p places ≡ true) × (f ≡ InUse file.name))
       → (f ≡ Memory) ⊎ ((acts : List Act) × Asks before next acts × IsInUse files acts f)
   one_in_use f (inl memory) = inl memory
   one_in_use f (inr found) =
@@ -81,6 +81,6 @@ module _ (before now next : Option (List Act)) (files : List Listed) (i : ℕ) (
         },
       )
 
-pub all_apart : (before now : Option (List Act)) (files : List Listed) (i : ℕ) (places : List Place) → take i files ≡ files → AreApartTo before now files i places
+pub all_apart : (before now : Option (List Act)) (files : List Listed) (i : ℕ) (places : List FilePlace) → take i files ≡ files → AreApartTo before now files i places
     → (acts : List Act) × Asks before now acts × Apart files acts
 all_apart before now files i places all h = (h.0, h.1, (places, subst (λ (fs : List Listed). AreApart fs places h.0) all h.2))

@@ -10,7 +10,7 @@ use Rattle.csdf_answers.specs.declared.fault.ToolFault.TheVariants.{InUse}
 use Rattle.csdf_tool.specs.declared.apart.RunFile.{RunFile}
 use Rattle.csdf_tool.specs.declared.apart.Side.{Side}
 use Rattle.csdf_tool.specs.declared.apart.Side.TheVariants as side
-use Rattle.csdf_disk.specs.declared.place.Place.{Place}
+use Rattle.csdf_disk.specs.declared.place.FilePlace.{FilePlace}
 use Rattle.csdf_disk.specs.Places.{is_one}
 use Rattle.csdf_disk.specs.Acts.{Act, Locate}
 use Rattle.csdf_tool.specs.GraphFiles.{is_input}
@@ -67,35 +67,35 @@ listed_files order actors = sink_places order.sink_folder actors ++ files_of_mov
 -- ---- a file in use
 
 -- a place is one of these
-abbrev pub is_among : Place → List Place → Bool
+abbrev pub is_among : FilePlace → List FilePlace → Bool
 is_among p [] = false
 is_among p (q ∷ places) = is_one p q || is_among p places
 
 -- a file is to be written and is one of these
-abbrev pub is_in_use : Listed → Place → List Place → Bool
+abbrev pub is_in_use : Listed → FilePlace → List FilePlace → Bool
 is_in_use file p places = file.written && is_among p places
 
 -- a file is looked for, and this place is found
-abbrev pub located : Listed → Place → Act
+abbrev pub located : Listed → FilePlace → Act
 located file p = Locate (path_join file.folder file.name) (Some p)
 
 -- files are looked for one after another, and none that is to be written is one of those before it
-pub data AreApart : List Listed → List Place → List Act → Type 0 where
+pub data AreApart : List Listed → List FilePlace → List Act → Type 0 where
   none : AreApart [] [] []
-  more : {files : List Listed} {places : List Place} {acts : List Act} (file : Listed) (p : Place) → AreApart files places acts
+  more : {files : List Listed} {places : List FilePlace} {acts : List Act} (file : Listed) (p : FilePlace) → AreApart files places acts
       → is_in_use file p places ≡ false → AreApart (files ++ file ∷ []) (places ++ p ∷ []) (acts ++ located file p ∷ [])
 
 -- these were looked for, and none is in use
 abbrev pub Apart : List Listed → List Act → Type 0
-Apart files acts = (places : List Place) × AreApart files places acts
+Apart files acts = (places : List FilePlace) × AreApart files places acts
 
 -- those before a file were looked for and are apart, and that one is in use, as the fault tells
 pub record IsInUse (files : List Listed) (acts : List Act) (fault : ToolFault) : Type 0 where
   pub front : List Listed
   pub file : Listed
   pub rest : List Listed
-  pub places : List Place
-  pub found : Place
+  pub places : List FilePlace
+  pub found : FilePlace
   pub before : List Act
   pub split : files ≡ front ++ file ∷ rest
   pub apart : AreApart front places before

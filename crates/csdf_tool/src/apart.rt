@@ -8,7 +8,7 @@ ghost use Rattle.csdf_tool.specs.Places.{Apart, IsInUse, file_on, files_of_moves
 
 use crate::files::path_in;
 use csdf_answers::{Name, ToolFault};
-use csdf_disk::{Disk, Place};
+use csdf_disk::{Disk, FilePlace};
 use csdf_model::Actor;
 use csdf_words::RunWords;
 use std::alloc::{AllocError, Global};
@@ -187,7 +187,7 @@ fn files_of_run<'a>(
 }
 
 /// Whether a place is one of these.
-fn is_among(place: &Place, places: &[Place]) -> bool
+fn is_among(place: &FilePlace, places: &[FilePlace]) -> bool
     ensures { result ≡ is_among place.now places.now }
 {
     for other in places {
@@ -199,7 +199,7 @@ fn is_among(place: &Place, places: &[Place]) -> bool
 }
 
 /// Whether a file is to be written and is one of these.
-fn is_in_use(file: &RunFile<'_>, place: &Place, places: &[Place]) -> bool
+fn is_in_use(file: &RunFile<'_>, place: &FilePlace, places: &[FilePlace]) -> bool
     ensures { result ≡ is_in_use (listed_view file.now) place.now places.now }
 {
     file.is_written && is_among(place, places)
@@ -210,11 +210,11 @@ fn look_for<D: Disk>(
     alloc: Global,
     disk: &mut D,
     file: &RunFile<'_>,
-    places: &mut Vec<Place>,
+    places: &mut Vec<FilePlace>,
 ) -> Result<(), ToolFault>
-    ensures apart { OnOk result ((p : Place) × Asks (D.acts disk.old) (D.acts disk.new) (located (listed_view file.now) p ∷ [])
+    ensures apart { OnOk result ((p : FilePlace) × Asks (D.acts disk.old) (D.acts disk.new) (located (listed_view file.now) p ∷ [])
         × (is_in_use (listed_view file.now) p places.old.items ≡ false) × (places.new.items ≡ places.old.items ++ p ∷ [])) }
-    ensures in_use { IfErr result (λ fault. (fault ≡ ToolFault.Memory) ⊎ ((p : Place) × Asks (D.acts disk.old) (D.acts disk.new) (located (listed_view file.now) p ∷ [])
+    ensures in_use { IfErr result (λ fault. (fault ≡ ToolFault.Memory) ⊎ ((p : FilePlace) × Asks (D.acts disk.old) (D.acts disk.new) (located (listed_view file.now) p ∷ [])
         × (is_in_use (listed_view file.now) p places.old.items ≡ true) × (fault ≡ ToolFault.InUse (listed_view file.now).name))) }
     ensures only { OnErr result (OnlyReads (D.acts disk.old) (D.acts disk.new)) }
 {

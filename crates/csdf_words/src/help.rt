@@ -6,7 +6,7 @@ ghost use Rattle.csdf_words.specs.Endings.{ending_text};
 
 /// Which text the help of a command ends with.
 #[derive(Clone, Copy)]
-pub(crate) enum Ending {
+pub(crate) enum HelpEnding {
     Run,
     Stream,
     Moves,
@@ -19,19 +19,19 @@ pub(crate) enum Ending {
 }
 
 /// The text that the help of a command ends with.
-pub(crate) fn ending_text<'a>(ending: Ending) -> &'a str
+pub(crate) fn ending_text<'a>(ending: HelpEnding) -> &'a str
     ensures { result.now ≡ ending_text ending }
 {
     match ending {
-        Ending::Run => RUN,
-        Ending::Stream => STREAM,
-        Ending::Moves => MOVES,
-        Ending::Check => CHECK,
-        Ending::Repetition => REPETITION,
-        Ending::Schedule => SCHEDULE,
-        Ending::Capacity => CAPACITY,
-        Ending::Dot => DOT,
-        Ending::Explain => EXPLAIN,
+        HelpEnding::Run => RUN,
+        HelpEnding::Stream => STREAM,
+        HelpEnding::Moves => MOVES,
+        HelpEnding::Check => CHECK,
+        HelpEnding::Repetition => REPETITION,
+        HelpEnding::Schedule => SCHEDULE,
+        HelpEnding::Capacity => CAPACITY,
+        HelpEnding::Dot => DOT,
+        HelpEnding::Explain => EXPLAIN,
     }
 }
 

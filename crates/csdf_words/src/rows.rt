@@ -1,6 +1,6 @@
 //! The commands and what each takes, as rows of a table.
 
-use crate::help::Ending;
+use crate::help::HelpEnding;
 use csdf_model::{MAX_FIRINGS, MAX_PERIODS};
 
 /// What is given for an argument.
@@ -34,7 +34,7 @@ pub(crate) struct CommandRow<'a> {
     pub(crate) name: &'a str,
     pub(crate) about: &'a str,
     /// What its help ends with.
-    pub(crate) ending: Ending,
+    pub(crate) ending: HelpEnding,
     pub(crate) arguments: &'a [ArgumentRow<'a>],
 }
 
@@ -189,55 +189,55 @@ pub(crate) const COMMANDS: &[CommandRow<'static>] = &[
     CommandRow {
         name: "run",
         about: "Run a graph on token files",
-        ending: Ending::Run,
+        ending: HelpEnding::Run,
         arguments: OF_A_RUN,
     },
     CommandRow {
         name: "stream",
         about: "Run a graph on a stream of tokens of any length",
-        ending: Ending::Stream,
+        ending: HelpEnding::Stream,
         arguments: OF_A_STREAM,
     },
     CommandRow {
         name: "moves",
         about: "Play the script of a graph file",
-        ending: Ending::Moves,
+        ending: HelpEnding::Moves,
         arguments: &[GRAPH_ROW],
     },
     CommandRow {
         name: "check",
         about: "Tell whether a graph is consistent",
-        ending: Ending::Check,
+        ending: HelpEnding::Check,
         arguments: &[GRAPH_ROW, JSON_ROW],
     },
     CommandRow {
         name: "repetition",
         about: "Print each actor's cycles and firings in a period",
-        ending: Ending::Repetition,
+        ending: HelpEnding::Repetition,
         arguments: &[GRAPH_ROW, JSON_ROW],
     },
     CommandRow {
         name: "schedule",
         about: "Print the actor of each firing of a period",
-        ending: Ending::Schedule,
+        ending: HelpEnding::Schedule,
         arguments: &[GRAPH_ROW, ROOM_ROW, JSON_ROW],
     },
     CommandRow {
         name: "capacity",
         about: "Print the least channel capacities",
-        ending: Ending::Capacity,
+        ending: HelpEnding::Capacity,
         arguments: &[GRAPH_ROW, ROOM_ROW, JSON_ROW],
     },
     CommandRow {
         name: "dot",
         about: "Print the graph for Graphviz, which draws it",
-        ending: Ending::Dot,
+        ending: HelpEnding::Dot,
         arguments: &[GRAPH_ROW, ROOM_ROW],
     },
     CommandRow {
         name: "explain",
         about: "Tell why a graph is refused, or that it is accepted",
-        ending: Ending::Explain,
+        ending: HelpEnding::Explain,
         arguments: OF_AN_EXPLANATION,
     },
 ];

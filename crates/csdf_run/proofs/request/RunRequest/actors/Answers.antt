@@ -1,6 +1,6 @@
 use Rattle.std.proofs.Common.{arith}
 use Rattle.std.proofs.lemmas.Grind.{common_steps}
-use Rattle.csdf_run.proofs.request.Request.actors.Goals as goal
+use Rattle.csdf_run.proofs.request.RunRequest.actors.Goals as goal
 
 pub overflow_cast-result : goal.overflow_cast-result
 overflow_cast-result c = grind (arith, common_steps)

@@ -4,7 +4,7 @@ use Rattle.std.proofs.lemmas.Int.{ints, to_z-of_z}
 use Rattle.std.proofs.lemmas.Grind.{common_steps}
 use Rattle.csdf_kernel.specs.Light.{firing_token}
 use Rattle.csdf_kernel.proofs.LightLemmas.{told_more, others_more, suc_le_mul}
-use Rattle.csdf_kernel.proofs.light.Block.fill_late.Goals as goal
+use Rattle.csdf_kernel.proofs.light.LightBlock.fill_late.Goals as goal
 
 pub loop-firing-preserved : goal.loop-firing-preserved
 loop-firing-preserved c =

@@ -3,7 +3,7 @@ use Rattle.std.specs.Prelude.{OnOk}
 use Rattle.csdf_bytes.specs.FileTokens.{HasRead}
 use Rattle.csdf_bytes.specs.TokenStream.{IsOneLine}
 use Rattle.csdf_bytes.proofs.FileTokensLemmas.{tells-found}
-use Rattle.csdf_bytes.proofs.token_file.TokenFile.finish.Goals as goal
+use Rattle.csdf_bytes.proofs.token_file.TokensRead.finish.Goals as goal
 
 pub returns-in-Err : goal.returns-in-Err
 returns-in-Err c = λ text so_far whole.

@@ -1,6 +1,6 @@
 use Rattle.std.proofs.Common.{arith}
 use Rattle.csdf_kernel.proofs.LightLemmas.{reach_is}
-use Rattle.csdf_kernel.proofs.light.Block.firings_with.Goals as goal
+use Rattle.csdf_kernel.proofs.light.LightBlock.firings_with.Goals as goal
 
 pub returns-clause-there : goal.returns-clause-there
 returns-clause-there c f lt =

@@ -1,6 +1,6 @@
 use Rattle.std.proofs.Common.{◌≡◌, length}
 use Rattle.csdf_kernel.specs.Light.{HoldsPlace, KeepsOthers, firing_token}
-use Rattle.csdf_kernel.proofs.light.Block.fill_late.Given as goal
+use Rattle.csdf_kernel.proofs.light.LightBlock.fill_late.Given as goal
 
 abbrev pub invariant-loop-firing : goal.invariant-loop-firing
 invariant-loop-firing l = record {

@@ -3,7 +3,7 @@ use native.Mathlib.Decide.{dec_lt}
 use mathlib.Core.Logic.{dite}
 use Rattle.csdf_kernel.specs.Light.{HoldsPlace, firing_token}
 use Rattle.csdf_kernel.proofs.LightLemmas.{filled_is}
-use Rattle.csdf_kernel.proofs.light.Block.fill.Goals as goal
+use Rattle.csdf_kernel.proofs.light.LightBlock.fill.Goals as goal
 
 pub loop-place-preserved : goal.loop-place-preserved
 loop-place-preserved c = record {

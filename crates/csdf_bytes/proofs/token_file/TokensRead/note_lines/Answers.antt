@@ -1,6 +1,6 @@
 use Rattle.std.proofs.Common.{subst}
 use Rattle.csdf_bytes.specs.FileTokens.{HasRead}
-use Rattle.csdf_bytes.proofs.token_file.TokenFile.note_lines.Goals as goal
+use Rattle.csdf_bytes.proofs.token_file.TokensRead.note_lines.Goals as goal
 
 pub returns-in-Ok-clause-read : goal.returns-in-Ok-clause-read
 returns-in-Ok-clause-read c = λ text so_far.

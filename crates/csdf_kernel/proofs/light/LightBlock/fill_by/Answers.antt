@@ -1,7 +1,7 @@
 use Rattle.std.proofs.Common.{◌*◌, ◌∙◌}
 use Rattle.csdf_kernel.specs.Light.{firing_token}
 use Rattle.csdf_kernel.proofs.LightLemmas.{padded_token_is, told_all}
-use Rattle.csdf_kernel.proofs.light.Block.fill_by.Goals as goal
+use Rattle.csdf_kernel.proofs.light.LightBlock.fill_by.Goals as goal
 
 pub returns-then-self-clause-told : goal.returns-then-self-clause-told
 returns-then-self-clause-told g c =

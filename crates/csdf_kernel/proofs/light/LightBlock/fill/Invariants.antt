@@ -1,6 +1,6 @@
 use Rattle.std.proofs.Common.{ℕ, ◌≡◌, ◌<◌, ◌*◌, length}
 use Rattle.csdf_kernel.specs.Light.{HoldsPlace, firing_token}
-use Rattle.csdf_kernel.proofs.light.Block.fill.Given as goal
+use Rattle.csdf_kernel.proofs.light.LightBlock.fill.Given as goal
 
 abbrev pub invariant-loop-place : goal.invariant-loop-place
 invariant-loop-place l = record {
