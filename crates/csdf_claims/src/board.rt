@@ -13,7 +13,7 @@ ghost use Rattle.csdf_claims.specs.declared.place.Entry.{Entry};
 ghost use Rattle.csdf_claims.specs.declared.rule.View.{View};
 
 use crate::place::{Entry, Place, blank_entries};
-use crate::rule::{Beside, Take, Finish, GiveUp, Law, Look, Stand, Together, View};
+use crate::rule::{Beside, Finish, GiveUp, Law, Look, Stand, Take, Together, View};
 use atomic_table::{Closed, Seat, Table};
 use csdf_model::{MAX_ACTORS, MAX_FIRINGS_PER_ACTOR};
 use std::alloc::{AllocError, Global};

@@ -17,5 +17,5 @@ mod terminal;
 pub use content::Content;
 pub use disk::{Disk, HostDisk};
 pub use making::MadeFile;
-pub use place::{Node, FilePlace};
+pub use place::{FilePlace, Node};
 pub use put_fault::PutFault;

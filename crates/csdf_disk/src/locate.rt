@@ -4,7 +4,7 @@ ghost use Rattle.std.specs.Prelude.{◌≡◌, ◌≢◌, None, IfErr, IfOk};
 ghost use Rattle.std.specs.Fs.{IsFile, file_type};
 ghost use Rattle.std.specs.IoError.{error_kind};
 
-use crate::place::{Node, FilePlace};
+use crate::place::{FilePlace, Node};
 use crate::system::System;
 use csdf_answers::Name;
 use std::alloc::{AllocError, Global};
@@ -72,7 +72,11 @@ fn folder_of(path: &PathBuf) -> &str {
 }
 
 /// The place at a path where no file is: where one would be made.
-fn free_place<S: System>(alloc: Global, system: &mut S, path: &str) -> Result<FilePlace, AllocError> {
+fn free_place<S: System>(
+    alloc: Global,
+    system: &mut S,
+    path: &str,
+) -> Result<FilePlace, AllocError> {
     let end = end_of_links(alloc, system, path)?;
     let Some(name) = end.file_name() else {
         return Ok(FilePlace::Other);

@@ -44,7 +44,11 @@ struct FlowPlan {
 /// How the graph is to be run.
 ///
 /// The error says that memory ran out.
-fn plan_of(alloc: Global, accepted: &Accepted, options: StreamOptions) -> Result<FlowPlan, AllocError>
+fn plan_of(
+    alloc: Global,
+    accepted: &Accepted,
+    options: StreamOptions,
+) -> Result<FlowPlan, AllocError>
     ensures { IfOk result (IsPlanOf accepted.now options) }
 {
     let sources = sources_of(alloc, accepted.graph())?;
@@ -342,7 +346,12 @@ fn finish(flow: Flow, part: Part) -> StreamRun
 }
 
 /// The flow of a stream of which nothing has run, or the stream where memory ran out.
-fn flow_of(alloc: Global, plan: &FlowPlan, stream: Stream, left: Option<u32>) -> Result<Flow, Stream>
+fn flow_of(
+    alloc: Global,
+    plan: &FlowPlan,
+    stream: Stream,
+    left: Option<u32>,
+) -> Result<Flow, Stream>
     ensures flow { IfOk result (λ flow. (flow.stream ≡ stream) × (flow.left ≡ left)
         × (flow.buffers.readers.items ≡ replicate (length plan.now.sources.items) (fresh plan.now.format))
         × (length flow.buffers.feeds.items ≡ length stream.accepted.graph.actors) × IsNoneFed (feeds_in flow.buffers.feeds.items)
