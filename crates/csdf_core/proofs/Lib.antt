@@ -18,6 +18,7 @@ pub mod Runs
 pub mod PortLemmas
 pub mod PlanLemmas
 pub mod CoreLemmas
+pub mod SideLemmas
 pub mod SoundLemmas
 pub mod AmountLemmas
 pub mod PhaseLemmas
@@ -63,6 +64,7 @@ pub mod Joined
 pub mod FeedbackTokens
 pub mod GoingSteps
 pub mod GoingTokens
+pub mod FeedbackFound
 pub mod FeedbackMoves
 pub mod FeedbackReads
 pub mod GoneOn

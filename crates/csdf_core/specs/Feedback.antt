@@ -39,6 +39,11 @@ abbrev pub others_of : Option ℕ → List ℕ
 others_of None = []
 others_of (Some c) = c ∷ []
 
+-- in no order are the inputs this channel and at most one other
+abbrev pub AreNotInOrder : List ℕ → ℕ → Type 0
+AreNotInOrder inputs own =
+    (is_first : Bool) (other : Option ℕ) → IfSome other (λ c. c ≢ own) → inputs ≡ in_order is_first own (others_of other) → ⊥
+
 -- the amounts of those of the channels that come before this one
 abbrev pub before_of : (ℕ → ℕ) → List ℕ → ℕ → ℕ
 before_of amount [] own = 0

@@ -21,3 +21,4 @@ pub mod Inside
 pub mod Blocks
 pub mod Engine
 pub mod Feedback
+pub mod Sides

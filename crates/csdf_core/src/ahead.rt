@@ -7,39 +7,25 @@ ghost use Rattle.std.specs.Prelude.{ℕ, ◌≡◌, ◌+◌, ◌*◌, ◌<◌, �
 ghost use Rattle.csdf_core.specs.Blocks.{needs_of, gifts_of};
 ghost use Rattle.csdf_core.specs.Phases.{HasPhases, IsInPhase};
 ghost use Rattle.csdf_core.specs.Rows.{need, gift};
+ghost use Rattle.csdf_core.specs.Sides.{moved_ahead};
 
 use crate::firing_core::Core;
 use crate::plan::Plan;
-use crate::transfer::{gift_of, need_of};
+use crate::side::Side;
+use crate::transfer::moved;
 use crate::turn::{Turn, turn_after};
 use csdf_model::{MAX_FIRINGS_PER_ACTOR, MAX_PHASES, MAX_TOKENS_PER_FIRING, MAX_TOTAL_PER_FIRING};
 
-/// How many tokens n firings take in all, from this one on.
-fn taken_in_all(plan: &Plan, actor: u32, turn: Turn, n: u32) -> u64
+/// How many tokens n firings move in all at this side of the actor, from this one on.
+fn moved_in_all(plan: &Plan, side: Side, actor: u32, firing: u32, n: u32) -> u64
     requires actor { actor < length plan.now.sources }
-    requires few { turn.firing + n ≤ MAX_FIRINGS_PER_ACTOR }
-    ensures { result ≡ needs_of plan.now.channels actor turn.firing n }
+    requires few { firing + n ≤ MAX_FIRINGS_PER_ACTOR }
+    ensures { result ≡ moved_ahead side plan.now.channels actor firing n }
 {
-    let inputs = plan.inputs(actor);
+    let ends = plan.ends(side, actor);
     let mut sum = 0;
-    for channel in inputs {
-        sum += plan.taken(*channel, turn.firing, n);
-    }
-    sum
-}
-
-/// How many tokens n firings give in all, from this one on.
-fn given_in_all(plan: &Plan, actor: u32, turn: Turn, n: u32) -> u64
-    requires actor { actor < length plan.now.sources }
-    requires few { turn.firing + n ≤ MAX_FIRINGS_PER_ACTOR }
-    ensures value { result ≡ gifts_of plan.now.channels actor turn.firing n }
-    ensures small { result ≤ MAX_TOTAL_PER_FIRING * n }
-{
-    plan.gives_few();
-    let outputs = plan.outputs(actor);
-    let mut sum = 0;
-    for channel in outputs {
-        sum += plan.given(*channel, turn.firing, n);
+    for channel in ends {
+        sum += plan.amounts(side, *channel, firing, n);
     }
     sum
 }
@@ -63,7 +49,7 @@ impl Core {
         if self.plan.phases(actor) == 1 {
             return u64::from(n) * each;
         }
-        taken_in_all(&self.plan, actor, self.turn(actor), n)
+        moved_in_all(&self.plan, Side::Input, actor, self.fired(actor), n)
     }
 
     /// How many tokens the actor's next n firings give in all.
@@ -81,7 +67,8 @@ impl Core {
         if self.plan.phases(actor) == 1 {
             return u64::from(n) * each;
         }
-        given_in_all(&self.plan, actor, self.turn(actor), n)
+        self.plan.gives_few();
+        moved_in_all(&self.plan, Side::Output, actor, self.fired(actor), n)
     }
 
     /// How many tokens the actor's firing takes.
@@ -95,7 +82,7 @@ impl Core {
         if self.plan.phases(actor) == 1 {
             return self.need(actor);
         }
-        need_of(&self.plan, actor, turn)
+        moved(&self.plan, Side::Input, actor, turn)
     }
 
     /// How many tokens the actor's firing gives.
@@ -109,7 +96,7 @@ impl Core {
         if self.plan.phases(actor) == 1 {
             return self.gives(actor);
         }
-        gift_of(&self.plan, actor, turn)
+        moved(&self.plan, Side::Output, actor, turn)
     }
 
     /// How many tokens the actor's firing puts into this output.

@@ -7,6 +7,7 @@ ghost use Rattle.csdf_pool.specs.Pool.{IsPartition};
 ghost use Rattle.csdf_core.specs.Plan.{to_at, from_at};
 ghost use Rattle.csdf_core.specs.Phases.{HasPhases};
 ghost use Rattle.csdf_core.specs.Ports.{inputs_at, outputs_at, tokens_in};
+ghost use Rattle.csdf_core.specs.Sides.{ends_at, Finds, LetsThrough};
 
 use crate::firing_core::Core;
 use crate::first_refusal::is_at;
@@ -14,6 +15,7 @@ use crate::gathering::copy_reads;
 use crate::plan::Plan;
 use crate::readiness::first_closed;
 use crate::several::{drop_tokens, fire_once, has_no_loop, hold_each};
+use crate::side::Side;
 use crate::stage::Stage;
 use crate::transfer::{put_tokens, raise_peaks};
 use csdf_model::MAX_FIRINGS_PER_ACTOR;
@@ -146,68 +148,49 @@ fn room_in(
     times_over(u64::from(room), plan.given(channel, k, phases), most)
 }
 
-/// For how many cycles the actor's inputs hold what they take.
-fn cycles_held(plan: &Plan, pool: &Pool, actor: u32, k: u32, phases: u32, most: u32) -> u32
+/// For how many cycles of the actor's phases, of at most so many, the channels at this side let them through.
+fn let_through(
+    plan: &Plan,
+    pool: &Pool,
+    side: Side,
+    actor: u32,
+    k: u32,
+    phases: u32,
+    most: u32,
+) -> u32
     requires actor { actor < length plan.now.sources }
     requires same { length pool.now.chains ≡ length plan.now.channels }
     requires few { k + phases ≤ MAX_FIRINGS_PER_ACTOR }
     ensures most { result ≤ most }
-    ensures held { (j : ℕ) → j < length (inputs_at plan.now.channels actor)
-        → IsHeld plan.now.channels (tokens_in pool.now) actor k phases result (slice_index (inputs_at plan.now.channels actor) j) }
+    ensures through { (j : ℕ) → j < length (ends_at side plan.now.channels actor)
+        → LetsThrough side plan.now.channels (tokens_in pool.now) actor k phases result (slice_index (ends_at side plan.now.channels actor) j) }
 {
-    let inputs = plan.inputs(actor);
+    let ends = plan.ends(side, actor);
     let mut cycles = most;
-    for channel in inputs {
-        cycles = held_in(plan, pool, actor, *channel, k, phases, cycles);
+    for channel in ends {
+        cycles = match side {
+            Side::Input => held_in(plan, pool, actor, *channel, k, phases, cycles),
+            Side::Output => room_in(plan, pool, actor, *channel, k, phases, cycles),
+        };
     }
     cycles
 }
 
-/// For how many cycles the actor's outputs have room for what they give.
-fn cycles_room(plan: &Plan, pool: &Pool, actor: u32, k: u32, phases: u32, most: u32) -> u32
-    requires actor { actor < length plan.now.sources }
-    requires same { length pool.now.chains ≡ length plan.now.channels }
-    requires few { k + phases ≤ MAX_FIRINGS_PER_ACTOR }
-    ensures most { result ≤ most }
-    ensures room { (j : ℕ) → j < length (outputs_at plan.now.channels actor)
-        → HasRoom plan.now.channels (tokens_in pool.now) actor k phases result (slice_index (outputs_at plan.now.channels actor) j) }
-{
-    let outputs = plan.outputs(actor);
-    let mut cycles = most;
-    for channel in outputs {
-        cycles = room_in(plan, pool, actor, *channel, k, phases, cycles);
-    }
-    cycles
-}
-
-/// Whether all of the actor's inputs hold it.
-fn inputs_find(plan: &Plan, pool: &Pool, actor: u32, k: u32, i: u32) -> bool
+/// Whether the channels at this side of the actor have what the firings from number k to k + i need there.
+fn ends_find(plan: &Plan, pool: &Pool, side: Side, actor: u32, k: u32, i: u32) -> bool
     requires actor { actor < length plan.now.sources }
     requires same { length pool.now.chains ≡ length plan.now.channels }
     requires few { k + i + 1 ≤ MAX_FIRINGS_PER_ACTOR }
-    ensures { IsTrue result → (j : ℕ) → j < length (inputs_at plan.now.channels actor)
-        → FindsIn plan.now.channels (tokens_in pool.now) actor k i (slice_index (inputs_at plan.now.channels actor) j) }
+    ensures { IsTrue result → (j : ℕ) → j < length (ends_at side plan.now.channels actor)
+        → Finds side plan.now.channels (tokens_in pool.now) actor k i (slice_index (ends_at side plan.now.channels actor) j) }
 {
-    let inputs = plan.inputs(actor);
-    for channel in inputs {
-        if !finds_in(plan, pool, actor, *channel, k, i) {
-            return false;
-        }
-    }
-    true
-}
-
-/// Whether all of the actor's outputs have room for it.
-fn outputs_find(plan: &Plan, pool: &Pool, actor: u32, k: u32, i: u32) -> bool
-    requires actor { actor < length plan.now.sources }
-    requires same { length pool.now.chains ≡ length plan.now.channels }
-    requires few { k + i + 1 ≤ MAX_FIRINGS_PER_ACTOR }
-    ensures { IsTrue result → (j : ℕ) → j < length (outputs_at plan.now.channels actor)
-        → FindsOut plan.now.channels (tokens_in pool.now) actor k i (slice_index (outputs_at plan.now.channels actor) j) }
-{
-    let outputs = plan.outputs(actor);
-    for channel in outputs {
-        if !finds_out(plan, pool, actor, *channel, k, i) {
+    let ends = plan.ends(side, actor);
+    for channel in ends {
+        let finds = match side {
+            Side::Input => finds_in(plan, pool, actor, *channel, k, i),
+            Side::Output => finds_out(plan, pool, actor, *channel, k, i),
+        };
+        if !finds {
             return false;
         }
     }
@@ -363,11 +346,11 @@ impl Core {
             return 0;
         }
         self.plan.gives_few();
-        let held = cycles_held(&self.plan, &self.pool, actor, k, phases, whole);
+        let held = let_through(&self.plan, &self.pool, Side::Input, actor, k, phases, whole);
         if held == 0 {
             return 0;
         }
-        let roomy = cycles_room(&self.plan, &self.pool, actor, k, phases, held);
+        let roomy = let_through(&self.plan, &self.pool, Side::Output, actor, k, phases, held);
         let given = self.given_ahead(actor, phases);
         let supplied = self.supplied_over(actor, given, roomy);
         let need = self.need(actor) as u64;
@@ -387,10 +370,10 @@ impl Core {
         ensures { IsTrue result → FindsNext self.now.plan self.now.now actor i }
     {
         let k = self.fired(actor);
-        if !inputs_find(&self.plan, &self.pool, actor, k, i) {
+        if !ends_find(&self.plan, &self.pool, Side::Input, actor, k, i) {
             return false;
         }
-        if !outputs_find(&self.plan, &self.pool, actor, k, i) {
+        if !ends_find(&self.plan, &self.pool, Side::Output, actor, k, i) {
             return false;
         }
         let given = self.given_ahead(actor, i + 1);

@@ -9,7 +9,8 @@ ghost use Rattle.csdf_pool.specs.Pool.{IsPartition};
 ghost use Rattle.std.specs.List.{AllByRecursion};
 ghost use Rattle.csdf_core.specs.Blocks.{takes_at, gives_at, gifts_of, HoldAll, AreAccepted, answers_to, firings_of, from_front};
 ghost use Rattle.csdf_core.specs.Engine.{AreReadWith};
-ghost use Rattle.csdf_core.specs.Feedback.{KeepsState, IsFeedback, CanGoOn, HaveRoomFor, asks_at, fills_at, before_of, in_order, loop_reads, others_of};
+ghost use Rattle.csdf_core.specs.declared.feedback.Feedback.{Feedback as FeedbackModel};
+ghost use Rattle.csdf_core.specs.Feedback.{KeepsState, IsFeedback, CanGoOn, HaveRoomFor, asks_at, fills_at, before_of, in_order, loop_reads, others_of, AreNotInOrder};
 ghost use Rattle.csdf_core.specs.Feedback.{lasts_at, gone_on};
 ghost use Rattle.csdf_core.specs.Phases.{HasPhases, IsInPhase};
 ghost use Rattle.csdf_core.specs.Plan.{from_at, to_at};
@@ -51,7 +52,8 @@ pub struct Feedback {
 /// The first channel from the actor to itself.
 fn first_loop(plan: &Plan, actor: u32) -> Option<u32>
     requires { actor < length plan.now.sources }
-    ensures { IfSome result (λ c. (c < length plan.now.channels) × (from_at plan.now.channels c ≡ actor) × (to_at plan.now.channels c ≡ actor)) }
+    ensures some { IfSome result (λ c. (c < length plan.now.channels) × (from_at plan.now.channels c ≡ actor) × (to_at plan.now.channels c ≡ actor)) }
+    ensures none { IfNone result (AllByRecursion (λ c. from_at plan.now.channels c ≢ actor) (inputs_at plan.now.channels actor)) }
 {
     let inputs = plan.inputs(actor);
     for channel in inputs {
@@ -65,7 +67,7 @@ fn first_loop(plan: &Plan, actor: u32) -> Option<u32>
 /// Whether no other channel goes from the actor to itself.
 fn is_only_loop(plan: &Plan, actor: u32, own: u32) -> bool
     requires { actor < length plan.now.sources }
-    ensures { IsTrue result → AllByRecursion (λ c. c ≢ own → from_at plan.now.channels c ≢ actor) (inputs_at plan.now.channels actor) }
+    ensures { IsTrue result ↔ AllByRecursion (λ c. c ≢ own → from_at plan.now.channels c ≢ actor) (inputs_at plan.now.channels actor) }
 {
     let inputs = plan.inputs(actor);
     for channel in inputs {
@@ -82,6 +84,7 @@ fn order_of(plan: &Plan, actor: u32, own: u32) -> Option<(Option<u32>, bool)>
     requires { actor < length plan.now.sources }
     ensures order { IfSome result (λ r. inputs_at plan.now.channels actor ≡ in_order r.1 own (others_of r.0)) }
     ensures apart { IfSome result (λ r. IfSome r.0 (λ c. c ≢ own)) }
+    ensures none { IfNone result (AreNotInOrder (inputs_at plan.now.channels actor) own) }
 {
     match plan.inputs(actor) {
         [only] if *only == own => Some((None, true)),
@@ -264,7 +267,8 @@ impl Core {
     /// other input.
     pub fn feedback(&self, actor: u32) -> Option<Feedback>
         requires { actor < length self.now.plan.sources }
-        ensures { IfSome result (IsFeedback self.now.plan actor) }
+        ensures some { IfSome result (IsFeedback self.now.plan actor) }
+        ensures none { IfNone result ((f : FeedbackModel) → IsFeedback self.now.plan actor f → ⊥) }
     {
         let plan = &self.plan;
         if plan.phases(actor) != 1 || plan.is_source(actor) {

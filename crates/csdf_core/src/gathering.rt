@@ -10,7 +10,8 @@ ghost use Rattle.csdf_core.specs.Rows.{need};
 
 use crate::plan::Plan;
 use crate::several::has_no_loop;
-use crate::transfer::need_of;
+use crate::side::Side;
+use crate::transfer::moved;
 use crate::turn::{Turn, turn_after};
 use csdf_model::{MAX_CHANNELS, MAX_FIRINGS_PER_ACTOR, MAX_PHASES, MAX_TOTAL_PER_FIRING};
 use csdf_pool::{Pool, Tokens};
@@ -83,7 +84,7 @@ fn slot_of(plan: &Plan, actor: u32, place: usize, turn: Turn) -> Slot
 {
     let inputs = plan.inputs(actor);
     Slot {
-        need: need_of(plan, actor, turn),
+        need: moved(plan, Side::Input, actor, turn),
         from: taken_before(plan, actor, &inputs[..place], turn),
         taken: plan.takes(inputs[place], turn) as usize,
     }

@@ -11,7 +11,8 @@ ghost use Rattle.csdf_core.specs.Ports.{outputs_at, give_at, tokens_in, tokens_a
 ghost use Rattle.csdf_core.specs.Rows.{gift};
 
 use crate::plan::Plan;
-use crate::transfer::{gift_of, put_tokens};
+use crate::side::Side;
+use crate::transfer::{moved, put_tokens};
 use crate::turn::Turn;
 use csdf_pool::Pool;
 
@@ -79,7 +80,7 @@ pub(crate) fn put_lasting(
     ensures size { pool.new.size ≡ pool.old.size }
     ensures same { length pool.new.chains ≡ length pool.old.chains }
 {
-    let gift = gift_of(plan, actor, turn);
+    let gift = moved(plan, Side::Output, actor, turn);
     let outputs = plan.outputs(actor);
     let mut before = 0;
     for channel in outputs {

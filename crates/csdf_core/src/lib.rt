@@ -17,6 +17,7 @@ mod playing;
 mod readiness;
 mod refusal;
 mod several;
+mod side;
 mod stage;
 mod transfer;
 mod turn;

@@ -3,10 +3,11 @@
 ghost use Rattle.std.specs.Prelude.{◌≡◌, ◌+◌, ◌<◌, ◌≤◌, length, replicate, slice_index, slice_set, IfOk};
 ghost use Rattle.csdf_core.specs.Amounts.{AreAmounts, HasAmounts};
 ghost use Rattle.csdf_core.specs.Phases.{AreInPhase};
-ghost use Rattle.csdf_core.specs.Rows.{need, gift};
+ghost use Rattle.csdf_core.specs.Sides.{moved};
 
 use crate::plan::Plan;
-use crate::transfer::{gift_of, need_of};
+use crate::side::Side;
+use crate::transfer::moved;
 use crate::turn::{Turn, turn_ahead};
 use csdf_model::MAX_FIRINGS_PER_ACTOR;
 use std::alloc::{AllocError, Global};
@@ -23,32 +24,18 @@ pub(crate) struct Nexts {
     pub(crate) gifts: Vec<u32>,
 }
 
-/// How many tokens the first firing of each actor takes.
+/// How many tokens the first firing of each actor moves at this side.
 ///
 /// An error says that memory ran out.
-fn first_needs(alloc: Global, plan: &Plan) -> Result<Vec<u32>, AllocError>
-    ensures { IfOk result (λ needs. HasAmounts (λ a. need a 0 plan.now.channels) (length plan.now.sources) needs.items) }
+fn first_moved(alloc: Global, plan: &Plan, side: Side) -> Result<Vec<u32>, AllocError>
+    ensures { IfOk result (λ amounts. HasAmounts (λ a. moved side a 0 plan.now.channels) (length plan.now.sources) amounts.items) }
 {
     let first = plan.first_turn();
-    let mut needs = Vec::new(alloc);
+    let mut amounts = Vec::new(alloc);
     for actor in 0..plan.actors() as u32 {
-        needs.push(need_of(plan, actor, first) as u32)?;
+        amounts.push(moved(plan, side, actor, first) as u32)?;
     }
-    Ok(needs)
-}
-
-/// How many tokens the first firing of each actor gives.
-///
-/// An error says that memory ran out.
-fn first_gifts(alloc: Global, plan: &Plan) -> Result<Vec<u32>, AllocError>
-    ensures { IfOk result (λ gifts. HasAmounts (λ a. gift a 0 plan.now.channels) (length plan.now.sources) gifts.items) }
-{
-    let first = plan.first_turn();
-    let mut gifts = Vec::new(alloc);
-    for actor in 0..plan.actors() as u32 {
-        gifts.push(gift_of(plan, actor, first) as u32)?;
-    }
-    Ok(gifts)
+    Ok(amounts)
 }
 
 impl Nexts {
@@ -64,8 +51,8 @@ impl Nexts {
         Ok(Nexts {
             counts: vec![in alloc; first.firing; actors]?,
             phases: vec![in alloc; first.phase; actors]?,
-            needs: first_needs(alloc, plan)?,
-            gifts: first_gifts(alloc, plan)?,
+            needs: first_moved(alloc, plan, Side::Input)?,
+            gifts: first_moved(alloc, plan, Side::Output)?,
         })
     }
 
@@ -91,8 +78,8 @@ impl Nexts {
         self.phases[a] = next.phase;
         // Each firing of an actor of one phase takes and gives the same.
         if plan.phases(actor) != 1 {
-            self.needs[a] = need_of(plan, actor, next) as u32;
-            self.gifts[a] = gift_of(plan, actor, next) as u32;
+            self.needs[a] = moved(plan, Side::Input, actor, next) as u32;
+            self.gifts[a] = moved(plan, Side::Output, actor, next) as u32;
         }
     }
 }

@@ -14,7 +14,9 @@ ghost use Rattle.csdf_core.specs.Rows.{gift};
 ghost use Rattle.csdf_core.specs.Streams.{part};
 ghost use Rattle.csdf_core.specs.Ports.{inputs_at, outputs_at, take_at, give_at};
 ghost use Rattle.csdf_core.specs.Phases.{HasPhases, IsInPhase, IsPhase};
+ghost use Rattle.csdf_core.specs.Sides.{amount_at, amounts_at, ends_at, owner_at, rates_at};
 
+use crate::side::Side;
 use crate::turn::Turn;
 use csdf_analysis::Accepted;
 use csdf_model::{
@@ -141,6 +143,21 @@ impl Plan {
         self.graph.outputs(actor)
     }
 
+    /// The channels at this side of the actor, in file order.
+    #[inline(always)]
+    pub(crate) fn ends(&self, side: Side, actor: u32) -> &[u32]
+        requires { actor < length self.now.sources }
+        ensures value { result.now ≡ ends_at side self.now.channels actor }
+        ensures own { All (λ c. owner_at side self.now.channels c ≡ actor) result.now }
+        ensures within { All (λ c. c < length self.now.channels) result.now }
+        ensures few { length result.now ≤ MAX_CHANNELS }
+    {
+        match side {
+            Side::Input => self.inputs(actor),
+            Side::Output => self.outputs(actor),
+        }
+    }
+
     /// The channel as the graph has it.
     #[inline(always)]
     fn channel(&self, channel: u32) -> &Channel
@@ -235,6 +252,34 @@ impl Plan {
     {
         let channel = self.channel(channel);
         moved(&channel.produce, firing, n)
+    }
+
+    /// How many tokens a firing of the actor at this side of the channel moves in it.
+    #[inline(always)]
+    pub(crate) fn amount(&self, side: Side, channel: u32, turn: Turn) -> u32
+        requires channel { channel < length self.now.channels }
+        requires phase { IsPhase (rates_at side self.now.channels channel) turn.firing turn.phase }
+        ensures value { result ≡ amount_at side self.now.channels turn.firing channel }
+        ensures small { result ≤ MAX_TOKENS_PER_FIRING }
+    {
+        match side {
+            Side::Input => self.takes(channel, turn),
+            Side::Output => self.gives(channel, turn),
+        }
+    }
+
+    /// How many tokens n firings of the actor at this side of the channel move in it, from this one on.
+    #[inline(always)]
+    pub(crate) fn amounts(&self, side: Side, channel: u32, firing: u32, n: u32) -> u64
+        requires channel { channel < length self.now.channels }
+        requires few { firing + n ≤ MAX_FIRINGS_PER_ACTOR }
+        ensures value { result ≡ amounts_at side self.now.channels firing n channel }
+        ensures small { result ≤ MAX_TOKENS_PER_FIRING * n }
+    {
+        match side {
+            Side::Input => self.taken(channel, firing, n),
+            Side::Output => self.given(channel, firing, n),
+        }
     }
 
     /// The channel's producer.

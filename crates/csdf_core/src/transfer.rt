@@ -6,39 +6,26 @@ ghost use Rattle.csdf_core.specs.Transfers.{after_read, after_write};
 ghost use Rattle.csdf_core.specs.Phases.{IsInPhase};
 ghost use Rattle.csdf_core.specs.Rows.{need, gift};
 ghost use Rattle.csdf_core.specs.Ports.{inputs_at, outputs_at, take_at, give_at, tokens_in, tokens_at};
+ghost use Rattle.csdf_core.specs.Sides.{moved};
 ghost use Rattle.csdf_core.specs.Ports.{takes_over, taken_over, EnoughOver, puts_over, raise_over};
 
 use crate::plan::Plan;
+use crate::side::Side;
 use crate::turn::Turn;
 use csdf_model::MAX_TOTAL_PER_FIRING;
 use csdf_pool::Pool;
 
-/// How many tokens the actor's firing takes.
-pub(crate) fn need_of(plan: &Plan, actor: u32, turn: Turn) -> usize
+/// How many tokens the actor's firing moves at this side.
+pub(crate) fn moved(plan: &Plan, side: Side, actor: u32, turn: Turn) -> usize
     requires actor { actor < length plan.now.sources }
     requires in_phase { IsInPhase plan.now.channels actor turn.firing turn.phase }
-    ensures value { result ≡ need actor turn.firing plan.now.channels }
+    ensures value { result ≡ moved side actor turn.firing plan.now.channels }
     ensures small { result ≤ MAX_TOTAL_PER_FIRING }
 {
-    let inputs = plan.inputs(actor);
+    let ends = plan.ends(side, actor);
     let mut sum = 0;
-    for channel in inputs {
-        sum += plan.takes(*channel, turn) as usize;
-    }
-    sum
-}
-
-/// How many tokens the actor's firing gives.
-pub(crate) fn gift_of(plan: &Plan, actor: u32, turn: Turn) -> usize
-    requires actor { actor < length plan.now.sources }
-    requires in_phase { IsInPhase plan.now.channels actor turn.firing turn.phase }
-    ensures value { result ≡ gift actor turn.firing plan.now.channels }
-    ensures small { result ≤ MAX_TOTAL_PER_FIRING }
-{
-    let outputs = plan.outputs(actor);
-    let mut sum = 0;
-    for channel in outputs {
-        sum += plan.gives(*channel, turn) as usize;
+    for channel in ends {
+        sum += plan.amount(side, *channel, turn) as usize;
     }
     sum
 }

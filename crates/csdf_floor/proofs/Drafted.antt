@@ -13,7 +13,7 @@ use Rattle.csdf_floor.specs.Floor.{FloorView}
 use Rattle.csdf_floor.specs.Journal.{Program, output_counts}
 use Rattle.csdf_floor.specs.Making.{made_value}
 use Rattle.csdf_floor.specs.Work.{program}
-use Rattle.csdf_floor.proofs.Makings.{made_is}
+use Rattle.csdf_floor.proofs.PhaseValues.{values_read}
 
 -- the values of a draft are those of the actor's next firings
 pub drafted_is : (f : FloorView) (a : ℕ) (d : DraftView) (tokens v : List ℤ) → f.core.plan ≡ (program f.work).plan → Suits f a d → d.inputs ≡ tokens
@@ -27,4 +27,4 @@ drafted_is f a d tokens v same s read is =
     ∙ ap (λ (x : Kernel). values_of x d.counts d.need d.firings d.inputs) s.kernel
     ∙ ap₂ (λ (ns : List ℕ) (m : ℕ). values_of (get_or w.kernels a Sink) ns m d.firings d.inputs) s.counts needed
     ∙ ap (values_of (get_or w.kernels a Sink) (output_counts w a k) (need a k w.plan.channels) d.firings) read
-    ∙ made_is w a k d.firings tokens phases s.other
+    ∙ values_read w a k d.firings tokens phases s.other

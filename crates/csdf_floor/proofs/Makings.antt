@@ -1,10 +1,9 @@
 -- A book, from one block of firings to the next.
-use Rattle.std.proofs.Common.{◌≡◌, ℕ, zero, suc, ◌+◌, ◌-◌, ◌*◌, ◌<◌, ◌≤◌, ◌==◌, eqb-true, map, filter, cond, inl, inr, List, [], ◌∷◌, ◌++◌, length, get_or, set, take, drop, replicate, refl, ap, ap₂}
+use Rattle.std.proofs.Common.{◌≡◌, ℕ, zero, suc, ◌+◌, ◌<◌, ◌==◌, eqb-true, map, filter, cond, inl, inr, List, [], ◌∷◌, ◌++◌, length, get_or, set, take, drop, replicate, refl, ap, ap₂}
 use Rattle.std.proofs.Common.{sym, subst, ◌∙◌, arith, append-nil, append_assoc, Bool, true, false, length-set}
 use Rattle.std.specs.Prelude.{ℤ, Result, Ok, Err, OnOk}
 use Rattle.std.proofs.Math.Seq.{take-append_seam, drop-append_seam}
-use Rattle.std.proofs.lemmas.List.{get_or-set_other, get_or-set_same, set-set, set-get_or, take-append-drop, length-drop, length-append, drop-drop, drop-take, take-take, length-take-le}
-use Rattle.std.proofs.Math.Nat.{suc-mul}
+use Rattle.std.proofs.lemmas.List.{get_or-set_other, get_or-set_same, set-set, set-get_or, take-append-drop, length-drop, length-append}
 use Rattle.std.proofs.lemmas.Bool.Decides.{eqb_tells}
 use Rattle.csdf_model.specs.declared.parts.Kernel.TheVariants.{Sink}
 use Rattle.csdf_core.specs.declared.stage.Stage.{Stage}
@@ -12,21 +11,17 @@ use Rattle.csdf_core.specs.declared.stage.Stage.TheVariants.{Idle, Begun, Fetche
 use Rattle.csdf_core.specs.Blocks.{firings_of, answers_to, reads_among, parts_of, needs_of, gifts_of, AreReadEach}
 use Rattle.csdf_core.specs.Engine.{CanFire}
 use Rattle.csdf_core.specs.Phases.{HasPhases}
-use Rattle.csdf_core.proofs.OnePhase.{same_gift, same_need, rate_one, gifts_times}
-use Rattle.csdf_core.proofs.BlockBegins.{given_more}
+use Rattle.csdf_core.proofs.OnePhase.{rate_one}
 use Rattle.csdf_core.proofs.Fewer.{can_begin}
 use Rattle.csdf_core.proofs.Kept.{begins}
-use Rattle.csdf_core.proofs.Totals.{given-suc}
 use Rattle.csdf_core.specs.Moves.{Move}
 use Rattle.csdf_core.specs.Moves.{Begin, Read, Write, Finish}
 use Rattle.csdf_core.specs.Next.{next}
 use Rattle.csdf_core.specs.Plan.{Plan, Channel, from_at, produce_at, gives_of}
 use Rattle.csdf_core.specs.Rows.{need, gift}
 use Rattle.csdf_core.specs.State.{State, Present, present, opening}
-use Rattle.csdf_core.specs.Step.{answer, accepted, count, stage, is_source, given}
-use Rattle.csdf_kernel.specs.Value.{value_of, values_of}
+use Rattle.csdf_core.specs.Step.{answer, accepted, count, stage}
 use Rattle.csdf_model.specs.Rates.{rate}
-use Rattle.std.specs.Prelude.{slice_range}
 use Rattle.csdf_core.specs.Shows.{View, Follows, PassesThrough, Plays}
 use Rattle.csdf_journal.specs.View.{JournalView}
 use Rattle.csdf_floor.specs.Floor.{FloorView, IsKept}
@@ -37,8 +32,7 @@ use Rattle.csdf_floor.specs.Sequential.{firing, fired, moves_from}
 use Rattle.csdf_floor.specs.Work.{Work, program, is_sink_kernel}
 use Rattle.csdf_floor.proofs.Books.{floor_of, accepted_as, now_next, book_moved, book_read, sinks_after, sinks_each, write_just, staged, counted}
 use Rattle.csdf_floor.proofs.Bounds.{after_is}
-use Rattle.csdf_floor.proofs.Honestly.{get_length}
-use Rattle.csdf_floor.proofs.Journals.{state_push, value_is}
+use Rattle.csdf_floor.proofs.Journals.{state_push}
 use Rattle.csdf_floor.proofs.Sequential.{length_value}
 
 -- an actor that can make some firings is idle
@@ -392,68 +386,7 @@ same_counts a j k (x ∷ cs) one = by (x.from == a) refl (same_counts a j k cs (
 pub same_outputs : (w : Program) (a j k : ℕ) → HasPhases w.plan.channels a 1 → output_counts w a j ≡ output_counts w a k
 same_outputs w a j k has = same_counts a j k w.plan.channels has.gives
 
-pub made_is : (w : Program) (a k n : ℕ) (tokens : List ℤ) → HasPhases w.plan.channels a 1 → is_source w.plan a ≡ false
-    → values_of (get_or w.kernels a Sink) (output_counts w a k) (need a k w.plan.channels) n tokens ≡ made_value w a k n tokens
-made_is w a k zero tokens has other = refl
-made_is w a k (suc n) tokens has other =
-    let r : ℕ = need a k w.plan.channels in
-    let part : List ℤ = take r tokens in
-    let one : value w a k part ≡ value_of (get_or w.kernels a Sink) (output_counts w a k) part = value_is w a k part
-    ∙ ap (λ (b : Bool). value_of (get_or w.kernels a Sink) (output_counts w a k)
-    (cond b (slice_range (get_or w.feeds a []) (given w.plan a k) (given w.plan a (suc k))) part)) other in
-    let rest : values_of (get_or w.kernels a Sink) (output_counts w a k) r n (drop r tokens) ≡ made_value w a (suc k) n (drop r tokens) =
-    ap₂ (λ (ns : List ℕ) (m : ℕ). values_of (get_or w.kernels a Sink) ns m n (drop r tokens)) (same_outputs w a k (suc k) has)
-    (same_need w.plan.channels a has k (suc k))
-    ∙ made_is w a (suc k) n (drop r tokens) has other in
-    ap₂ (λ (xs ys : List ℤ). xs ++ ys) (sym one) rest
-
 -- an answer that says more
 pub on_ok : {T E : Type 0} → (r : Result T E) (P Q : Type 0) → (P → Q) → OnOk r P → OnOk r Q
 on_ok (Ok x) P Q f p = f p
 on_ok (Err e) P Q f p = tt
-
--- a source's values are those of the next part of its file
-pub made_source : (w : Program) (a k n : ℕ) (tokens : List ℤ) → HasPhases w.plan.channels a 1 → is_source w.plan a ≡ true
-    → values_of (get_or w.kernels a Sink) (output_counts w a k) (gift a k w.plan.channels) n
-    (take (n * gift a k w.plan.channels) (drop (given w.plan a k) (get_or w.feeds a [])))
-    ≡ made_value w a k n tokens
-made_source w a k zero tokens has src = refl
-made_source w a k (suc n) tokens has src =
-    let cs : List Channel = w.plan.channels in
-    let g : ℕ = gift a k cs in
-    let feed : List ℤ = get_or w.feeds a [] in
-    let d : List ℤ = drop (given w.plan a k) feed in
-    let part : List ℤ = take (need a k cs) tokens in
-    let gs : given w.plan a (suc k) ≡ given w.plan a k + g = given-suc w.plan a k in
-    let t = suc-mul n g in
-    let first : take g (take (suc n * g) d) ≡ take g d = take-take g (suc n * g) d (omega (arith, t)) in
-    let size : given w.plan a (suc k) - given w.plan a k ≡ g = omega (arith, gs) in
-    let one : value w a k part ≡ value_of (get_or w.kernels a Sink) (output_counts w a k) (take g d) = value_is w a k part
-    ∙ ap (λ (b : Bool). value_of (get_or w.kernels a Sink) (output_counts w a k)
-    (cond b (slice_range feed (given w.plan a k) (given w.plan a (suc k))) part)) src
-    ∙ ap (λ (j : ℕ). value_of (get_or w.kernels a Sink) (output_counts w a k) (take j d)) size in
-    let e : suc n * g ≡ g + n * g = omega (arith, t) in
-    let later : drop g (take (suc n * g) d) ≡ take (n * gift a (suc k) cs) (drop (given w.plan a (suc k)) feed) =
-    ap (λ (j : ℕ). drop g (take j d)) e ∙ drop-take g (n * g) d
-    ∙ ap (λ (xs : List ℤ). take (n * g) xs) (drop-drop g (given w.plan a k) feed ∙ ap (λ (j : ℕ). drop j feed) (sym gs))
-    ∙ ap (λ (h : ℕ). take (n * h) (drop (given w.plan a (suc k)) feed)) (same_gift cs a has k (suc k)) in
-    let rest : values_of (get_or w.kernels a Sink) (output_counts w a k) g n (drop g (take (suc n * g) d))
-    ≡ made_value w a (suc k) n (drop (need a k cs) tokens) =
-    ap (values_of (get_or w.kernels a Sink) (output_counts w a k) g n) later
-    ∙ ap₂ (λ (ns : List ℕ) (m : ℕ). values_of (get_or w.kernels a Sink) ns m n (take (n * gift a (suc k) cs) (drop (given w.plan a (suc k)) feed)))
-    (same_outputs w a k (suc k) has) (same_gift cs a has k (suc k))
-    ∙ made_source w a (suc k) n (drop (need a k cs) tokens) has src in
-    ap₂ (λ (xs ys : List ℤ). xs ++ ys) (ap (value_of (get_or w.kernels a Sink) (output_counts w a k)) first ∙ sym one) rest
-
--- which is long enough
-pub feed_long : (w : Work) (a k n : ℕ) → HasPhases (program w).plan.channels a 1
-    → given (program w).plan a (k + n) ≤ get_or (program w).plan.supplies a 0
-    → length (take (n * gift a k (program w).plan.channels) (drop (given (program w).plan a k) (get_or w.feeds a []))) ≡ n * gift a k (program w).plan.channels
-feed_long w a k n has supply =
-    let g : ℕ = gift a k (program w).plan.channels in
-    let feed : List ℤ = get_or w.feeds a [] in
-    let file : get_or (program w).plan.supplies a 0 ≡ length feed = get_length w.feeds a in
-    let more = given_more (program w).plan a k n in
-    let t = gifts_times (program w).plan.channels a has k n in
-    let d = length-drop (given (program w).plan a k) feed in
-    length-take-le (n * g) (drop (given (program w).plan a k) feed) (omega (arith, supply, file, more, t, d))

@@ -1,25 +1,28 @@
 -- The values of firings that each have their own counts and their own part of the tokens.
-use Rattle.std.proofs.Common.{◌≡◌, ℕ, zero, suc, ◌+◌, ◌-◌, ◌<◌, ◌≤◌, Bool, true, false, cond, List, [], ◌∷◌, ◌++◌, length, get_or, take, drop}
+use Rattle.std.proofs.Common.{◌≡◌, ℕ, zero, suc, ◌+◌, ◌-◌, ◌*◌, ◌<◌, ◌≤◌, Bool, true, false, cond, List, [], ◌∷◌, ◌++◌, length, get_or, take, drop}
 use Rattle.std.proofs.Common.{refl, ap, ap₂, sym, ◌∙◌, arith, add-one, append_assoc}
 use Rattle.std.specs.Prelude.{ℤ, slice_range}
 use Rattle.std.specs.List.{AllByRecursion}
+use Rattle.std.proofs.Math.Nat.{suc-mul}
 use Rattle.std.proofs.lemmas.List.{drop-drop, drop-take, take-take, length-drop, length-take-le}
 use Rattle.std.proofs.lemmas.List.Elements.{recursion_from_All}
 use Rattle.csdf_model.specs.declared.parts.Kernel.TheVariants.{Sink}
-use Rattle.csdf_kernel.specs.Value.{value_of}
+use Rattle.csdf_kernel.specs.Value.{value_of, values_of}
 use Rattle.csdf_kernel.proofs.ValueLemmas.{length_of_value}
 use Rattle.csdf_core.specs.Blocks.{needs_of, gifts_of}
+use Rattle.csdf_core.specs.Phases.{HasPhases}
 use Rattle.csdf_core.specs.Plan.{Channel}
 use Rattle.csdf_core.specs.Rows.{need, gift}
 use Rattle.csdf_core.specs.Step.{given, is_source}
 use Rattle.csdf_core.proofs.BlockBegins.{given_more}
+use Rattle.csdf_core.proofs.OnePhase.{same_gift, same_need}
 use Rattle.csdf_core.proofs.Totals.{given-suc}
 use Rattle.csdf_floor.specs.Journal.{Program, output_counts, value}
 use Rattle.csdf_floor.specs.Making.{amount_of, amounts_of, made_value, phase_value, phase_values}
 use Rattle.csdf_floor.specs.Work.{Work, IsWork, program}
 use Rattle.csdf_floor.proofs.Honestly.{get_length}
 use Rattle.csdf_floor.proofs.Journals.{value_is}
-use Rattle.csdf_floor.proofs.Makings.{length_made}
+use Rattle.csdf_floor.proofs.Makings.{length_made, same_outputs}
 use Rattle.csdf_floor.proofs.Sequential.{sum_of_counts}
 
 -- ---- one firing after another
@@ -78,11 +81,11 @@ length_phase w a k xs = length_of_value (get_or w.kernels a Sink) (output_counts
 pub need_alone : (w : Program) (a k : ℕ) → is_source w.plan a ≡ false → amount_of w a k ≡ need a k w.plan.channels
 need_alone w a k other = ap (λ (b : Bool). cond b (gift a k w.plan.channels) (need a k w.plan.channels)) other
 
-needs_alone : (w : Program) (a k n : ℕ) → is_source w.plan a ≡ false → amounts_of w a k n ≡ needs_of w.plan.channels a k n
+pub needs_alone : (w : Program) (a k n : ℕ) → is_source w.plan a ≡ false → amounts_of w a k n ≡ needs_of w.plan.channels a k n
 needs_alone w a k zero other = refl
 needs_alone w a k (suc n) other = ap₂ (λ (x y : ℕ). x + y) (need_alone w a k other) (needs_alone w a (suc k) n other)
 
-phases_read : (w : Program) (a k n : ℕ) (tokens : List ℤ) → is_source w.plan a ≡ false → phase_values w a k n tokens ≡ made_value w a k n tokens
+pub phases_read : (w : Program) (a k n : ℕ) (tokens : List ℤ) → is_source w.plan a ≡ false → phase_values w a k n tokens ≡ made_value w a k n tokens
 phases_read w a k zero tokens other = refl
 phases_read w a k (suc n) tokens other =
     let r : ℕ = need a k w.plan.channels in
@@ -102,10 +105,10 @@ gifts_alone : (w : Program) (a k n : ℕ) → is_source w.plan a ≡ true → am
 gifts_alone w a k zero src = refl
 gifts_alone w a k (suc n) src = ap₂ (λ (x y : ℕ). x + y) (gift_alone w a k src) (gifts_alone w a (suc k) n src)
 
-abbrev part_of_file : Program → ℕ → ℕ → ℕ → List ℤ
+abbrev pub part_of_file : Program → ℕ → ℕ → ℕ → List ℤ
 part_of_file w a k n = take (gifts_of w.plan.channels a k n) (drop (given w.plan a k) (get_or w.feeds a []))
 
-phases_fed : (w : Program) (a k n : ℕ) (tokens : List ℤ) → is_source w.plan a ≡ true
+pub phases_fed : (w : Program) (a k n : ℕ) (tokens : List ℤ) → is_source w.plan a ≡ true
     → phase_values w a k n (part_of_file w a k n) ≡ made_value w a k n tokens
 phases_fed w a k zero tokens src = refl
 phases_fed w a k (suc n) tokens src =
@@ -132,58 +135,26 @@ phases_fed w a k (suc n) tokens src =
 
 -- ---- as the code makes them
 
--- what the next firings of an actor compute from, which write so many: what they read, or for a source the next part of its file
-pub record AreInputs (w : Program) (a k written : ℕ) (tokens xs : List ℤ) : Type 0 where
-  pub read : is_source w.plan a ≡ false → xs ≡ tokens
-  pub fed : is_source w.plan a ≡ true → xs ≡ slice_range (get_or w.feeds a []) (given w.plan a k) (given w.plan a k + written)
+-- the part of a source's file is long enough
+pub fed_long : (w : Work) (a k n : ℕ) → is_source (program w).plan a ≡ true → given (program w).plan a (k + n) ≤ get_or (program w).plan.supplies a 0
+    → amounts_of (program w) a k n ≤ length (part_of_file (program w) a k n)
+fed_long w a k n src supply =
+    let feed : List ℤ = get_or w.feeds a [] in
+    let file : get_or (program w).plan.supplies a 0 ≡ length feed = get_length w.feeds a in
+    let more = given_more (program w).plan a k n in
+    let d = length-drop (given (program w).plan a k) feed in
+    let t = length-take-le (gifts_of (program w).plan.channels a k n) (drop (given (program w).plan a k) feed) (omega (arith, supply, file, more, d)) in
+    let s = gifts_alone (program w) a k n src in
+    omega (arith, t, s)
 
-part_is : (w : Program) (a k n written : ℕ) (tokens xs : List ℤ) → written ≡ gifts_of w.plan.channels a k n → AreInputs w a k written tokens xs
-    → is_source w.plan a ≡ true → xs ≡ part_of_file w a k n
-part_is w a k n written tokens xs is from src =
-    let size : given w.plan a k + written - given w.plan a k ≡ written = omega arith in
-    from.fed src ∙ ap (λ (j : ℕ). take j (drop (given w.plan a k) (get_or w.feeds a []))) (size ∙ is)
-
-pub block_values : (w : Program) (a k n written : ℕ) (tokens xs : List ℤ) → written ≡ gifts_of w.plan.channels a k n → AreInputs w a k written tokens xs
-    → phase_values w a k n xs ≡ made_value w a k n tokens
-block_values w a k n written tokens xs is from = by (is_source w.plan a) refl
-  where
-    by : (b : Bool) → is_source w.plan a ≡ b → phase_values w a k n xs ≡ made_value w a k n tokens
-    by true src = ap (phase_values w a k n) (part_is w a k n written tokens xs is from src) ∙ phases_fed w a k n tokens src
-    by false other = ap (phase_values w a k n) (from.read other) ∙ phases_read w a k n tokens other
-
--- they are enough
-pub block_long : (w : Work) (a k n written : ℕ) (tokens xs : List ℤ) → written ≡ gifts_of (program w).plan.channels a k n
-    → AreInputs (program w) a k written tokens xs
-    → (is_source (program w).plan a ≡ true → given (program w).plan a (k + n) ≤ get_or (program w).plan.supplies a 0)
-    → length tokens ≡ needs_of (program w).plan.channels a k n → amounts_of (program w) a k n ≤ length xs
-block_long w a k n written tokens xs is from supply long = by (is_source (program w).plan a) refl
-  where
-    by : (b : Bool) → is_source (program w).plan a ≡ b → amounts_of (program w) a k n ≤ length xs
-    by true src =
-        let feed : List ℤ = get_or w.feeds a [] in
-        let file : get_or (program w).plan.supplies a 0 ≡ length feed = get_length w.feeds a in
-        let more = given_more (program w).plan a k n in
-        let enough = supply src in
-        let d = length-drop (given (program w).plan a k) feed in
-        let t = length-take-le (gifts_of (program w).plan.channels a k n) (drop (given (program w).plan a k) feed) (omega (arith, enough, file, more, d)) in
-        let e = ap length (part_is (program w) a k n written tokens xs is from src) in
-        let s = gifts_alone (program w) a k n src in
-        omega (arith, t, e, s)
-    by false other =
-        let e = ap length (from.read other) in
-        let s = needs_alone (program w) a k n other in
-        omega (arith, e, s, long)
-
--- and a source's are few
-pub block_short : (w : Work) (a k n written : ℕ) → IsWork w → written ≡ gifts_of (program w).plan.channels a k n
-    → (is_source (program w).plan a ≡ true → given (program w).plan a (k + n) ≤ get_or (program w).plan.supplies a 0)
-    → is_source (program w).plan a ≡ true → written ≤ 1000000
-block_short w a k n written kept is supply src =
+-- and short enough
+pub fed_short : (w : Work) (a k n : ℕ) → IsWork w → given (program w).plan a (k + n) ≤ get_or (program w).plan.supplies a 0
+    → given (program w).plan a k + gifts_of (program w).plan.channels a k n ≤ 1000000
+fed_short w a k n kept supply =
     let file : get_or (program w).plan.supplies a 0 ≡ length (get_or w.feeds a []) = get_length w.feeds a in
     let more = given_more (program w).plan a k n in
-    let enough = supply src in
     let few = short_at w.feeds a (recursion_from_All (λ feed. length feed ≤ 1000000) w.feeds kept.fed.short) in
-    omega (arith, file, more, enough, few, is)
+    omega (arith, file, more, supply, few)
   where
     short_at : (feeds : List (List ℤ)) (i : ℕ) → AllByRecursion (λ feed. length feed ≤ 1000000) feeds → length (get_or feeds i []) ≤ 1000000
     short_at [] i h = omega arith
@@ -197,3 +168,32 @@ none_written w a k n tokens none = by (made_value w a k n tokens) (length_made w
     by : (v : List ℤ) → length v ≡ 0 → [] ≡ v
     by [] e = refl
     by (x ∷ v) e = absurd (omega (arith, e))
+
+-- ---- where each firing moves as much as the next
+module _ (w : Program) (a : ℕ) (has : HasPhases w.plan.channels a 1) where
+  same_amount : (j k : ℕ) → amount_of w a j ≡ amount_of w a k
+  same_amount j k = ap₂ (λ (g r : ℕ). cond (is_source w.plan a) g r) (same_gift w.plan.channels a has j k) (same_need w.plan.channels a has j k)
+
+  pub amounts_times : (k n : ℕ) → amounts_of w a k n ≡ n * amount_of w a k
+  amounts_times k zero = omega arith
+  amounts_times k (suc n) =
+      let rest = amounts_times (suc k) n in
+      let same = ap (λ x. n * x) (same_amount (suc k) k) in
+      let t = suc-mul n (amount_of w a k) in
+      omega (arith, rest, same, t)
+
+  pub values_alike : (k n : ℕ) (xs : List ℤ)
+      → values_of (get_or w.kernels a Sink) (output_counts w a k) (amount_of w a k) n xs ≡ phase_values w a k n xs
+  values_alike k zero xs = refl
+  values_alike k (suc n) xs =
+      ap (λ (ys : List ℤ). phase_value w a k xs ++ ys)
+      (ap₂ (λ (ns : List ℕ) (m : ℕ). values_of (get_or w.kernels a Sink) ns m n (drop (amount_of w a k) xs)) (same_outputs w a k (suc k) has)
+      (same_amount k (suc k))
+      ∙ values_alike (suc k) n (drop (amount_of w a k) xs))
+
+-- an actor that is no source computes from what it reads
+pub values_read : (w : Program) (a k n : ℕ) (tokens : List ℤ) → HasPhases w.plan.channels a 1 → is_source w.plan a ≡ false
+    → values_of (get_or w.kernels a Sink) (output_counts w a k) (need a k w.plan.channels) n tokens ≡ made_value w a k n tokens
+values_read w a k n tokens has other =
+    ap (λ (m : ℕ). values_of (get_or w.kernels a Sink) (output_counts w a k) m n tokens) (sym (need_alone w a k other))
+    ∙ values_alike w a has k n tokens ∙ phases_read w a k n tokens other

@@ -477,9 +477,10 @@ impl Book {
     }
 
     /// How many tokens the actor's next firing computes from.
-    fn amount(&self, actor: u32) -> usize
+    pub(crate) fn amount(&self, actor: u32) -> usize
         requires { actor < length self.now.shown.core.plan.sources }
-        ensures { result ≡ amount_of (program self.now.shown.work) actor (count self.now.shown.core.now actor) }
+        ensures value { result ≡ amount_of (program self.now.shown.work) actor (count self.now.shown.core.now actor) }
+        ensures small { result ≤ MAX_TOTAL_PER_FIRING }
     {
         if self.work.is_source(actor) {
             return self.core.gives(actor);

@@ -77,54 +77,37 @@ impl Book {
         self.core.peek(actor, n, buffer.as_mut_slice());
     }
 
-    /// The kernel's values of the actor's next n firings, which read what is in its buffer, in the
-    /// place of what the outputs hold. The actor is no source.
+    /// The kernel's values of the block, of which each firing moves as much, in the place of what the outputs
+    /// hold.
     fn values_into(
         &self,
         actor: u32,
-        n: u32,
+        block: Block,
         counts: &mut Counts,
         outputs: &mut Outputs,
     ) -> Result<(), AllocError>
         requires exists { actor < length self.now.shown.core.plan.sources }
-        requires other { is_source (program self.now.shown.work).plan actor ≡ false }
-        requires phases { HasPhases self.now.shown.core.plan.channels actor 1 }
+        requires some { 0 < block.firings }
+        requires can { CanFire self.now.shown.core.plan self.now.shown.core.now actor block.firings }
+        requires given { block.given ≡ gifts_of self.now.shown.core.plan.channels actor (count self.now.shown.core.now actor) block.firings }
         requires buffer { length (slice_index_or self.now.reads actor [])
-            ≡ needs_of self.now.shown.core.plan.channels actor (count self.now.shown.core.now actor) n }
-        ensures { OnOk result (outputs.new.items ≡ made_value (program self.now.shown.work) actor (count self.now.shown.core.now actor) n
-            (slice_index_or self.now.reads actor [])) }
-    {
-        self.counts_into(actor, counts)?;
-        let kernel = self.work.kernel(actor);
-        let need = self.core.need(actor);
-        let buffer = &self.reads[actor as usize];
-        eval_block(kernel, counts.as_slice(), need, n, buffer, outputs)
-    }
-
-    /// The kernel's values of the next n firings of a source, which are there in its file, in the place
-    /// of what the outputs hold.
-    fn feed_values_into(
-        &self,
-        actor: u32,
-        n: u32,
-        counts: &mut Counts,
-        outputs: &mut Outputs,
-    ) -> Result<(), AllocError>
-        requires exists { actor < length self.now.shown.core.plan.sources }
-        requires some { 0 < n }
-        requires can { CanFire self.now.shown.core.plan self.now.shown.core.now actor n }
-        requires source { is_source (program self.now.shown.work).plan actor ≡ true }
+            ≡ needs_of self.now.shown.core.plan.channels actor (count self.now.shown.core.now actor) block.firings }
         requires phases { HasPhases self.now.shown.core.plan.channels actor 1 }
-        ensures { OnOk result (outputs.new.items ≡ made_value (program self.now.shown.work) actor (count self.now.shown.core.now actor) n
+        ensures { OnOk result (outputs.new.items ≡ made_value (program self.now.shown.work) actor (count self.now.shown.core.now actor) block.firings
             (slice_index_or self.now.reads actor [])) }
     {
-        self.core.keeps_within(actor, n);
         self.counts_into(actor, counts)?;
         let kernel = self.work.kernel(actor);
-        let each = self.core.gives(actor);
-        let used = self.core.written(actor) as usize;
-        let feed = self.work.part(actor, used, n as usize * each);
-        eval_block(kernel, counts.as_slice(), each, n, feed, outputs)
+        let each = self.amount(actor);
+        let tokens = self.block_inputs(actor, block);
+        eval_block(
+            kernel,
+            counts.as_slice(),
+            each,
+            block.firings,
+            tokens,
+            outputs,
+        )
     }
 
     /// The kernel's values of the block, whose tokens are in the actor's buffer, in the place of what the
@@ -148,10 +131,7 @@ impl Book {
         if !self.core.has_one_phase(actor) {
             return self.phased_values_into(actor, block, counts, outputs);
         }
-        if self.work.is_source(actor) {
-            return self.feed_values_into(actor, block.firings, counts, outputs);
-        }
-        self.values_into(actor, block.firings, counts, outputs)
+        self.values_into(actor, block, counts, outputs)
     }
 
     /// Makes the actor's next n firings, which write these tokens: the kernel's values of what is in the

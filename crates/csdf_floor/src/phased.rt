@@ -94,20 +94,23 @@ impl Work {
 }
 
 impl Book {
-    /// What the actor's next firings compute from, which write so many tokens: what is in its buffer, or
-    /// for a source the next part of its file.
-    fn block_inputs(&self, actor: u32, written: usize) -> &[i32]
+    /// What the block computes from: what is in the actor's buffer, or for a source the next part of its file.
+    pub(crate) fn block_inputs(&self, actor: u32, block: Block) -> &[i32]
         requires exists { actor < length self.now.shown.core.plan.sources }
-        requires small { is_source (program self.now.shown.work).plan actor ≡ true → written ≤ MAX_FEED_TOKENS }
-        ensures read { is_source (program self.now.shown.work).plan actor ≡ false → result.now ≡ slice_index_or self.now.reads actor [] }
-        ensures fed { is_source (program self.now.shown.work).plan actor ≡ true → result.now
-            ≡ slice_range (feed_of self.now.shown.work.feeds actor)
-            (given (program self.now.shown.work).plan actor (count self.now.shown.core.now actor))
-            (given (program self.now.shown.work).plan actor (count self.now.shown.core.now actor) + written) }
+        requires some { 0 < block.firings }
+        requires can { CanFire self.now.shown.core.plan self.now.shown.core.now actor block.firings }
+        requires given { block.given ≡ gifts_of self.now.shown.core.plan.channels actor (count self.now.shown.core.now actor) block.firings }
+        requires buffer { length (slice_index_or self.now.reads actor [])
+            ≡ needs_of self.now.shown.core.plan.channels actor (count self.now.shown.core.now actor) block.firings }
+        ensures values { phase_values (program self.now.shown.work) actor (count self.now.shown.core.now actor) block.firings result.now
+            ≡ made_value (program self.now.shown.work) actor (count self.now.shown.core.now actor) block.firings (slice_index_or self.now.reads actor []) }
+        ensures long { amounts_of (program self.now.shown.work) actor (count self.now.shown.core.now actor) block.firings ≤ length result.now }
+        ensures few { count self.now.shown.core.now actor + block.firings ≤ MAX_FIRINGS_PER_ACTOR }
     {
+        self.core.keeps_within(actor, block.firings);
         if self.work.is_source(actor) {
             let used = self.core.written(actor) as usize;
-            return self.work.part(actor, used, written);
+            return self.work.part(actor, used, block.given as usize);
         }
         &self.reads[actor as usize]
     }
@@ -131,14 +134,13 @@ impl Book {
             (slice_index_or self.now.reads actor [])) }
     {
         let _ = &self.work;
-        self.core.keeps_within(actor, block.firings);
         let written = block.given as usize;
+        let tokens = self.block_inputs(actor, block);
         outputs.clear();
         if written == 0 {
             return Ok(());
         }
         outputs.reserve(written)?;
-        let tokens = self.block_inputs(actor, written);
         self.work
             .push_phases(&self.core, actor, block.firings, tokens, counts, outputs)
     }

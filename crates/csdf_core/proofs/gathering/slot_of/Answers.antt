@@ -15,10 +15,10 @@ returns-clause-slot c =
     let mine = c.takes.ensures.value ∙ ap (λ (ns : List ℕ). take_at cs k (get_or ns c.args.place 0)) c.inputs-inputs.ensures.value in
     let within = within_all (take_at cs k) ins c.args.place c.requires.place in
     record {
-      all_is = c.need_of.ensures.value;
+      all_is = c.moved.ensures.value;
       from_is = before;
       taken_is = mine;
-      fits = omega (arith, before, mine, within, need_is c.args.actor k cs, c.need_of.ensures.value);
+      fits = omega (arith, before, mine, within, need_is c.args.actor k cs, c.moved.ensures.value);
     }
 
 pub taken_before-requires-clause-within : goal.taken_before-requires-clause-within

@@ -10,9 +10,9 @@ use Rattle.csdf_core.proofs.going.put_lasting.Goals as goal
 pub loop-channel-init : goal.loop-channel-init
 loop-channel-init c =
     let outputs = c.outputs-outputs.ensures.value in
-    let all : sum_by (give_at c.args.plan.now.channels c.args.turn.firing) c.outputs-outputs.result.now ≡ c.gift_of-gift.result =
+    let all : sum_by (give_at c.args.plan.now.channels c.args.turn.firing) c.outputs-outputs.result.now ≡ c.moved-gift.result =
     ap (sum_by (give_at c.args.plan.now.channels c.args.turn.firing)) outputs
-    ∙ gift_is c.args.actor c.args.turn.firing c.args.plan.now.channels ∙ sym c.gift_of-gift.ensures.value in
+    ∙ gift_is c.args.actor c.args.turn.firing c.args.plan.now.channels ∙ sym c.moved-gift.ensures.value in
     record {
       same = c.requires.same;
       size = refl;

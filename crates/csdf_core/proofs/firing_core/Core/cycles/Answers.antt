@@ -28,17 +28,17 @@ returns-clause-can c =
     let m : ℕ = c.cells_over.result in
     let has : HasPhases plan.channels a phases = rw (← c.self.view_is) at c.requires.phases in
     let k_is : c.fired-k.result ≡ k = rw (← c.self.view_is) at c.fired-k.ensures.value in
-    let below_held : m ≤ c.cycles_held-held.result =
-    omega (arith, c.cells_over.ensures.most, c.supplied_over-supplied.ensures.most, c.cycles_room-roomy.ensures.most) in
-    let below_roomy : m ≤ c.cycles_room-roomy.result = omega (arith, c.cells_over.ensures.most, c.supplied_over-supplied.ensures.most) in
+    let below_held : m ≤ c.let_through-held.result =
+    omega (arith, c.cells_over.ensures.most, c.supplied_over-supplied.ensures.most, c.let_through-roomy.ensures.most) in
+    let below_roomy : m ≤ c.let_through-roomy.result = omega (arith, c.cells_over.ensures.most, c.supplied_over-supplied.ensures.most) in
     let holds : AllByRecursion (IsHeld plan.channels p.tokens a k phases m) (inputs_at plan.channels a) =
     by_places (IsHeld plan.channels p.tokens a k phases m) (inputs_at plan.channels a)
-    (λ j lt. held_fewer plan.channels p.tokens a k phases m c.cycles_held-held.result (get_or (inputs_at plan.channels a) j 0) below_held
-    (subst (λ x. IsHeld plan.channels p.tokens a x phases c.cycles_held-held.result (get_or (inputs_at plan.channels a) j 0)) k_is (c.cycles_held-held.ensures.held j lt))) in
+    (λ j lt. held_fewer plan.channels p.tokens a k phases m c.let_through-held.result (get_or (inputs_at plan.channels a) j 0) below_held
+    (subst (λ x. IsHeld plan.channels p.tokens a x phases c.let_through-held.result (get_or (inputs_at plan.channels a) j 0)) k_is (c.let_through-held.ensures.through j lt))) in
     let room : AllByRecursion (HasRoom plan.channels p.tokens a k phases m) (outputs_at plan.channels a) =
     by_places (HasRoom plan.channels p.tokens a k phases m) (outputs_at plan.channels a)
-    (λ j lt. room_fewer plan.channels p.tokens a k phases m c.cycles_room-roomy.result (get_or (outputs_at plan.channels a) j 0) below_roomy
-    (subst (λ x. HasRoom plan.channels p.tokens a x phases c.cycles_room-roomy.result (get_or (outputs_at plan.channels a) j 0)) k_is (c.cycles_room-roomy.ensures.room j lt))) in
+    (λ j lt. room_fewer plan.channels p.tokens a k phases m c.let_through-roomy.result (get_or (outputs_at plan.channels a) j 0) below_roomy
+    (subst (λ x. HasRoom plan.channels p.tokens a x phases c.let_through-roomy.result (get_or (outputs_at plan.channels a) j 0)) k_is (c.let_through-roomy.ensures.through j lt))) in
     let given : c.given_ahead-given.result ≡ gifts_of plan.channels a k phases = rw (← c.self.view_is) at c.given_ahead-given.ensures.value in
     let needed : c.need-need.result ≡ need a k plan.channels = rw (← c.self.view_is) at c.need-need.ensures.value in
     let counted : ((phases ≡ 1) × (c.if-phases-eq1-2.more ≡ gifts_of plan.channels a k phases - need a k plan.channels))
@@ -48,7 +48,7 @@ returns-clause-can c =
       | else-phases-eq1-2 w ↦ inr (omega (arith, w.more-is, given))
     ] in
     let cells : held p + reserved plan p + m * c.if-phases-eq1-2.more ≤ plan.cells = rw (← c.self.view_is) at c.cells_over.ensures.cells in
-    let below_whole : m ≤ c.if-phases-eq1.whole = omega (arith, below_held, c.cycles_held-held.ensures.most) in
+    let below_whole : m ≤ c.if-phases-eq1.whole = omega (arith, below_held, c.let_through-held.ensures.most) in
     let within : m * phases ≤ c.within_limits-limited.result =
     elim c.if-phases-eq1.branch [
       | then-phases-eq1 w ↦

@@ -25,6 +25,6 @@ returns-else-phases-ne1-clause-phases c =
 pub returns-then-phases-ne1-clause-amounts : goal.returns-then-phases-ne1-clause-amounts
 returns-then-phases-ne1-clause-amounts c =
     amounts_finished c.args.plan.now c.args.self.now.counts.items c.args.self.now.needs.items c.args.self.now.gifts.items c.args.actor
-    c.turn_ahead-next.result.firing c.need_of.result c.gift_of.result c.requires.amounts c.requires.actor
+    c.turn_ahead-next.result.firing c.moved.result c.moved-then-phases-ne1.result c.requires.amounts c.requires.actor
     (let e = c.requires.counted in omega (arith, e, c.requires.actor))
-    (c.need_of.ensures.value) (c.gift_of.ensures.value) c.need_of.ensures.small c.gift_of.ensures.small
+    (c.moved.ensures.value) (c.moved-then-phases-ne1.ensures.value) c.moved.ensures.small c.moved-then-phases-ne1.ensures.small

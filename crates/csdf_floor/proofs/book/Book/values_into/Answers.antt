@@ -1,76 +1,57 @@
-use Rattle.std.proofs.lemmas.Grind.{common_steps}
-use Rattle.std.proofs.Common.{◌≡◌, ◌<◌, ◌*◌, ℕ, List, [], length, get_or, ap, ap₂, subst, ◌∙◌, arith, false}
+use Rattle.std.proofs.Common.{◌≡◌, ◌≤◌, ◌*◌, ℕ, List, [], length, get_or, ap, ap₂, subst, ◌∙◌, arith}
 use Rattle.std.specs.Prelude.{ℤ}
-use Rattle.std.proofs.lemmas.List.{length-map}
 use Rattle.csdf_model.specs.declared.parts.Kernel.{Kernel}
 use Rattle.csdf_model.specs.declared.parts.Kernel.TheVariants.{Sink}
 use Rattle.csdf_kernel.specs.Value.{values_of}
-use Rattle.csdf_core.specs.Blocks.{needs_of}
 use Rattle.csdf_core.specs.Phases.{HasPhases}
 use Rattle.csdf_core.specs.Plan.{Plan}
-use Rattle.csdf_core.specs.Rows.{need}
-use Rattle.csdf_core.specs.Step.{count, is_source}
-use Rattle.csdf_core.proofs.OnePhase.{needs_times}
-use Rattle.csdf_floor.specs.Journal.{output_counts}
-use Rattle.csdf_floor.specs.Making.{made_value}
+use Rattle.csdf_core.specs.Step.{count}
+use Rattle.csdf_floor.specs.Journal.{Program, output_counts}
+use Rattle.csdf_floor.specs.Making.{amount_of, amounts_of, made_value, phase_values}
 use Rattle.csdf_floor.specs.Work.{feeds_in, program}
-use Rattle.csdf_floor.proofs.Makings.{made_is, on_ok}
-use Rattle.csdf_floor.proofs.Works.{item_at}
+use Rattle.csdf_floor.proofs.Makings.{on_ok}
+use Rattle.csdf_floor.proofs.PhaseValues.{amounts_times, values_alike}
 use Rattle.csdf_floor.proofs.book.Book.values_into.Goals as goal
-use Rattle.csdf_floor.proofs.book.Book.values_into.Goals.{After-deref}
+use Rattle.csdf_floor.proofs.book.Book.values_into.Goals.{After-block_inputs-tokens}
 
-module _ (c : After-deref) where
-  within : c.args.actor < length c.self.inside.reads.items
-  within =
-      let there : c.args.actor < length c.self.inside.core.plan.sources = rw (← c.self.view_is) at c.requires.exists in
-      omega (arith, there, c.self.invariant.each_actor, length-map c.self.inside.reads.items (λ v. v.items))
+module _ (c : After-block_inputs-tokens) where
+  abbrev p : Program
+  p = program c.self.inside.work
 
-  held : c.deref.result.now ≡ get_or (feeds_in c.self.inside.reads.items) c.args.actor []
-  held = c.deref.ensures.value ∙ item_at c.self.inside.reads.items c.args.actor c.index-buffer.result.now within c.index-buffer.ensures
+  abbrev k : ℕ
+  k = count c.self.inside.core.now c.args.actor
 
-  has : HasPhases c.self.inside.core.plan.channels c.args.actor 1
-  has = rw (← c.self.view_is) at c.requires.phases
+  abbrev n : ℕ
+  n = c.args.block.firings
+
+  has : HasPhases p.plan.channels c.args.actor 1
+  has =
+      let here : HasPhases c.self.inside.core.plan.channels c.args.actor 1 = rw (← c.self.view_is) at c.requires.phases in
+      subst (λ (u : Plan). HasPhases u.channels c.args.actor 1) c.self.invariant.kept.plan here
 
 pub eval_block-requires-clause-whole : goal.eval_block-requires-clause-whole
 eval_block-requires-clause-whole c =
-    let at : After-deref = (goal.at.eval_block-requires-clause-whole c).After-deref in
-    let k : ℕ = count c.self.inside.core.now c.args.actor in
-    let buffer : length (get_or (feeds_in c.self.inside.reads.items) c.args.actor []) ≡ needs_of c.self.inside.core.plan.channels c.args.actor k c.args.n =
-    rw (← c.self.view_is) at c.requires.buffer in
-    let t = needs_times c.self.inside.core.plan.channels c.args.actor (has at) k c.args.n in
-    let m = ap (λ (x : ℕ). c.args.n * x) c.need-need.ensures.value in
-    let e = ap length (held at) in
-    omega (arith, buffer, t, m, e)
+    let at : After-block_inputs-tokens = (goal.at.eval_block-requires-clause-whole c).After-block_inputs-tokens in
+    let long : amounts_of (p at) c.args.actor (k at) (n at) ≤ length c.block_inputs-tokens.result.now =
+    rw (← c.self.view_is) at c.block_inputs-tokens.ensures.long in
+    let each : c.amount-each.result ≡ amount_of (p at) c.args.actor (k at) = rw (← c.self.view_is) at c.amount-each.ensures.value in
+    let times = ap (λ (x : ℕ). n at * x) each in
+    omega (arith, long, times, amounts_times (p at) c.args.actor (has at) (k at) (n at))
 
 pub returns : goal.returns
 returns c =
-    let at : After-deref = (goal.at.returns c).After-deref in
-    let k : ℕ = count c.self.inside.core.now c.args.actor in
+    let at : After-block_inputs-tokens = (goal.at.returns c).After-block_inputs-tokens in
+    let xs : List ℤ = c.block_inputs-tokens.result.now in
     let tokens : List ℤ = get_or (feeds_in c.self.inside.reads.items) c.args.actor [] in
-    let other : is_source (program c.self.inside.work).plan c.args.actor ≡ false = rw (← c.self.view_is) at c.requires.other in
-    let counts : c.as_slice.result.now ≡ output_counts (program c.self.inside.work) c.args.actor k = c.as_slice.ensures
+    let counts : c.as_slice.result.now ≡ output_counts (p at) c.args.actor (k at) = c.as_slice.ensures
     ∙ (rw (← c.self.view_is) at c.in_ok-counts_into.ensures.value) in
-    let needed : c.need-need.result ≡ need c.args.actor k (program c.self.inside.work).plan.channels = c.need-need.ensures.value
-    ∙ ap (λ (u : Plan). need c.args.actor k u.channels) c.self.invariant.kept.plan in
-    let phases : HasPhases (program c.self.inside.work).plan.channels c.args.actor 1 =
-    subst (λ (u : Plan). HasPhases u.channels c.args.actor 1) c.self.invariant.kept.plan (has at) in
-    let whole : values_of c.kernel-kernel.result.now c.as_slice.result.now c.need-need.result c.args.n c.deref.result.now
-    ≡ made_value (program c.self.inside.work) c.args.actor k c.args.n tokens =
-    ap (λ (x : Kernel). values_of x c.as_slice.result.now c.need-need.result c.args.n c.deref.result.now) c.kernel-kernel.ensures.value
-    ∙ ap₂ (λ (ns : List ℕ) (m : ℕ). values_of (get_or (program c.self.inside.work).kernels c.args.actor Sink) ns m c.args.n c.deref.result.now) counts needed
-    ∙ ap (values_of (get_or (program c.self.inside.work).kernels c.args.actor Sink) (output_counts (program c.self.inside.work) c.args.actor k)
-    (need c.args.actor k (program c.self.inside.work).plan.channels) c.args.n) (held at)
-    ∙ made_is (program c.self.inside.work) c.args.actor k c.args.n tokens phases other in
+    let values : phase_values (p at) c.args.actor (k at) (n at) xs ≡ made_value (p at) c.args.actor (k at) (n at) tokens =
+    rw (← c.self.view_is) at c.block_inputs-tokens.ensures.values in
+    let each : c.amount-each.result ≡ amount_of (p at) c.args.actor (k at) = rw (← c.self.view_is) at c.amount-each.ensures.value in
+    let whole : values_of c.kernel-kernel.result.now c.as_slice.result.now c.amount-each.result (n at) xs
+    ≡ made_value (p at) c.args.actor (k at) (n at) tokens =
+    ap (λ (x : Kernel). values_of x c.as_slice.result.now c.amount-each.result (n at) xs) c.kernel-kernel.ensures.value
+    ∙ ap₂ (λ (ns : List ℕ) (m : ℕ). values_of (get_or (p at).kernels c.args.actor Sink) ns m (n at) xs) counts each
+    ∙ values_alike (p at) c.args.actor (has at) (k at) (n at) xs
+    ∙ values in
     rw (← c.self.view_is) (on_ok c.eval_block.result _ _ (λ e. e ∙ whole) c.eval_block.ensures.values)
-
-pub kernel-kernel-requires : goal.kernel-kernel-requires
-kernel-kernel-requires c = grind (arith, common_steps)
-
-pub index-buffer-requires : goal.index-buffer-requires
-index-buffer-requires c = grind (arith, common_steps)
-
-pub counts_into-requires : goal.counts_into-requires
-counts_into-requires c = grind (arith, common_steps)
-
-pub eval_block-requires-clause-few_counts : goal.eval_block-requires-clause-few_counts
-eval_block-requires-clause-few_counts c = grind (arith, common_steps)

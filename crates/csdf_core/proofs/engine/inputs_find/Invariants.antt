@@ -1,7 +1,0 @@
-use Rattle.std.proofs.Common.{ℕ, ◌<◌, get_or}
-use Rattle.csdf_core.specs.Engine.{FindsIn}
-use Rattle.csdf_core.specs.Ports.{tokens_in}
-use Rattle.csdf_core.proofs.engine.inputs_find.Given as goal
-
-abbrev pub invariant-loop-channel : goal.invariant-loop-channel
-invariant-loop-channel l = (j : ℕ) → j < l.channel-index → FindsIn l.plan.channels (tokens_in l.pool) l.actor l.k l.i (get_or l.inputs j 0)
