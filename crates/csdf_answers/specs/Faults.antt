@@ -12,8 +12,8 @@ use Rattle.csdf_answers.specs.declared.fault.Lack.{Lack}
 use Rattle.csdf_answers.specs.declared.fault.Lack.TheVariants as lacks
 use Rattle.csdf_answers.specs.declared.fault.LineEnd.{LineEnd}
 use Rattle.csdf_answers.specs.declared.fault.LineEnd.TheVariants as end
-use Rattle.csdf_answers.specs.declared.fault.Stream.{Stream}
-use Rattle.csdf_answers.specs.declared.fault.Stream.TheVariants.{Input, Output, File}
+use Rattle.csdf_answers.specs.declared.fault.DeviceName.{DeviceName}
+use Rattle.csdf_answers.specs.declared.fault.DeviceName.TheVariants.{Input, Output, File}
 use Rattle.csdf_answers.specs.Printed.{name_at}
 use Rattle.csdf_answers.specs.declared.fault.ToolFault.{ToolFault}
 use Rattle.csdf_answers.specs.declared.fault.ToolFault.TheVariants.{Graph, Line, Unbalanced, TooLarge, Deadlock, TooTight, TooLong}
@@ -22,7 +22,7 @@ use Rattle.csdf_answers.specs.declared.fault.ToolFault.TheVariants.{TokenSyntax,
 -- ---- texts
 
 -- the text of a stream
-abbrev pub stream_text : Stream → List ℕ
+abbrev pub stream_text : DeviceName → List ℕ
 stream_text Input = codes "standard input"
 stream_text Output = codes "standard output"
 stream_text (File name) = name
@@ -105,7 +105,7 @@ accept_fault names accept.TooTight = TooTight
 accept_fault names accept.Memory = Memory
 
 -- why a stream was not read, as the program tells it
-abbrev pub unread : Stream → InputFault → ToolFault
+abbrev pub unread : DeviceName → InputFault → ToolFault
 unread stream input.Read = Device stream
 unread stream input.TooLong = TooLong
 unread stream input.Memory = Memory

@@ -6,7 +6,7 @@ ghost use Rattle.csdf_analysis.specs.Room.{HasSomePeriod};
 ghost use Rattle.csdf_answers.specs.Described.{IsDescription};
 ghost use Rattle.csdf_answers.specs.Faults.{Tells};
 ghost use Rattle.csdf_answers.specs.Objects.{IsDescriptionAs};
-ghost use Rattle.csdf_answers.specs.declared.fault.Stream.{Stream};
+ghost use Rattle.csdf_answers.specs.declared.fault.DeviceName.{DeviceName};
 
 use crate::answer::answer_to;
 use crate::fault::ToolFault;
@@ -50,10 +50,10 @@ pub fn describe<O: Outlet>(
     ensures written { OnOk result ((text : List ℕ) × IsDescription question Room.Least bytes.now (Ok text)
         × Appends (O.written writer.old) (O.written writer.new) text) }
     ensures unmarked { OnOk result (O.failed writer.new ≡ O.failed writer.old) }
-    ensures refused { IfErr result (λ fault. fault ≢ ToolFault.Memory → fault ≢ ToolFault.Device Stream.Output
+    ensures refused { IfErr result (λ fault. fault ≢ ToolFault.Memory → fault ≢ ToolFault.Device DeviceName.Output
         → IsDescription question Room.Least bytes.now (Err fault)) }
-    ensures unwritten { IfErr result (λ fault. fault ≢ ToolFault.Device Stream.Output → writer.new ≡ writer.old) }
-    ensures failed { result ≡ Err (ToolFault.Device Stream.Output)
+    ensures unwritten { IfErr result (λ fault. fault ≢ ToolFault.Device DeviceName.Output → writer.new ≡ writer.old) }
+    ensures failed { result ≡ Err (ToolFault.Device DeviceName.Output)
         → ((text : List ℕ) × IsDescription question Room.Least bytes.now (Ok text)) × (O.failed writer.new ≡ true) }
 {
     describe_with_room(alloc, question, bytes, Room::Least, writer)
@@ -74,10 +74,10 @@ pub fn describe_with_room<O: Outlet>(
     ensures written { OnOk result ((text : List ℕ) × IsDescription question room bytes.now (Ok text)
         × Appends (O.written writer.old) (O.written writer.new) text) }
     ensures unmarked { OnOk result (O.failed writer.new ≡ O.failed writer.old) }
-    ensures refused { IfErr result (λ fault. fault ≢ ToolFault.Memory → fault ≢ ToolFault.Device Stream.Output
+    ensures refused { IfErr result (λ fault. fault ≢ ToolFault.Memory → fault ≢ ToolFault.Device DeviceName.Output
         → IsDescription question room bytes.now (Err fault)) }
-    ensures unwritten { IfErr result (λ fault. fault ≢ ToolFault.Device Stream.Output → writer.new ≡ writer.old) }
-    ensures failed { result ≡ Err (ToolFault.Device Stream.Output)
+    ensures unwritten { IfErr result (λ fault. fault ≢ ToolFault.Device DeviceName.Output → writer.new ≡ writer.old) }
+    ensures failed { result ≡ Err (ToolFault.Device DeviceName.Output)
         → ((text : List ℕ) × IsDescription question room bytes.now (Ok text)) × (O.failed writer.new ≡ true) }
 {
     describe_as(alloc, question, Form::Text, bytes, room, writer)
@@ -98,10 +98,10 @@ pub fn describe_as<O: Outlet>(
     ensures written { OnOk result ((text : List ℕ) × IsDescriptionAs form question room bytes.now (Ok text)
         × Appends (O.written writer.old) (O.written writer.new) text) }
     ensures unmarked { OnOk result (O.failed writer.new ≡ O.failed writer.old) }
-    ensures refused { IfErr result (λ fault. fault ≢ ToolFault.Memory → fault ≢ ToolFault.Device Stream.Output
+    ensures refused { IfErr result (λ fault. fault ≢ ToolFault.Memory → fault ≢ ToolFault.Device DeviceName.Output
         → IsDescriptionAs form question room bytes.now (Err fault)) }
-    ensures unwritten { IfErr result (λ fault. fault ≢ ToolFault.Device Stream.Output → writer.new ≡ writer.old) }
-    ensures failed { result ≡ Err (ToolFault.Device Stream.Output)
+    ensures unwritten { IfErr result (λ fault. fault ≢ ToolFault.Device DeviceName.Output → writer.new ≡ writer.old) }
+    ensures failed { result ≡ Err (ToolFault.Device DeviceName.Output)
         → ((text : List ℕ) × IsDescriptionAs form question room bytes.now (Ok text)) × (O.failed writer.new ≡ true) }
 {
     let text = description_of(alloc, question, form, bytes, room)?;

@@ -8,7 +8,7 @@ ghost use Rattle.csdf_analysis.specs.Repetition.{IsRepetition};
 ghost use Rattle.csdf_answers.specs.Explained.{AppendsTooTight, ExplainsFault, ExplainsGraph, IsExplained, TellsRefusal, TellsDemand, TellsStall, TellsTight, TellsUnbalanced, accepted_text};
 ghost use Rattle.csdf_answers.specs.Faults.{fault_of, fault_text};
 ghost use Rattle.csdf_answers.specs.Printed.{newline};
-ghost use Rattle.csdf_answers.specs.declared.fault.Stream.{Stream};
+ghost use Rattle.csdf_answers.specs.declared.fault.DeviceName.{DeviceName};
 
 use crate::explanation::{
     accepted_text, push_circle_of, push_relief, push_tight, too_large_text, unbalanced_text,
@@ -206,9 +206,9 @@ fn explanation_of(alloc: Global, bytes: &[u8]) -> Result<String, ToolFault>
 pub fn explain<O: Outlet>(alloc: Global, bytes: &[u8], writer: &mut O) -> Result<(), ToolFault>
     ensures written { OnOk result ((text : List ℕ) × IsExplained bytes.now (Ok text) × Appends (O.written writer.old) (O.written writer.new) text) }
     ensures unmarked { OnOk result (O.failed writer.new ≡ O.failed writer.old) }
-    ensures refused { IfErr result (λ fault. (fault ≡ ToolFault.Memory) ⊎ (fault ≡ ToolFault.Device Stream.Output)) }
-    ensures unwritten { IfErr result (λ fault. fault ≢ ToolFault.Device Stream.Output → writer.new ≡ writer.old) }
-    ensures failed { result ≡ Err (ToolFault.Device Stream.Output)
+    ensures refused { IfErr result (λ fault. (fault ≡ ToolFault.Memory) ⊎ (fault ≡ ToolFault.Device DeviceName.Output)) }
+    ensures unwritten { IfErr result (λ fault. fault ≢ ToolFault.Device DeviceName.Output → writer.new ≡ writer.old) }
+    ensures failed { result ≡ Err (ToolFault.Device DeviceName.Output)
         → ((text : List ℕ) × IsExplained bytes.now (Ok text)) × (O.failed writer.new ≡ true) }
 {
     explain_with(alloc, bytes, "", writer)
@@ -226,9 +226,9 @@ pub fn explain_with<O: Outlet>(
     ensures written { OnOk result ((text : List ℕ) × IsExplained bytes.now (Ok text)
         × Appends (O.written writer.old) (O.written writer.new) (text ++ lines.now)) }
     ensures unmarked { OnOk result (O.failed writer.new ≡ O.failed writer.old) }
-    ensures refused { IfErr result (λ fault. (fault ≡ ToolFault.Memory) ⊎ (fault ≡ ToolFault.Device Stream.Output)) }
-    ensures unwritten { IfErr result (λ fault. fault ≢ ToolFault.Device Stream.Output → writer.new ≡ writer.old) }
-    ensures failed { result ≡ Err (ToolFault.Device Stream.Output)
+    ensures refused { IfErr result (λ fault. (fault ≡ ToolFault.Memory) ⊎ (fault ≡ ToolFault.Device DeviceName.Output)) }
+    ensures unwritten { IfErr result (λ fault. fault ≢ ToolFault.Device DeviceName.Output → writer.new ≡ writer.old) }
+    ensures failed { result ≡ Err (ToolFault.Device DeviceName.Output)
         → ((text : List ℕ) × IsExplained bytes.now (Ok text)) × (O.failed writer.new ≡ true) }
 {
     let mut text = explanation_of(alloc, bytes)?;

@@ -62,29 +62,29 @@ impl fmt::Display for Name {
     }
 }
 
-/// What the program reads from or writes to.
+/// The name of what the program reads from or writes to.
 #[derive(Debug, Drop)]
-pub enum Stream {
+pub enum DeviceName {
     Input,
     Output,
     /// The file of this name, as the command line gave it.
     File(Name),
 }
 
-impl Stream {
+impl DeviceName {
     /// Its text.
     fn as_str(&self) -> &str
         ensures { result.now ≡ stream_text self.now }
     {
         match self {
-            Stream::Input => "standard input",
-            Stream::Output => "standard output",
-            Stream::File(file) => file.as_str(),
+            DeviceName::Input => "standard input",
+            DeviceName::Output => "standard output",
+            DeviceName::File(file) => file.as_str(),
         }
     }
 }
 
-impl fmt::Display for Stream {
+impl fmt::Display for DeviceName {
     ghost use Rattle.std.specs.Prelude.{Some};
     ghost use Rattle.csdf_answers.specs.Faults.{stream_text};
 
@@ -217,7 +217,7 @@ pub enum ToolFault {
     /// A worker could not be started.
     Worker,
     /// A stream failed.
-    Device(Stream),
+    Device(DeviceName),
     /// Memory ran out, which says nothing of the input.
     Memory,
 }
@@ -403,7 +403,7 @@ impl From<GraphFault> for ToolFault {
 }
 
 /// Why a stream was not read, as the program tells it.
-pub fn unread(stream: Stream, fault: InputFault) -> ToolFault
+pub fn unread(stream: DeviceName, fault: InputFault) -> ToolFault
     ensures { result ≡ unread stream fault }
 {
     match fault {

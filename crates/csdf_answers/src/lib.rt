@@ -27,7 +27,7 @@ mod words;
 pub use csdf_misfits::explain_fault;
 pub use described::{describe, describe_as, describe_with_room};
 pub use explained::{explain, explain_with};
-pub use fault::{Lack, Name, Stream, ToolFault, unread};
+pub use fault::{DeviceName, Lack, Name, ToolFault, unread};
 pub use object::{fault_line, memory_line};
 pub use question::{Form, Question};
 pub use replay::play_script;

@@ -6,7 +6,7 @@ ghost use Rattle.csdf_graph.specs.ScriptText.{script_view};
 ghost use Rattle.csdf_answers.specs.Faults.{Tells};
 ghost use Rattle.csdf_answers.specs.Lines.{line_view};
 ghost use Rattle.csdf_answers.specs.Session.{IsReplay, IsReplayOf, IsAnswer};
-ghost use Rattle.csdf_answers.specs.declared.fault.Stream.{Stream};
+ghost use Rattle.csdf_answers.specs.declared.fault.DeviceName.{DeviceName};
 
 use crate::fault::ToolFault;
 use crate::line::Line;
@@ -61,10 +61,10 @@ pub fn play_script<O: Outlet>(alloc: Global, bytes: &[u8], writer: &mut O) -> Re
     ensures written { OnOk result ((text : List ℕ) × IsAnswer bytes.now (Ok text)
         × Appends (O.written writer.old) (O.written writer.new) text) }
     ensures unmarked { OnOk result (O.failed writer.new ≡ O.failed writer.old) }
-    ensures refused { IfErr result (λ fault. fault ≢ ToolFault.Memory → fault ≢ ToolFault.Device Stream.Output
+    ensures refused { IfErr result (λ fault. fault ≢ ToolFault.Memory → fault ≢ ToolFault.Device DeviceName.Output
         → IsAnswer bytes.now (Err fault)) }
-    ensures unwritten { IfErr result (λ fault. fault ≢ ToolFault.Device Stream.Output → writer.new ≡ writer.old) }
-    ensures failed { result ≡ Err (ToolFault.Device Stream.Output)
+    ensures unwritten { IfErr result (λ fault. fault ≢ ToolFault.Device DeviceName.Output → writer.new ≡ writer.old) }
+    ensures failed { result ≡ Err (ToolFault.Device DeviceName.Output)
         → ((text : List ℕ) × IsAnswer bytes.now (Ok text)) × (O.failed writer.new ≡ true) }
 {
     let text = text_of(alloc, bytes)?;

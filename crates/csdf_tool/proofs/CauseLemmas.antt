@@ -7,7 +7,7 @@ use Rattle.clap.specs.Words.{Text}
 use Rattle.csdf_bytes.specs.declared.intake.InputFault.{InputFault}
 use Rattle.csdf_bytes.specs.declared.intake.InputFault.TheVariants as input
 use Rattle.csdf_answers.specs.Faults.{unread}
-use Rattle.csdf_answers.specs.declared.fault.Stream.TheVariants as stream
+use Rattle.csdf_answers.specs.declared.fault.DeviceName.TheVariants as stream
 use Rattle.csdf_answers.specs.declared.fault.ToolFault.{ToolFault}
 use Rattle.csdf_answers.specs.declared.fault.ToolFault.TheVariants as fault
 use Rattle.csdf_words.specs.CommandLine.{Asked, Input, Moves, Ask, Explain, Run, Flow, FolderNames}

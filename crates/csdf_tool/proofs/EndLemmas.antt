@@ -14,7 +14,7 @@ use Rattle.csdf_disk.specs.Acts.{Devices}
 use Rattle.csdf_tool.specs.Ends.{AreTaken, Ended, Ending, EndsAs, EndsBy, EndsFor, EndsForOneOf, EndsHelp, EndsInForm, EndsTelling, EndsTold, EndsUnread, TellsLine, told_in}
 use Rattle.std.specs.Io.KnownBytes.{Appends}
 use Rattle.csdf_answers.specs.declared.fault.Lack.{Lack}
-use Rattle.csdf_answers.specs.declared.fault.Stream.TheVariants.{Output}
+use Rattle.csdf_answers.specs.declared.fault.DeviceName.TheVariants.{Output}
 use Rattle.csdf_answers.specs.declared.question.Form.{Form}
 use Rattle.csdf_answers.specs.declared.question.Form.TheVariants as forms
 use Rattle.csdf_answers.specs.Faults.{status_of}

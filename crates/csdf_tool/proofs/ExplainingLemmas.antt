@@ -9,14 +9,14 @@ use Rattle.csdf_core.specs.Planned.{is_source_kernel}
 use Rattle.csdf_answers.specs.Explained.{IsExplained}
 use Rattle.csdf_answers.specs.declared.fault.ToolFault.{ToolFault}
 use Rattle.csdf_answers.specs.declared.fault.ToolFault.TheVariants as fault
-use Rattle.csdf_answers.specs.declared.fault.Stream.TheVariants.{Input, Output, File}
+use Rattle.csdf_answers.specs.declared.fault.DeviceName.TheVariants.{Input, Output, File}
 use Rattle.csdf_answers.specs.declared.token_note.TokenFile.{TokenFile}
 use Rattle.csdf_bytes.specs.declared.intake.InputFault.{InputFault}
 use Rattle.csdf_bytes.specs.declared.intake.InputFault.TheVariants as input
 use Rattle.csdf_disk.specs.Acts.{Act, Asks, Devices, Look, Marks, Read, devices}
 use Rattle.csdf_tool.specs.Carried.{LacksExplanation}
 use Rattle.csdf_answers.specs.Faults.{unread}
-use Rattle.csdf_answers.specs.declared.fault.Stream.{Stream}
+use Rattle.csdf_answers.specs.declared.fault.DeviceName.{DeviceName}
 use Rattle.csdf_tool.specs.GraphFiles.{IsNamed, IsNotGiven, graph_misses, graph_reads, is_input, stream_of}
 use Rattle.csdf_tool.specs.Explaining.{Explains, FindsThen, LacksWhy, Looked, AreNotes, AreNotesOf, IsExplanation, IsNotedAfter, IsUnreadAs, is_of_file, look_of, note_of, source_names, token_path, unread_text}
 use Rattle.csdf_tool.proofs.DiskLemmas.{asks_more, asks_none}
@@ -213,7 +213,7 @@ lacks_explanation (Err f) word folder left asked mid answered m bytes seen named
 -- ---- a graph file that could not be read
 
 -- a fault of a file is that of reading one, and not that of standard output
-of_reading : (s : Stream) (why : InputFault) → is_of_file (unread s why) ≡ true → why ≡ input.Read
+of_reading : (s : DeviceName) (why : InputFault) → is_of_file (unread s why) ≡ true → why ≡ input.Read
 of_reading s input.Read is = refl
 of_reading s input.TooLong is = cc
 of_reading s input.Memory is = cc

@@ -18,7 +18,7 @@ use Rattle.csdf_run.specs.declared.tokens.TokensFault.TheVariants as tokens
 use Rattle.csdf_run.specs.Texts.{◌>>=◌, feed_in, feeds_from}
 use Rattle.csdf_run.specs.Tokens.{IsTokensRefusal}
 use Rattle.csdf_answers.specs.Faults.{accept_fault}
-use Rattle.csdf_answers.specs.declared.fault.Stream.{Stream}
+use Rattle.csdf_answers.specs.declared.fault.DeviceName.{DeviceName}
 use Rattle.csdf_answers.specs.declared.fault.ToolFault.{ToolFault}
 use Rattle.csdf_answers.specs.declared.fault.ToolFault.TheVariants.{Device}
 use Rattle.csdf_run.specs.declared.no_outcome.NoOutcome.{NoOutcome}
@@ -113,29 +113,29 @@ feeds_by_text a (actor ∷ actors) ts =
 
 -- ---- the fault that is told
 
-accept_no_stream : (names : List (List ℕ)) (f : AcceptFault) (s : Stream) → accept_fault names f ≢ Device s
+accept_no_stream : (names : List (List ℕ)) (f : AcceptFault) (s : DeviceName) → accept_fault names f ≢ Device s
 accept_no_stream names (accept.Unbalanced c) s e = cc
 accept_no_stream names (accept.TooLarge c) s e = cc
 accept_no_stream names accept.Deadlock s e = cc
 accept_no_stream names accept.TooTight s e = cc
 accept_no_stream names accept.Memory s e = cc
 
-run_no_stream : (f : NoOutcome) (s : Stream) → run_fault f ≢ Device s
+run_no_stream : (f : NoOutcome) (s : DeviceName) → run_fault f ≢ Device s
 run_no_stream run.Memory s e = cc
 run_no_stream run.Worker s e = cc
 
-token_no_stream : (name : List ℕ) (why : TokenFault) → IsOfText why → (s : Stream) → token_fault name why ≢ Device s
+token_no_stream : (name : List ℕ) (why : TokenFault) → IsOfText why → (s : DeviceName) → token_fault name why ≢ Device s
 token_no_stream name (token.Syntax line) is s e = cc
 token_no_stream name (token.Range line) is s e = cc
 token_no_stream name token.TooMany is s e = cc
 token_no_stream name token.Read is s e = absurd is
 token_no_stream name token.Memory is s e = absurd is
 
-no_stream_by : (room : Room) (g : Graph) (ts : List (List ℕ)) (why : TokensFault) → IsTokensRefusal room g ts why → (s : Stream) → tokens_fault g why ≢ Device s
+no_stream_by : (room : Room) (g : Graph) (ts : List (List ℕ)) (why : TokensFault) → IsTokensRefusal room g ts why → (s : DeviceName) → tokens_fault g why ≢ Device s
 no_stream_by room g ts (tokens.Accept why) is s = accept_no_stream _ why s
 no_stream_by room g ts (tokens.Feed feed) is s = token_no_stream _ feed.fault (subst FailsByFeed is.1 (feeds_by_text 0 g.actors ts)) s
 no_stream_by room g ts (tokens.Run why) is s = run_no_stream why s
 
 -- the fault of texts that make no run is of no stream
-pub no_stream : (room : Room) (g : Graph) (ts : List (List ℕ)) (f : ToolFault) → RefusesGraphRun room g ts f → (s : Stream) → f ≢ Device s
+pub no_stream : (room : Room) (g : Graph) (ts : List (List ℕ)) (f : ToolFault) → RefusesGraphRun room g ts f → (s : DeviceName) → f ≢ Device s
 no_stream room g ts f refuses s = λ e. no_stream_by room g ts refuses.0 refuses.1 s (sym refuses.2 ∙ e)

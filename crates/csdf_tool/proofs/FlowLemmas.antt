@@ -20,7 +20,7 @@ use Rattle.csdf_stream.specs.Flowing.{Devices as Flow, IsAlike, devices as flow}
 use Rattle.csdf_stream.specs.Marks.{IsMarked}
 use Rattle.csdf_stream.specs.Ports.{numbers_from, sinks_in, sources_in}
 use Rattle.csdf_stream.specs.Printed.{actor_names, channel_lines, clipped_lines, ending_word, name_at, names_of, newline}
-use Rattle.csdf_answers.specs.declared.fault.Stream.TheVariants.{File, Output}
+use Rattle.csdf_answers.specs.declared.fault.DeviceName.TheVariants.{File, Output}
 use Rattle.csdf_answers.specs.declared.fault.ToolFault.{ToolFault}
 use Rattle.csdf_answers.specs.declared.fault.ToolFault.TheVariants as fault
 use Rattle.csdf_answers.specs.declared.question.Form.{Form}

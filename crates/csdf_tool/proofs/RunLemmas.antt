@@ -12,7 +12,7 @@ use Rattle.csdf_bytes.specs.declared.intake.InputFault.TheVariants as input
 use Rattle.csdf_floor.specs.Work.{feeds_in, is_sink_kernel}
 use Rattle.csdf_answers.specs.declared.fault.ToolFault.{ToolFault}
 use Rattle.csdf_answers.specs.declared.fault.ToolFault.TheVariants as fault
-use Rattle.csdf_answers.specs.declared.fault.Stream.TheVariants.{Output, File}
+use Rattle.csdf_answers.specs.declared.fault.DeviceName.TheVariants.{Output, File}
 use Rattle.csdf_analysis.specs.declared.room.Room.{Room}
 use Rattle.csdf_analysis.specs.declared.room.Room.TheVariants as rooms
 use Rattle.csdf_analysis.specs.Room.{IsWithRoom, channel_with_room, with_room}

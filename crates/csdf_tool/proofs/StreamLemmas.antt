@@ -20,7 +20,7 @@ use Rattle.csdf_stream.specs.declared.options.TokenFormat.{TokenFormat}
 use Rattle.csdf_stream.specs.Flowing.{Devices as Flow, IsAlike, IsCauseOf, IsStopped}
 use Rattle.csdf_stream.specs.Ports.{numbers_from, sinks_in, sources_in}
 use Rattle.csdf_model.specs.Kernels.{is_sink_kernel, is_source_kernel}
-use Rattle.csdf_answers.specs.declared.fault.Stream.TheVariants.{Output}
+use Rattle.csdf_answers.specs.declared.fault.DeviceName.TheVariants.{Output}
 use Rattle.csdf_answers.specs.declared.fault.ToolFault.{ToolFault}
 use Rattle.csdf_answers.specs.declared.fault.ToolFault.TheVariants as fault
 use Rattle.csdf_answers.specs.declared.question.Form.{Form}

@@ -9,7 +9,7 @@ use Rattle.csdf_bytes.specs.declared.intake.InputFault.TheVariants as input
 use Rattle.csdf_model.specs.Graph.{Graph}
 use Rattle.csdf_analysis.specs.declared.fault.AcceptFault.{AcceptFault}
 use Rattle.csdf_analysis.specs.declared.fault.AcceptFault.TheVariants as accept
-use Rattle.csdf_answers.specs.declared.fault.Stream.{Stream}
+use Rattle.csdf_answers.specs.declared.fault.DeviceName.{DeviceName}
 use Rattle.csdf_answers.specs.declared.fault.ToolFault.{ToolFault}
 use Rattle.csdf_answers.specs.declared.fault.ToolFault.TheVariants as fault
 use Rattle.csdf_answers.specs.Faults.{◌>>=◌, fault_of, accept_fault, status_of, unread}
@@ -62,7 +62,7 @@ accept_is_none names accept.Deadlock = λ e. cc
 accept_is_none names accept.TooTight = λ e. cc
 accept_is_none names accept.Memory = λ e. cc
 
-unread_is_none : (stream : Stream) (why : InputFault) → IsNoUse (unread stream why)
+unread_is_none : (stream : DeviceName) (why : InputFault) → IsNoUse (unread stream why)
 unread_is_none stream input.Read = λ e. cc
 unread_is_none stream input.TooLong = λ e. cc
 unread_is_none stream input.Memory = λ e. cc

@@ -6,7 +6,7 @@ use Rattle.csdf_answers.specs.Objects.{IsDescriptionAs}
 use Rattle.csdf_answers.specs.Session.{IsAnswer}
 use Rattle.csdf_answers.specs.declared.fault.ToolFault.{ToolFault}
 use Rattle.csdf_answers.specs.declared.fault.ToolFault.TheVariants.{Device}
-use Rattle.csdf_answers.specs.declared.fault.Stream.TheVariants.{File, Output}
+use Rattle.csdf_answers.specs.declared.fault.DeviceName.TheVariants.{File, Output}
 use Rattle.csdf_words.specs.CommandLine.{Asked, Input, Moves, Ask, Explain, Run, Flow}
 use Rattle.csdf_disk.specs.Acts.{Act, Asks, Devices, Marks}
 use Rattle.csdf_answers.specs.declared.token_note.TokenFile.{TokenFile}

@@ -7,7 +7,7 @@ use Rattle.clap.specs.declared.error.kind.ErrorKind.TheVariants.{DisplayHelp, Di
 use Rattle.csdf_answers.specs.declared.fault.ToolFault.{ToolFault}
 use Rattle.csdf_answers.specs.declared.fault.Lack.{Lack}
 use Rattle.csdf_answers.specs.declared.fault.ToolFault.TheVariants.{Device, InUse, Lacks, Memory}
-use Rattle.csdf_answers.specs.declared.fault.Stream.TheVariants.{Output}
+use Rattle.csdf_answers.specs.declared.fault.DeviceName.TheVariants.{Output}
 use Rattle.csdf_answers.specs.declared.question.Form.{Form}
 use Rattle.csdf_answers.specs.declared.question.Form.TheVariants as forms
 use Rattle.csdf_answers.specs.Faults.{status_of}

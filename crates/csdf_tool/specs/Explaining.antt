@@ -12,7 +12,7 @@ use Rattle.csdf_answers.specs.Explained.{IsExplained}
 use Rattle.csdf_answers.specs.Faults.{fault_text}
 use Rattle.csdf_answers.specs.Printed.{newline}
 use Rattle.csdf_answers.specs.TokenNotes.{token_note}
-use Rattle.csdf_answers.specs.declared.fault.Stream.TheVariants.{File, Output}
+use Rattle.csdf_answers.specs.declared.fault.DeviceName.TheVariants.{File, Output}
 use Rattle.csdf_answers.specs.declared.fault.ToolFault.{ToolFault}
 use Rattle.csdf_answers.specs.declared.fault.ToolFault.TheVariants.{Device}
 use Rattle.csdf_answers.specs.declared.token_note.TokenFile.{TokenFile}

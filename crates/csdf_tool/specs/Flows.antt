@@ -21,8 +21,8 @@ use Rattle.csdf_stream.specs.Marks.{IsMarked}
 use Rattle.csdf_stream.specs.Ports.{sinks_in, sources_in}
 use Rattle.csdf_answers.specs.declared.fault.Lack.{Lack}
 use Rattle.csdf_answers.specs.declared.fault.Lack.TheVariants as lack
-use Rattle.csdf_answers.specs.declared.fault.Stream.{Stream}
-use Rattle.csdf_answers.specs.declared.fault.Stream.TheVariants.{File, Input, Output}
+use Rattle.csdf_answers.specs.declared.fault.DeviceName.{DeviceName}
+use Rattle.csdf_answers.specs.declared.fault.DeviceName.TheVariants.{File, Input, Output}
 use Rattle.csdf_answers.specs.declared.fault.ToolFault.{ToolFault}
 use Rattle.csdf_answers.specs.declared.fault.ToolFault.TheVariants.{Device, Lacks, Memory, TokenCutOff, TokenRange, TokenSyntax, TooManyTokens}
 use Rattle.csdf_answers.specs.Described.{actor_names}
@@ -77,11 +77,11 @@ RefusesStream order bytes fault =
 -- ---- why a stream stopped, as the program tells it
 
 -- where the tokens of a source come from, by its name, and where those of a sink go to
-abbrev pub source_stream : Medium → List ℕ → Stream
+abbrev pub source_stream : Medium → List ℕ → DeviceName
 source_stream medium.Standard name = Input
 source_stream medium.Files name = File (in_file name)
 
-abbrev pub sink_stream : Medium → List ℕ → Stream
+abbrev pub sink_stream : Medium → List ℕ → DeviceName
 sink_stream medium.Standard name = Output
 sink_stream medium.Files name = File (out_file name)
 

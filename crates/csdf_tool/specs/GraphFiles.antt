@@ -6,8 +6,8 @@ use Rattle.clap.specs.Words.{Text}
 use Rattle.csdf_bytes.specs.declared.intake.InputFault.{InputFault}
 use Rattle.csdf_bytes.specs.declared.intake.InputFault.TheVariants as input
 use Rattle.csdf_answers.specs.Faults.{unread}
-use Rattle.csdf_answers.specs.declared.fault.Stream.{Stream}
-use Rattle.csdf_answers.specs.declared.fault.Stream.TheVariants.{Input, File}
+use Rattle.csdf_answers.specs.declared.fault.DeviceName.{DeviceName}
+use Rattle.csdf_answers.specs.declared.fault.DeviceName.TheVariants.{Input, File}
 use Rattle.csdf_answers.specs.declared.fault.ToolFault.{ToolFault}
 use Rattle.csdf_answers.specs.declared.fault.ToolFault.TheVariants.{Memory}
 use Rattle.csdf_disk.specs.Acts.{Act, Asks, Devices, Read}
@@ -32,7 +32,7 @@ pub record IsGivenBy (word : Text) (d : Devices) (bytes : List ℕ) : Type 0 whe
 -- ---- why there are none
 
 -- the stream that a word names
-abbrev pub stream_of : Text → Stream
+abbrev pub stream_of : Text → DeviceName
 stream_of word = if is_input word then Input else File word
 
 -- why standard input was not read: it has failed, or what is left of it, where that is known, is too long

@@ -22,8 +22,8 @@ use Rattle.csdf_run.specs.Texts.{text_at}
 use Rattle.csdf_run.specs.Tokens.{IsRunOf, IsSequentialRunOf, IsTokensRefusal, IsTokensRefusalOf}
 use Rattle.csdf_bytes.specs.TokenText.{tokens_in}
 use Rattle.csdf_floor.specs.Work.{feeds_in, is_sink_kernel}
-use Rattle.csdf_answers.specs.declared.fault.Stream.{Stream}
-use Rattle.csdf_answers.specs.declared.fault.Stream.TheVariants.{File, Output}
+use Rattle.csdf_answers.specs.declared.fault.DeviceName.{DeviceName}
+use Rattle.csdf_answers.specs.declared.fault.DeviceName.TheVariants.{File, Output}
 use Rattle.csdf_answers.specs.declared.fault.ToolFault.{ToolFault}
 use Rattle.csdf_answers.specs.declared.fault.ToolFault.TheVariants.{TokenSyntax, TokenRange, TooManyTokens, Worker, Device, Memory}
 use Rattle.csdf_tool.specs.declared.run_files.SinkFile.{SinkFile}
@@ -268,7 +268,7 @@ pub record StopsOnTexts (order : Order) (g : Graph) (bytes : List ℕ) (d : Devi
   pub files : Asks d.before d.after (run_asks order g bytes feeds looks)
   pub each : length (feed_paths order.folder g.actors) ≡ length feeds
   pub refuses : RefusesRun order.room g bytes feeds fault
-  pub no_stream : (stream : Stream) → fault ≢ Device stream
+  pub no_stream : (stream : DeviceName) → fault ≢ Device stream
 
 -- the graph of these bytes is refused, or a token file was not read, or they were all read and a file to be written is in use, or they make no run
 abbrev pub StopsOnGraph : Order → List ℕ → Devices → ToolFault → Type 0

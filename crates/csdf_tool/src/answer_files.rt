@@ -8,7 +8,7 @@ ghost use Rattle.csdf_tool.specs.Carried.{LacksAnswer, PutsOut};
 ghost use Rattle.csdf_tool.specs.GraphFiles.{is_input};
 
 use crate::files::graph_bytes;
-use csdf_answers::{Stream, ToolFault, describe_as, play_script};
+use csdf_answers::{DeviceName, ToolFault, describe_as, play_script};
 use csdf_bytes::{Intake, Outlet};
 use csdf_disk::Disk;
 use csdf_words::Inquiry;
@@ -24,11 +24,11 @@ pub(crate) fn play_file<D: Disk, I: Intake, O: Outlet>(
 ) -> Result<(), ToolFault>
     ensures written { OnOk result (PutsOut IsAnswer word.now (devices (I.left reader.old) (D.acts disk.old) (D.acts disk.new))
         (O.written out.old) (O.written out.new)) }
-    ensures unwritten { IfErr result (λ fault. fault ≢ ToolFault.Device Stream.Output → out.new ≡ out.old) }
-    ensures failed { result ≡ Err (ToolFault.Device Stream.Output) → O.failed out.new ≡ true }
+    ensures unwritten { IfErr result (λ fault. fault ≢ ToolFault.Device DeviceName.Output → out.new ≡ out.old) }
+    ensures failed { result ≡ Err (ToolFault.Device DeviceName.Output) → O.failed out.new ≡ true }
     ensures caused { IfErr result (LacksAnswer IsAnswer word.now (devices (I.left reader.old) (D.acts disk.old) (D.acts disk.new))
         (marks (I.failed reader.new) (O.failed out.new))) }
-    ensures input { is_input word.now ≡ true → I.failed reader.new ≡ true → result ≡ Err (ToolFault.Device Stream.Input) }
+    ensures input { is_input word.now ≡ true → I.failed reader.new ≡ true → result ≡ Err (ToolFault.Device DeviceName.Input) }
 {
     let bytes = graph_bytes(alloc, disk, word, reader)?;
     play_script(alloc, &bytes, out)
@@ -44,11 +44,11 @@ pub(crate) fn ask_file<D: Disk, I: Intake, O: Outlet>(
 ) -> Result<(), ToolFault>
     ensures written { OnOk result (PutsOut (IsDescriptionAs asks.entry.form asks.entry.question asks.entry.room) asks.entry.graph.now
         (devices (I.left reader.old) (D.acts disk.old) (D.acts disk.new)) (O.written out.old) (O.written out.new)) }
-    ensures unwritten { IfErr result (λ fault. fault ≢ ToolFault.Device Stream.Output → out.new ≡ out.old) }
-    ensures failed { result ≡ Err (ToolFault.Device Stream.Output) → O.failed out.new ≡ true }
+    ensures unwritten { IfErr result (λ fault. fault ≢ ToolFault.Device DeviceName.Output → out.new ≡ out.old) }
+    ensures failed { result ≡ Err (ToolFault.Device DeviceName.Output) → O.failed out.new ≡ true }
     ensures caused { IfErr result (LacksAnswer (IsDescriptionAs asks.entry.form asks.entry.question asks.entry.room) asks.entry.graph.now
         (devices (I.left reader.old) (D.acts disk.old) (D.acts disk.new)) (marks (I.failed reader.new) (O.failed out.new))) }
-    ensures input { is_input asks.entry.graph.now ≡ true → I.failed reader.new ≡ true → result ≡ Err (ToolFault.Device Stream.Input) }
+    ensures input { is_input asks.entry.graph.now ≡ true → I.failed reader.new ≡ true → result ≡ Err (ToolFault.Device DeviceName.Input) }
 {
     let bytes = graph_bytes(alloc, disk, asks.graph, reader)?;
     describe_as(alloc, asks.question, asks.form, &bytes, asks.room, out)

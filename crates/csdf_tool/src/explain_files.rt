@@ -10,7 +10,7 @@ ghost use Rattle.csdf_tool.specs.GraphFiles.{is_input};
 
 use crate::files::{graph_bytes, token_path};
 use crate::unread_file::{explain_unread, is_of_file};
-use csdf_answers::{Stream, ToolFault, explain, explain_with, push_token_note};
+use csdf_answers::{DeviceName, ToolFault, explain, explain_with, push_token_note};
 use csdf_bytes::{Intake, Outlet};
 use csdf_disk::Disk;
 use csdf_graph::{GraphFault, read_graph};
@@ -101,9 +101,9 @@ fn explain_with_folder<D: Disk, O: Outlet>(
 ) -> Result<(), ToolFault>
     ensures written { OnOk result ((looks : List Act) × (text : List ℕ) × IsExplanation (Some folder.now) bytes.now looks text
         × Asks (D.acts disk.old) (D.acts disk.new) looks × Appends (O.written out.old) (O.written out.new) text) }
-    ensures refused { IfErr result (λ fault. (fault ≡ ToolFault.Memory) ⊎ (fault ≡ ToolFault.Device Stream.Output)) }
-    ensures unwritten { IfErr result (λ fault. fault ≢ ToolFault.Device Stream.Output → out.new ≡ out.old) }
-    ensures failed { result ≡ Err (ToolFault.Device Stream.Output) → ((looks : List Act) × (text : List ℕ)
+    ensures refused { IfErr result (λ fault. (fault ≡ ToolFault.Memory) ⊎ (fault ≡ ToolFault.Device DeviceName.Output)) }
+    ensures unwritten { IfErr result (λ fault. fault ≢ ToolFault.Device DeviceName.Output → out.new ≡ out.old) }
+    ensures failed { result ≡ Err (ToolFault.Device DeviceName.Output) → ((looks : List Act) × (text : List ℕ)
         × IsExplanation (Some folder.now) bytes.now looks text × Asks (D.acts disk.old) (D.acts disk.new) looks) × (O.failed out.new ≡ true) }
 {
     let notes = notes_of(alloc, disk, folder, bytes)?;
@@ -120,9 +120,9 @@ fn explain_in<D: Disk, O: Outlet>(
 ) -> Result<(), ToolFault>
     ensures written { OnOk result ((looks : List Act) × (text : List ℕ) × IsExplanation (option_map (λ f. f.now) folder.entry) bytes.now looks text
         × Asks (D.acts disk.old) (D.acts disk.new) looks × Appends (O.written out.old) (O.written out.new) text) }
-    ensures refused { IfErr result (λ fault. (fault ≡ ToolFault.Memory) ⊎ (fault ≡ ToolFault.Device Stream.Output)) }
-    ensures unwritten { IfErr result (λ fault. fault ≢ ToolFault.Device Stream.Output → out.new ≡ out.old) }
-    ensures failed { result ≡ Err (ToolFault.Device Stream.Output) → ((looks : List Act) × (text : List ℕ)
+    ensures refused { IfErr result (λ fault. (fault ≡ ToolFault.Memory) ⊎ (fault ≡ ToolFault.Device DeviceName.Output)) }
+    ensures unwritten { IfErr result (λ fault. fault ≢ ToolFault.Device DeviceName.Output → out.new ≡ out.old) }
+    ensures failed { result ≡ Err (ToolFault.Device DeviceName.Output) → ((looks : List Act) × (text : List ℕ)
         × IsExplanation (option_map (λ f. f.now) folder.entry) bytes.now looks text × Asks (D.acts disk.old) (D.acts disk.new) looks)
         × (O.failed out.new ≡ true) }
 {
@@ -144,11 +144,11 @@ pub(crate) fn explain_files<D: Disk, I: Intake, O: Outlet>(
 ) -> Result<(), ToolFault>
     ensures written { OnOk result (Explains graph.now (option_map (λ f. f.now) folder.entry)
         (devices (I.left reader.old) (D.acts disk.old) (D.acts disk.new)) (O.written out.old) (O.written out.new)) }
-    ensures unwritten { IfErr result (λ fault. fault ≢ ToolFault.Device Stream.Output → out.new ≡ out.old) }
-    ensures failed { result ≡ Err (ToolFault.Device Stream.Output) → O.failed out.new ≡ true }
+    ensures unwritten { IfErr result (λ fault. fault ≢ ToolFault.Device DeviceName.Output → out.new ≡ out.old) }
+    ensures failed { result ≡ Err (ToolFault.Device DeviceName.Output) → O.failed out.new ≡ true }
     ensures caused { IfErr result (LacksExplanation graph.now (option_map (λ f. f.now) folder.entry)
         (devices (I.left reader.old) (D.acts disk.old) (D.acts disk.new)) (marks (I.failed reader.new) (O.failed out.new))) }
-    ensures input { is_input graph.now ≡ true → I.failed reader.new ≡ true → result ≡ Err (ToolFault.Device Stream.Input) }
+    ensures input { is_input graph.now ≡ true → I.failed reader.new ≡ true → result ≡ Err (ToolFault.Device DeviceName.Input) }
 {
     match graph_bytes(alloc, disk, graph, reader) {
         Ok(bytes) => explain_in(alloc, disk, &bytes, folder, out),

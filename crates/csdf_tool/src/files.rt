@@ -9,7 +9,7 @@ ghost use Rattle.csdf_tool.specs.Explaining.{token_path};
 ghost use Rattle.csdf_tool.specs.GraphFiles.{graph_reads, is_input, IsInputFault, IsNamed, IsNotGiven};
 ghost use Rattle.csdf_tool.specs.Running.{IsFeedMissing, IsUnput, in_file};
 
-use csdf_answers::{Name, Stream, ToolFault, unread};
+use csdf_answers::{DeviceName, Name, ToolFault, unread};
 use csdf_bytes::{InputFault, Intake, TokenFault, read_bytes};
 use csdf_disk::{Content, Disk, PutFault};
 use std::alloc::{AllocError, Global};
@@ -19,13 +19,13 @@ use std::path::{Path, PathBuf};
 pub(crate) fn input_bytes<I: Intake>(alloc: Global, reader: &mut I) -> Result<Vec<u8>, ToolFault>
     ensures all { IfOk result (λ bytes. IfSome (I.left reader.old) (λ all. bytes.items ≡ all)) }
     ensures missing { IfErr result (λ fault. (why : InputFault) × IsInputFault (I.left reader.old) (I.failed reader.new) why
-        × (fault ≡ unread Stream.Input why)) }
-    ensures device { result ≡ Err (ToolFault.Device Stream.Input) ↔ (I.failed reader.new ≡ true) }
-    ensures other { IfErr result (λ fault. fault ≢ ToolFault.Device Stream.Output) }
+        × (fault ≡ unread DeviceName.Input why)) }
+    ensures device { result ≡ Err (ToolFault.Device DeviceName.Input) ↔ (I.failed reader.new ≡ true) }
+    ensures other { IfErr result (λ fault. fault ≢ ToolFault.Device DeviceName.Output) }
 {
     match read_bytes(alloc, reader) {
         Ok(bytes) => Ok(bytes),
-        Err(fault) => Err(unread(Stream::Input, fault)),
+        Err(fault) => Err(unread(DeviceName::Input, fault)),
     }
 }
 
@@ -34,13 +34,13 @@ fn file_bytes<D: Disk>(alloc: Global, disk: &mut D, path: &str) -> Result<Vec<u8
     ensures read { IfOk result (λ bytes. Asks (D.acts disk.old) (D.acts disk.new) (Read path.now (Ok bytes.items) ∷ [])) }
     ensures unread { OnErr result (OnlyReads (D.acts disk.old) (D.acts disk.new)) }
     ensures missing { IfErr result (λ fault. (fault ≡ ToolFault.Memory) ⊎ ((why : InputFault)
-        × Asks (D.acts disk.old) (D.acts disk.new) (Read path.now (Err why) ∷ []) × (fault ≡ unread (Stream.File path.now) why))) }
-    ensures other { IfErr result (λ fault. fault ≢ ToolFault.Device Stream.Output) }
+        × Asks (D.acts disk.old) (D.acts disk.new) (Read path.now (Err why) ∷ []) × (fault ≡ unread (DeviceName.File path.now) why))) }
+    ensures other { IfErr result (λ fault. fault ≢ ToolFault.Device DeviceName.Output) }
 {
     let name = Name::new(alloc, path)?;
     match disk.read(path) {
         Ok(bytes) => Ok(bytes),
-        Err(fault) => Err(unread(Stream::File(name), fault)),
+        Err(fault) => Err(unread(DeviceName::File(name), fault)),
     }
 }
 
@@ -55,8 +55,8 @@ pub(crate) fn graph_bytes<D: Disk, I: Intake>(
     ensures unread { OnErr result (OnlyReads (D.acts disk.old) (D.acts disk.new)) }
     ensures named { IfOk result (λ bytes. IsNamed word.now (I.left reader.old) bytes.items) }
     ensures missing { IfErr result (IsNotGiven word.now (devices (I.left reader.old) (D.acts disk.old) (D.acts disk.new)) (I.failed reader.new)) }
-    ensures other { IfErr result (λ fault. fault ≢ ToolFault.Device Stream.Output) }
-    ensures device { is_input word.now ≡ true → (result ≡ Err (ToolFault.Device Stream.Input) ↔ (I.failed reader.new ≡ true)) }
+    ensures other { IfErr result (λ fault. fault ≢ ToolFault.Device DeviceName.Output) }
+    ensures device { is_input word.now ≡ true → (result ≡ Err (ToolFault.Device DeviceName.Input) ↔ (I.failed reader.new ≡ true)) }
     ensures untouched { is_input word.now ≡ false → reader.new ≡ reader.old }
 {
     if word == "-" {
@@ -91,7 +91,7 @@ pub(crate) fn feed_tokens<D: Disk>(
     let path = path_in(alloc, folder, &file)?;
     match disk.tokens(path.as_str()) {
         Ok(told) => Ok(told),
-        Err(InputFault::Read) => Err(ToolFault::Device(Stream::File(file))),
+        Err(InputFault::Read) => Err(ToolFault::Device(DeviceName::File(file))),
         Err(InputFault::TooLong) => Err(ToolFault::TooManyTokens(source)),
         Err(InputFault::Memory) => Err(ToolFault::Memory),
     }
@@ -122,7 +122,7 @@ pub(crate) fn put_file<D: Disk>(
     let path = path_in(alloc, folder, file)?;
     match disk.put(path.as_str(), content) {
         Ok(()) => Ok(()),
-        Err(PutFault::Device) => Err(ToolFault::Device(Stream::File(name))),
+        Err(PutFault::Device) => Err(ToolFault::Device(DeviceName::File(name))),
         Err(PutFault::Memory) => Err(ToolFault::Memory),
     }
 }

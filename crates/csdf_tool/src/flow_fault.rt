@@ -6,7 +6,7 @@ ghost use Rattle.csdf_answers.specs.Described.{actor_names};
 ghost use Rattle.csdf_tool.specs.Flows.{sink_stream, source_fault, source_stream, stream_fault};
 
 use crate::run_files::run_fault;
-use csdf_answers::{Name, Stream, ToolFault};
+use csdf_answers::{DeviceName, Name, ToolFault};
 use csdf_model::{Actor, actor_name};
 use csdf_stream::{ReaderFault, StreamFault};
 use std::alloc::{AllocError, Global};
@@ -21,27 +21,27 @@ pub(crate) enum Medium {
 }
 
 /// Where the tokens of a source come from.
-fn source_stream(alloc: Global, medium: Medium, source: &str) -> Result<Stream, AllocError>
+fn source_stream(alloc: Global, medium: Medium, source: &str) -> Result<DeviceName, AllocError>
     ensures { IfOk result (λ stream. stream ≡ source_stream medium source.now) }
 {
     match medium {
-        Medium::Standard => Ok(Stream::Input),
+        Medium::Standard => Ok(DeviceName::Input),
         Medium::Files => {
             let file = Name::with_ending(alloc, source, ".in")?;
-            Ok(Stream::File(file))
+            Ok(DeviceName::File(file))
         }
     }
 }
 
 /// Where the tokens of a sink go to.
-fn sink_stream(alloc: Global, medium: Medium, sink: &str) -> Result<Stream, AllocError>
+fn sink_stream(alloc: Global, medium: Medium, sink: &str) -> Result<DeviceName, AllocError>
     ensures { IfOk result (λ stream. stream ≡ sink_stream medium sink.now) }
 {
     match medium {
-        Medium::Standard => Ok(Stream::Output),
+        Medium::Standard => Ok(DeviceName::Output),
         Medium::Files => {
             let file = Name::with_ending(alloc, sink, ".out")?;
-            Ok(Stream::File(file))
+            Ok(DeviceName::File(file))
         }
     }
 }

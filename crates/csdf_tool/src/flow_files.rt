@@ -7,7 +7,7 @@ ghost use Rattle.csdf_tool.specs.Flows.{IsUnkept, IsUnkeptAt, IsUnmade, IsUnopen
 ghost use Rattle.csdf_tool.specs.Running.{put_fault};
 
 use crate::files::path_in;
-use csdf_answers::{Name, Stream, ToolFault};
+use csdf_answers::{DeviceName, Name, ToolFault};
 use csdf_disk::{Disk, PutFault};
 use csdf_model::Actor;
 use std::alloc::{AllocError, Global};
@@ -100,12 +100,12 @@ pub(crate) fn sink_files(
 fn open_file<D: Disk>(alloc: Global, disk: &mut D, file: &FlowFile) -> Result<D::Source, ToolFault>
     ensures opened { OnOk result (Asks (D.acts disk.old) (D.acts disk.new) (open_of (flow_file_view file.now) ∷ [])) }
     ensures unopened { IfErr result (λ fault. (fault ≡ ToolFault.Memory)
-        ⊎ (Asks (D.acts disk.old) (D.acts disk.new) (miss_of (flow_file_view file.now) ∷ []) × (fault ≡ ToolFault.Device (Stream.File (flow_file_view file.now).name)))) }
+        ⊎ (Asks (D.acts disk.old) (D.acts disk.new) (miss_of (flow_file_view file.now) ∷ []) × (fault ≡ ToolFault.Device (DeviceName.File (flow_file_view file.now).name)))) }
 {
     let name = Name::new(alloc, file.name.as_str())?;
     match disk.open(file.path.as_str()) {
         Ok(source) => Ok(source),
-        Err(_) => Err(ToolFault::Device(Stream::File(name))),
+        Err(_) => Err(ToolFault::Device(DeviceName::File(name))),
     }
 }
 
@@ -146,7 +146,7 @@ fn put_fault(name: Name, fault: PutFault) -> ToolFault
     ensures { result ≡ put_fault name fault }
 {
     match fault {
-        PutFault::Device => ToolFault::Device(Stream::File(name)),
+        PutFault::Device => ToolFault::Device(DeviceName::File(name)),
         PutFault::Memory => ToolFault::Memory,
     }
 }

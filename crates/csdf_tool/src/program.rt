@@ -16,7 +16,7 @@ use crate::run_files::run_files;
 use crate::stream_files::stream_files;
 use clap::Error;
 use clap::error::ErrorKind;
-use csdf_answers::{Form, Stream, ToolFault, fault_line, memory_line};
+use csdf_answers::{DeviceName, Form, ToolFault, fault_line, memory_line};
 use csdf_bytes::{Intake, Outlet, write_bytes};
 use csdf_disk::Disk;
 use csdf_words::{Request, Unread, form_of, request_of};
@@ -41,17 +41,17 @@ fn carry_out<
     out: &mut O,
     err: &mut E,
 ) -> Result<(), ToolFault>
-    ensures unwritten { flows_out (asked_view request.entry) ≡ false → IfErr result (λ fault. fault ≢ ToolFault.Device Stream.Output → out.new ≡ out.old) }
+    ensures unwritten { flows_out (asked_view request.entry) ≡ false → IfErr result (λ fault. fault ≢ ToolFault.Device DeviceName.Output → out.new ≡ out.old) }
     ensures silent { OnErr result (err.new ≡ err.old) }
     ensures unspoken { flows_out (asked_view request.entry) ≡ false → err.new ≡ err.old }
-    ensures failed { result ≡ Err (ToolFault.Device Stream.Output) → O.failed out.new ≡ true }
+    ensures failed { result ≡ Err (ToolFault.Device DeviceName.Output) → O.failed out.new ≡ true }
     ensures carried { OnOk result (IsCarriedOut (asked_view request.entry) (devices (I.left reader.old) (D.acts disk.old) (D.acts disk.new))
         (O.written out.old) (O.written out.new)) }
     ensures streamed { OnOk result (IsStreamedOut (asked_view request.entry) (devices (I.left reader.old) (D.acts disk.old) (D.acts disk.new))
         (standard (I.left reader.old) (I.left reader.new) (O.written out.old) (O.written out.new) (E.written err.old) (E.written err.new) (E.failed err.new))) }
     ensures caused { IfErr result (IsCauseOf (asked_view request.entry) (devices (I.left reader.old) (D.acts disk.old) (D.acts disk.new))
         (through (I.left reader.old) (I.left reader.new) (O.written out.old) (O.written out.new)) (marks (I.failed reader.new) (O.failed out.new))) }
-    ensures input { reads_input (asked_view request.entry) ≡ true → I.failed reader.new ≡ true → result ≡ Err (ToolFault.Device Stream.Input) }
+    ensures input { reads_input (asked_view request.entry) ≡ true → I.failed reader.new ≡ true → result ≡ Err (ToolFault.Device DeviceName.Input) }
 {
     let alloc = rt.alloc();
     match request {
@@ -127,14 +127,14 @@ fn status_after<E: Outlet>(
 
 /// Prints the help or the version that the words ask for.
 fn print_help<O: Outlet>(alloc: Global, help: &Error, out: &mut O) -> Result<(), ToolFault>
-    ensures unwritten { IfErr result (λ fault. fault ≢ ToolFault.Device Stream.Output → out.new ≡ out.old) }
-    ensures failed { result ≡ Err (ToolFault.Device Stream.Output) → O.failed out.new ≡ true }
-    ensures caused { IfErr result (λ fault. (fault ≡ ToolFault.Memory) ⊎ (fault ≡ ToolFault.Device Stream.Output)) }
+    ensures unwritten { IfErr result (λ fault. fault ≢ ToolFault.Device DeviceName.Output → out.new ≡ out.old) }
+    ensures failed { result ≡ Err (ToolFault.Device DeviceName.Output) → O.failed out.new ≡ true }
+    ensures caused { IfErr result (λ fault. (fault ≡ ToolFault.Memory) ⊎ (fault ≡ ToolFault.Device DeviceName.Output)) }
 {
     let text = format!(in alloc; "{help}")?;
     match write_bytes(out, text.as_bytes()) {
         Ok(()) => Ok(()),
-        Err(_) => Err(ToolFault::Device(Stream::Output)),
+        Err(_) => Err(ToolFault::Device(DeviceName::Output)),
     }
 }
 
@@ -229,7 +229,7 @@ pub fn run_words<
         × EndsTelling (form_of asks) fault result (E.written err.old) (E.written err.new) (E.failed err.new) }
     ensures input { (asks : Asked) → AreTaken (map string_bytes words.now) → words_ask (map string_bytes words.now) ≡ Some asks
         → reads_input asks ≡ true → I.failed reader.new ≡ true
-        → EndsTelling (form_of asks) (ToolFault.Device Stream.Input) result (E.written err.old) (E.written err.new) (E.failed err.new) }
+        → EndsTelling (form_of asks) (ToolFault.Device DeviceName.Input) result (E.written err.old) (E.written err.new) (E.failed err.new) }
 {
     match request_of(rt.alloc(), words) {
         Ok(request) => {

@@ -2,7 +2,7 @@
 
 ghost use Rattle.std.specs.Prelude.{None};
 
-use crate::telling::{Extra, ProgressLine, Teller, tell_begin, tell_end, tell_made};
+use crate::telling::{Extra, ProgressLine, ProgressOutput, tell_begin, tell_end, tell_made};
 use csdf_analysis::Length;
 use csdf_bytes::DeviceFailed;
 use csdf_run::Watch;
@@ -13,7 +13,7 @@ use std::sync::atomic::{AtomicBool, AtomicU64};
 #[derive(Clone, Copy)]
 struct OnError<'a, R>(&'a R);
 
-impl<R: Eprint> Teller for OnError<'_, R> {
+impl<R: Eprint> ProgressOutput for OnError<'_, R> {
     ghost told = { λ _. None };
 
     fn tell(&mut self, line: ProgressLine) -> Result<(), DeviceFailed> {

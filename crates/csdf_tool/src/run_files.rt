@@ -21,7 +21,7 @@ use crate::crew::{chosen, workers_for};
 use crate::files::{feed_tokens, graph_bytes, put_file};
 use crate::progress::Progress;
 use crate::report::report_object;
-use csdf_answers::{Form, Name, Stream, ToolFault, accept_fault};
+use csdf_answers::{DeviceName, Form, Name, ToolFault, accept_fault};
 use csdf_bytes::{Intake, Outlet, TokenFault, write_bytes};
 use csdf_disk::{Content, Disk};
 use csdf_floor::{Outcome, list_at, printed_report};
@@ -107,7 +107,7 @@ fn token_fault(alloc: Global, source: &str, fault: TokenFault) -> Result<ToolFau
         TokenFault::Memory => Ok(ToolFault::Memory),
         TokenFault::Read => {
             let file = Name::with_ending(alloc, source, ".in")?;
-            Ok(ToolFault::Device(Stream::File(file)))
+            Ok(ToolFault::Device(DeviceName::File(file)))
         }
     }
 }
@@ -215,8 +215,8 @@ fn ran_by<R: AllocGlobal + Eprint + Threads + Wait + Sync, D: Disk, I: Intake>(
         × Asks (D.acts disk.old) (D.acts disk.new) (run_asks (order_view order.entry) graph bytes feeds looks)) }
     ensures stopped { IfErr result (EndsBeforeFiles (order_view order.entry) (devices (I.left reader.old) (D.acts disk.old) (D.acts disk.new))
         (I.failed reader.new)) }
-    ensures input { is_input order.entry.graph.now ≡ true → I.failed reader.new ≡ true → result ≡ Err (ToolFault.Device Stream.Input) }
-    ensures other { IfErr result (λ fault. fault ≢ ToolFault.Device Stream.Output) }
+    ensures input { is_input order.entry.graph.now ≡ true → I.failed reader.new ≡ true → result ≡ Err (ToolFault.Device DeviceName.Input) }
+    ensures other { IfErr result (λ fault. fault ≢ ToolFault.Device DeviceName.Output) }
 {
     let alloc = rt.alloc();
     let bytes = graph_bytes(alloc, disk, order.graph, reader)?;
@@ -371,17 +371,17 @@ pub(crate) fn run_files<
 >(rt: &R, disk: &mut D, order: RunWords<'_>, reader: &mut I, out: &mut O) -> Result<(), ToolFault>
     ensures written { OnOk result (RunsOnFiles (order_view order.entry) (devices (I.left reader.old) (D.acts disk.old) (D.acts disk.new))
         (O.written out.old) (O.written out.new)) }
-    ensures unwritten { IfErr result (λ fault. fault ≢ ToolFault.Device Stream.Output → out.new ≡ out.old) }
-    ensures failed { result ≡ Err (ToolFault.Device Stream.Output) → O.failed out.new ≡ true }
+    ensures unwritten { IfErr result (λ fault. fault ≢ ToolFault.Device DeviceName.Output → out.new ≡ out.old) }
+    ensures failed { result ≡ Err (ToolFault.Device DeviceName.Output) → O.failed out.new ≡ true }
     ensures ended { IfErr result (EndsOnFiles (order_view order.entry) (devices (I.left reader.old) (D.acts disk.old) (D.acts disk.new))
         (marks (I.failed reader.new) (O.failed out.new))) }
-    ensures input { is_input order.entry.graph.now ≡ true → I.failed reader.new ≡ true → result ≡ Err (ToolFault.Device Stream.Input) }
+    ensures input { is_input order.entry.graph.now ≡ true → I.failed reader.new ≡ true → result ≡ Err (ToolFault.Device DeviceName.Input) }
 {
     let ran = ran_by(rt, disk, order, reader)?;
     let report = report_in(rt.alloc(), order.form, &ran)?;
     put_sinks(rt.alloc(), disk, order, &ran)?;
     match write_bytes(out, &report) {
         Ok(()) => Ok(()),
-        Err(_) => Err(ToolFault::Device(Stream::Output)),
+        Err(_) => Err(ToolFault::Device(DeviceName::Output)),
     }
 }

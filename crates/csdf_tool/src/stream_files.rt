@@ -25,7 +25,7 @@ use crate::flow_files::{
 use crate::flow_report::stream_report;
 use crate::progress::FlowProgress;
 use csdf_analysis::{Accepted, accept_or_hand_back};
-use csdf_answers::{Lack, Stream, ToolFault, accept_fault};
+use csdf_answers::{DeviceName, Lack, ToolFault, accept_fault};
 use csdf_bytes::{Intake, Outlet, write_bytes};
 use csdf_disk::Disk;
 use csdf_graph::read_graph;
@@ -113,8 +113,8 @@ fn accepted_by<D: Disk, I: Intake>(
         × IsAcceptedOf (stream_view order.entry) bytes a) }
     ensures refused { IfErr result (λ fault. IsNotGiven order.entry.graph.now (devices (I.left reader.old) (D.acts disk.old) (D.acts disk.new)) (I.failed reader.new) fault
         ⊎ StopsOnGraph (stream_view order.entry) (devices (I.left reader.old) (D.acts disk.old) (D.acts disk.new)) fault) }
-    ensures input { is_input order.entry.graph.now ≡ true → I.failed reader.new ≡ true → result ≡ Err (ToolFault.Device Stream.Input) }
-    ensures other { IfErr result (λ fault. fault ≢ ToolFault.Device Stream.Output) }
+    ensures input { is_input order.entry.graph.now ≡ true → I.failed reader.new ≡ true → result ≡ Err (ToolFault.Device DeviceName.Input) }
+    ensures other { IfErr result (λ fault. fault ≢ ToolFault.Device DeviceName.Output) }
     ensures untouched { is_input order.entry.graph.now ≡ false → reader.new ≡ reader.old }
 {
     let bytes = graph_bytes(alloc, disk, order.graph, reader)?;
@@ -338,7 +338,7 @@ fn stream_standard<
     ensures streamed { OnOk result (StreamsStandard (stream_view order.entry) (devices (I.left reader.old) (D.acts disk.old) (D.acts disk.new))
         (standard (I.left reader.old) (I.left reader.new) (O.written out.old) (O.written out.new) (E.written err.old) (E.written err.new) (E.failed err.new))) }
     ensures silent { OnErr result (err.new ≡ err.old) }
-    ensures failed { result ≡ Err (ToolFault.Device Stream.Output) → O.failed out.new ≡ true }
+    ensures failed { result ≡ Err (ToolFault.Device DeviceName.Output) → O.failed out.new ≡ true }
     ensures stopped { IfErr result (StopsStandard (stream_view order.entry) (devices (I.left reader.old) (D.acts disk.old) (D.acts disk.new))
         (through (I.left reader.old) (I.left reader.new) (O.written out.old) (O.written out.new)) (marks (I.failed reader.new) (O.failed out.new))) }
 {
@@ -367,19 +367,19 @@ fn stream_over_files<
 ) -> Result<(), ToolFault>
     ensures streamed { OnOk result (StreamsFiles (stream_view order.entry) (folders_view folders.entry) (devices (I.left reader.old) (D.acts disk.old) (D.acts disk.new))
         (O.written out.old) (O.written out.new)) }
-    ensures unwritten { IfErr result (λ fault. fault ≢ ToolFault.Device Stream.Output → out.new ≡ out.old) }
-    ensures failed { result ≡ Err (ToolFault.Device Stream.Output) → O.failed out.new ≡ true }
+    ensures unwritten { IfErr result (λ fault. fault ≢ ToolFault.Device DeviceName.Output → out.new ≡ out.old) }
+    ensures failed { result ≡ Err (ToolFault.Device DeviceName.Output) → O.failed out.new ≡ true }
     ensures stopped { IfErr result (λ fault. IsNotGiven order.entry.graph.now (devices (I.left reader.old) (D.acts disk.old) (D.acts disk.new)) (I.failed reader.new) fault
         ⊎ (StopsOnGraph (stream_view order.entry) (devices (I.left reader.old) (D.acts disk.old) (D.acts disk.new)) fault
         ⊎ StopsOverFiles (stream_view order.entry) (folders_view folders.entry) (devices (I.left reader.old) (D.acts disk.old) (D.acts disk.new))
         (marks (I.failed reader.new) (O.failed out.new)) fault)) }
-    ensures input { is_input order.entry.graph.now ≡ true → I.failed reader.new ≡ true → result ≡ Err (ToolFault.Device Stream.Input) }
+    ensures input { is_input order.entry.graph.now ≡ true → I.failed reader.new ≡ true → result ≡ Err (ToolFault.Device DeviceName.Input) }
 {
     let accepted = accepted_by(rt.alloc(), disk, order, reader)?;
     let report = flow_files(rt, disk, accepted, order, folders)?;
     match write_bytes(out, &report) {
         Ok(()) => Ok(()),
-        Err(_) => Err(ToolFault::Device(Stream::Output)),
+        Err(_) => Err(ToolFault::Device(DeviceName::Output)),
     }
 }
 
@@ -401,13 +401,13 @@ pub(crate) fn stream_files<
 ) -> Result<(), ToolFault>
     ensures streamed { OnOk result (Streams (stream_view order.entry) (devices (I.left reader.old) (D.acts disk.old) (D.acts disk.new))
         (standard (I.left reader.old) (I.left reader.new) (O.written out.old) (O.written out.new) (E.written err.old) (E.written err.new) (E.failed err.new))) }
-    ensures unwritten { is_none (stream_view order.entry).folders ≡ false → IfErr result (λ fault. fault ≢ ToolFault.Device Stream.Output → out.new ≡ out.old) }
+    ensures unwritten { is_none (stream_view order.entry).folders ≡ false → IfErr result (λ fault. fault ≢ ToolFault.Device DeviceName.Output → out.new ≡ out.old) }
     ensures silent { OnErr result (err.new ≡ err.old) }
     ensures unspoken { is_none (stream_view order.entry).folders ≡ false → err.new ≡ err.old }
-    ensures failed { result ≡ Err (ToolFault.Device Stream.Output) → O.failed out.new ≡ true }
+    ensures failed { result ≡ Err (ToolFault.Device DeviceName.Output) → O.failed out.new ≡ true }
     ensures stopped { IfErr result (StopsStream (stream_view order.entry) (devices (I.left reader.old) (D.acts disk.old) (D.acts disk.new))
         (through (I.left reader.old) (I.left reader.new) (O.written out.old) (O.written out.new)) (marks (I.failed reader.new) (O.failed out.new))) }
-    ensures input { reads_graph (stream_view order.entry) ≡ true → I.failed reader.new ≡ true → result ≡ Err (ToolFault.Device Stream.Input) }
+    ensures input { reads_graph (stream_view order.entry) ≡ true → I.failed reader.new ≡ true → result ≡ Err (ToolFault.Device DeviceName.Input) }
 {
     match order.folders {
         Some(folders) => stream_over_files(rt, disk, order, folders, reader, out),

@@ -82,7 +82,7 @@ impl fmt::Display for ProgressLine {
 }
 
 /// Where lines are told.
-pub(crate) trait Teller {
+pub(crate) trait ProgressOutput {
     /// What was told so far, where that is known.
     ghost told: { Self → Option (List ℕ) };
 
@@ -92,7 +92,7 @@ pub(crate) trait Teller {
 }
 
 /// Tells that a run begins, where it is asked for.
-pub(crate) fn tell_begin<T: Teller>(
+pub(crate) fn tell_begin<T: ProgressOutput>(
     place: &mut T,
     is_asked: bool,
     beside: Extra,
@@ -118,7 +118,7 @@ fn is_due(before: u64, made: u64) -> bool
 }
 
 /// Tells that so many firings more were made than before, where that is asked for and the line is due.
-pub(crate) fn tell_made<T: Teller>(
+pub(crate) fn tell_made<T: ProgressOutput>(
     place: &mut T,
     is_asked: bool,
     before: u64,
@@ -141,7 +141,7 @@ pub(crate) fn tell_made<T: Teller>(
 }
 
 /// Tells how many firings a run has made that has ended, where that is asked for.
-pub(crate) fn tell_end<T: Teller>(
+pub(crate) fn tell_end<T: ProgressOutput>(
     place: &mut T,
     is_asked: bool,
     made: u64,

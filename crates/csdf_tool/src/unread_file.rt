@@ -4,7 +4,7 @@ ghost use Rattle.std.specs.Prelude.{◌≡◌, ◌≢◌, ◌⊎◌, true, strin
 ghost use Rattle.std.specs.Io.KnownBytes.{Appends};
 ghost use Rattle.csdf_tool.specs.Explaining.{FindsThen, LacksWhy, is_of_file, unread_text, why_unread};
 
-use csdf_answers::{Name, Stream, TokenFile, ToolFault, push_token_note};
+use csdf_answers::{DeviceName, Name, TokenFile, ToolFault, push_token_note};
 use csdf_bytes::{Outlet, write_bytes};
 use csdf_disk::Disk;
 use std::alloc::{AllocError, Global};
@@ -13,7 +13,7 @@ use std::alloc::{AllocError, Global};
 pub(crate) fn is_of_file(fault: &ToolFault) -> bool
     ensures { result ≡ is_of_file fault.now }
 {
-    matches!(fault, ToolFault::Device(Stream::File(_)))
+    matches!(fault, ToolFault::Device(DeviceName::File(_)))
 }
 
 /// What is told of a file that was not read, by what was found of it then; nothing of one that can be read
@@ -35,7 +35,7 @@ fn unread_text(alloc: Global, path: &str, why: &TokenFile) -> Result<String, All
     ensures { IfOk result (λ text. string_bytes text ≡ unread_text path.now why.now) }
 {
     let name = Name::new(alloc, path)?;
-    let fault = ToolFault::Device(Stream::File(name));
+    let fault = ToolFault::Device(DeviceName::File(name));
     let mut text = String::new(alloc);
     write!(text, "{fault}\n")?;
     push_token_note(alloc, &mut text, "csdf", path, why)?;
@@ -50,14 +50,14 @@ fn tell_unread<O: Outlet>(
     out: &mut O,
 ) -> Result<(), ToolFault>
     ensures written { OnOk result (Appends (O.written out.old) (O.written out.new) (unread_text path.now why.now)) }
-    ensures refused { IfErr result (λ told. (told ≡ ToolFault.Memory) ⊎ (told ≡ ToolFault.Device Stream.Output)) }
-    ensures unwritten { IfErr result (λ told. told ≢ ToolFault.Device Stream.Output → out.new ≡ out.old) }
-    ensures failed { result ≡ Err (ToolFault.Device Stream.Output) → O.failed out.new ≡ true }
+    ensures refused { IfErr result (λ told. (told ≡ ToolFault.Memory) ⊎ (told ≡ ToolFault.Device DeviceName.Output)) }
+    ensures unwritten { IfErr result (λ told. told ≢ ToolFault.Device DeviceName.Output → out.new ≡ out.old) }
+    ensures failed { result ≡ Err (ToolFault.Device DeviceName.Output) → O.failed out.new ≡ true }
 {
     let text = unread_text(alloc, path, why)?;
     match write_bytes(out, text.as_bytes()) {
         Ok(()) => Ok(()),
-        Err(_) => Err(ToolFault::Device(Stream::Output)),
+        Err(_) => Err(ToolFault::Device(DeviceName::Output)),
     }
 }
 
@@ -75,8 +75,8 @@ pub(crate) fn explain_unread<D: Disk, O: Outlet>(
         × Appends (O.written out.old) (O.written out.new) (unread_text path.now why)) }
     ensures caused { IfErr result (λ told. (told ≡ ToolFault.Memory)
         ⊎ LacksWhy path.now (D.acts disk.old) (D.acts disk.new) fault (O.failed out.new) told) }
-    ensures unwritten { IfErr result (λ told. told ≢ ToolFault.Device Stream.Output → out.new ≡ out.old) }
-    ensures failed { result ≡ Err (ToolFault.Device Stream.Output) → O.failed out.new ≡ true }
+    ensures unwritten { IfErr result (λ told. told ≢ ToolFault.Device DeviceName.Output → out.new ≡ out.old) }
+    ensures failed { result ≡ Err (ToolFault.Device DeviceName.Output) → O.failed out.new ≡ true }
 {
     let found = disk.look(path)?;
     match why_unread(found) {

@@ -1,6 +1,6 @@
 use Rattle.std.proofs.Common.{◌≡◌, sym, subst, ◌∙◌}
 use Rattle.csdf_answers.specs.declared.fault.ToolFault.TheVariants as fault
-use Rattle.csdf_answers.specs.declared.fault.Stream.TheVariants.{Output}
+use Rattle.csdf_answers.specs.declared.fault.DeviceName.TheVariants.{Output}
 use Rattle.csdf_answers.proofs.AnswerLemmas.{IsOfFile, refusal_by_file}
 use Rattle.csdf_answers.proofs.ToldLemmas.{if_err_fault}
 use Rattle.csdf_answers.proofs.replay.play_script.Goals as goal

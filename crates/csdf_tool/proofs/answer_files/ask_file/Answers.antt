@@ -1,6 +1,6 @@
 use Rattle.std.proofs.Common.{◌≡◌, Ok, Err, inl, sym}
 use Rattle.csdf_answers.specs.Objects.{IsDescriptionAs}
-use Rattle.csdf_answers.specs.declared.fault.Stream.TheVariants.{Input}
+use Rattle.csdf_answers.specs.declared.fault.DeviceName.TheVariants.{Input}
 use Rattle.csdf_answers.specs.declared.fault.ToolFault.TheVariants.{Device}
 use Rattle.csdf_answers.proofs.ToldLemmas.{if_err_fault}
 use Rattle.csdf_tool.proofs.CauseLemmas.{err_as, given_bytes, lacks_answer, puts_out}

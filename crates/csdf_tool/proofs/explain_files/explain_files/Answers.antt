@@ -1,6 +1,6 @@
 use Rattle.std.proofs.Common.{◌≡◌, ◌∙◌, Ok, Err, true, false, ap, inl, sym}
 use Rattle.std.specs.Prelude.{option_map}
-use Rattle.csdf_answers.specs.declared.fault.Stream.TheVariants.{Input}
+use Rattle.csdf_answers.specs.declared.fault.DeviceName.TheVariants.{Input}
 use Rattle.csdf_answers.specs.declared.fault.ToolFault.TheVariants.{Device}
 use Rattle.csdf_disk.specs.Acts.{marks}
 use Rattle.csdf_tool.proofs.ExplainingLemmas.{explains_files, explains_unread, is_unread, lacks_explanation, lacks_unread}

@@ -1,6 +1,6 @@
 use Rattle.std.proofs.Common.{ap, inl, inr, refl, sym, ◌∙◌}
 use Rattle.csdf_answers.specs.Faults.{unread}
-use Rattle.csdf_answers.specs.declared.fault.Stream.TheVariants.{File}
+use Rattle.csdf_answers.specs.declared.fault.DeviceName.TheVariants.{File}
 use Rattle.csdf_answers.specs.declared.fault.ToolFault.TheVariants.{Memory}
 use Rattle.csdf_answers.proofs.ToldLemmas.{if_err_fault}
 use Rattle.csdf_tool.proofs.CauseLemmas.{file_ends}

@@ -4,7 +4,7 @@ use Rattle.csdf_model.specs.Graph.{actor_view}
 use Rattle.csdf_words.specs.CommandLine.{order_view}
 use Rattle.csdf_tool.specs.GraphFiles.{IsNamed}
 use Rattle.csdf_answers.specs.Faults.{fault_of}
-use Rattle.csdf_answers.specs.declared.fault.Stream.TheVariants.{Input}
+use Rattle.csdf_answers.specs.declared.fault.DeviceName.TheVariants.{Input}
 use Rattle.csdf_answers.specs.declared.fault.ToolFault.TheVariants.{Device}
 use Rattle.csdf_tool.proofs.CauseLemmas.{err_as}
 use Rattle.csdf_tool.proofs.FaultLemmas.{gives_none, no_fault}

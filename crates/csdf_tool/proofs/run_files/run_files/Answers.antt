@@ -1,6 +1,6 @@
 use Rattle.std.proofs.Common.{List, subst, refl, ◌≡◌, inl, inr}
 use Rattle.csdf_answers.specs.declared.fault.ToolFault.TheVariants as fault
-use Rattle.csdf_answers.specs.declared.fault.Stream.TheVariants.{Output}
+use Rattle.csdf_answers.specs.declared.fault.DeviceName.TheVariants.{Output}
 use Rattle.std.specs.Io.KnownBytes.{Appends}
 use Rattle.csdf_tool.proofs.DiskLemmas.{asks_more}
 use Rattle.csdf_words.specs.CommandLine.{order_view}
