@@ -21,4 +21,5 @@ pub mod AloneLemmas
 pub mod TightLemmas
 pub mod ContinuedLemmas
 pub mod ReliefLemmas
+pub mod MostLemmas
 mod RoomExamples

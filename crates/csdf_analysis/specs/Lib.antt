@@ -15,3 +15,5 @@ pub mod Waking
 pub mod Room
 pub mod Continued
 pub mod Relief
+pub mod Most
+pub mod Fewer

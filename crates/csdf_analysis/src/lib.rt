@@ -12,6 +12,7 @@ mod laws;
 mod length;
 pub mod mask;
 mod members;
+mod most;
 mod neighbours;
 mod net;
 mod room;
@@ -36,6 +37,7 @@ pub use laws::{
     own_capacities_are_needed, room_holds_periods, room_is_accepted, room_is_refused,
 };
 pub use length::Length;
+pub use most::most_firings;
 pub use neighbours::{consumers_of, producers_of};
 pub use room::{
     Refused, Room, accept_in_room, accept_or_hand_back, accept_with_room, auto_room, give_room,
