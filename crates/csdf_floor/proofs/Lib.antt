@@ -40,3 +40,4 @@ pub mod Lefts
 pub mod Stretches
 pub mod Exacts
 pub mod LoopMakings
+pub mod Mosts

@@ -13,3 +13,4 @@ pub mod Periods
 pub mod Making
 pub mod Drafts
 pub mod Continuing
+pub mod Most

@@ -6,6 +6,7 @@ ghost use Rattle.csdf_floor.specs.Laws.{SequentialIsHonest, OrderDoesNotShow};
 ghost use Rattle.csdf_floor.specs.Rooms.{CapacitiesDoNotCount, CapacitiesDoNotShow, MoreRoomGoesAsFar, RoomDoesNotShow, StayInStep};
 ghost use Rattle.csdf_floor.specs.Periods.{RunsHonestly};
 ghost use Rattle.csdf_floor.specs.Endings.{OneEnding, EndsByEnding};
+ghost use Rattle.csdf_floor.specs.Most.{BeginsAtMost, StaysWithinMost};
 ghost use Rattle.csdf_floor.specs.Continuing.{AskAsAtFirst, CanBePlayedWhole, CompleteIsWhole, GoesOnBySegments, LeavesAsFound, SegmentsAreOneRun};
 
 /// A law: an idle actor that is neither spent, dry, short nor full stays so under the moves of others.
@@ -183,4 +184,16 @@ pub fn goes_on_by_segments()
 /// graph that goes on from whole segments too, where they are so of the first one.
 pub fn ask_as_at_first()
     ensures { AskAsAtFirst }
+{}
+
+/// A law: an honest journal of an accepted graph begins no more firings of an actor than the greatest
+/// counts have that fit the capacities, the tokens of the sources and the periods.
+pub fn stays_within_most()
+    ensures { StaysWithinMost }
+{}
+
+/// A law: nor does it begin more firings of all actors together than these counts add up to, or than the
+/// limit on all firings where that is less.
+pub fn begins_at_most()
+    ensures { BeginsAtMost }
 {}
