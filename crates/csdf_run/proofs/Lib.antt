@@ -7,3 +7,4 @@ pub mod RunFaults
 pub mod TokenRuns
 pub mod Stretching
 pub mod Totalling
+pub mod KnownMost

@@ -1,7 +1,11 @@
 -- What a run is asked for.
-use Rattle.std.specs.Prelude.{◌≡◌, ◌*◌, ℕ, Bool, if◌then◌else◌, List, [], Option, Some, None, nat_lt, sum_by}
+use Rattle.std.specs.Prelude.{◌≡◌, ◌≤◌, ℕ, Bool, [], None, sum}
 use Rattle.csdf_floor.specs.declared.fed.Fed.{Fed}
-use Rattle.csdf_floor.specs.Work.{Work, feeds_in}
+use Rattle.csdf_floor.specs.declared.outcome.Outcome.{Outcome}
+use Rattle.csdf_floor.specs.Journal.{state_of}
+pub use Rattle.csdf_floor.specs.Most.{IsMostFirings}
+use Rattle.csdf_floor.specs.Outcome.{journal_in}
+use Rattle.csdf_floor.specs.Work.{Work, feeds_in, program}
 
 -- what contracts see of a request: the work, by how many workers, and whether the journal is kept
 pub record RequestView : Type 0 where
@@ -18,15 +22,13 @@ pub record IsFedOf (w : Work) (fed : Fed) : Type 0 where
 abbrev pub no_work : Work
 no_work = record { accepted = record { graph = record { actors = []; channels = []; cells = None }; r = []; q = []; capacities = [] }; feeds = []; periods = 0; firings = None }
 
--- how many firings the actors make in so many periods, all together
-abbrev pub firings_in : ℕ → List ℕ → ℕ
-firings_in periods q = sum_by (λ n. periods * n) q
+-- how many firings an outcome has finished
+abbrev pub firings_made : Work → Outcome → ℕ
+firings_made w o = sum (state_of (program w) (journal_in o)).counts
 
--- so many, or as many as the limit allows where there is one
-abbrev pub no_more_than : Option ℕ → ℕ → ℕ
-no_more_than None n = n
-no_more_than (Some most) n = if nat_lt most n then most else n
-
--- how many firings a work makes at most
-abbrev pub most_firings : Work → ℕ
-most_firings w = no_more_than w.firings (firings_in w.periods w.accepted.q)
+-- somebody knows how many firings the work makes at most, and an outcome has made no more
+pub record KnowsMost (knows : ℕ → Type 0) (w : Work) (o : Outcome) : Type 0 where
+  pub most : ℕ
+  pub is : IsMostFirings w most
+  pub known : knows most
+  pub kept : firings_made w o ≤ most

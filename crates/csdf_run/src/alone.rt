@@ -1,12 +1,13 @@
 //! A run by the calling thread alone: nothing is behind a lock, and no firing has to be claimed.
 
 ghost use Rattle.std.specs.Prelude.{◌≡◌, ◌<◌, ◌++◌, Ok, Err, IfErr, IfOk, OnErr, OnOk};
+ghost use Rattle.csdf_analysis.specs.Acceptance.{IsAccepted};
 ghost use Rattle.csdf_core.specs.Step.{IsQuiet};
 ghost use Rattle.csdf_floor.specs.declared.fault.RunFault.TheVariants.{Memory};
 ghost use Rattle.csdf_floor.specs.Floor.{HasGone};
 ghost use Rattle.csdf_floor.specs.Making.{closes_made, made_moves};
 ghost use Rattle.csdf_floor.specs.Outcome.{IsOutcome};
-ghost use Rattle.csdf_run.specs.Requests.{IsFedOf, most_firings};
+ghost use Rattle.csdf_run.specs.Requests.{IsFedOf, IsMostFirings, KnowsMost};
 
 use crate::claims::most_from;
 use crate::hints::Hints;
@@ -109,6 +110,16 @@ fn told_of(settled: Settled) -> Ran
     }
 }
 
+/// How many firings a request makes at most, and hints for its graph. An error says that memory ran out.
+fn prepared(alloc: Global, request: &RunRequest) -> Result<(u64, Hints), AllocError>
+    ensures most { IfOk result (λ made. IsMostFirings request.now.work made.0) }
+    ensures accepted { IsAccepted request.now.work.accepted }
+{
+    let most = request.most_firings(alloc)?;
+    let hints = request.hints(alloc)?;
+    Ok((most, hints))
+}
+
 /// What a request comes to that is carried out by the calling thread alone. The gate lets every firing through.
 pub(crate) fn outcome_alone<R: Wait, G: Told>(
     rt: &R,
@@ -119,12 +130,11 @@ pub(crate) fn outcome_alone<R: Wait, G: Told>(
     ensures fed { IsFedOf request.work result.fed }
     ensures outcome { IfOk result.outcome (IsOutcome request.work) }
     ensures cause { IfErr result.outcome (λ why. why ≡ NoOutcome.Memory) }
-    ensures most { IfOk result.outcome (λ _. G.knows_most gate.now (most_firings request.work)) }
+    ensures most { IfOk result.outcome (KnowsMost (G.knows_most gate.now) request.work) }
     ensures keeps { IfOk result.outcome (λ o. o.journal.keeps ≡ request.keeps) }
 {
-    let most = request.most_firings();
-    let mut hints = match request.hints(alloc) {
-        Ok(hints) => hints,
+    let (most, mut hints) = match prepared(alloc, &request) {
+        Ok(prepared) => prepared,
         Err(_error) => {
             return Ran {
                 fed: request.into_fed(),

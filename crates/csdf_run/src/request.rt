@@ -1,16 +1,18 @@
 //! What a run is asked for.
 
-ghost use Rattle.std.specs.Prelude.{◌≡◌, ◌≤◌, ◌*◌, ℕ, All, IfErr, IfOk, length};
+ghost use Rattle.std.specs.Prelude.{◌≡◌, ◌≤◌, ℕ, IfErr, IfOk, length, map, sum};
+ghost use Rattle.csdf_analysis.specs.Acceptance.{IsAccepted};
 ghost use Rattle.csdf_journal.specs.View.{is_kept};
 ghost use Rattle.csdf_floor.specs.Work.{AreFeeds, HasFewFirings, feeds_in};
-ghost use Rattle.csdf_run.specs.Requests.{IsFedOf, firings_in, most_firings};
+ghost use Rattle.csdf_run.specs.Requests.{IsFedOf, IsMostFirings};
 ghost use Rattle.csdf_run.specs.Texts.{GoesOnFor, MayGoOnOver, work_for};
 
 use crate::hints::Hints;
 use crate::options::RunOptions;
 use crate::periods::periods_of;
+use csdf_analysis::most_firings;
 use csdf_floor::{Fed, Floor, RunBounds};
-use csdf_model::{MAX_ACTORS, MAX_FIRINGS_PER_ACTOR};
+use csdf_model::MAX_ACTORS;
 use std::alloc::{AllocError, Global};
 use std::marker::Model;
 
@@ -52,15 +54,25 @@ pub(crate) struct Terms {
     pub(crate) options: RunOptions,
 }
 
-/// How many firings the actors make in so many periods, all together.
-fn firings_in(periods: u32, q: &[u32]) -> u64
-    requires few { All (λ n. periods * n ≤ MAX_FIRINGS_PER_ACTOR) q.now }
-    requires actors { length q.now ≤ MAX_ACTORS }
-    ensures { result ≡ firings_in periods q.now }
+/// How many tokens there are for each actor.
+fn lengths_of(alloc: Global, feeds: &[Vec<i32>]) -> Result<Vec<usize>, AllocError>
+    ensures { IfOk result (λ lengths. lengths.items ≡ map length (feeds_in feeds.now)) }
+{
+    let mut lengths = Vec::new(alloc);
+    for feed in feeds {
+        lengths.push(feed.len())?;
+    }
+    Ok(lengths)
+}
+
+/// The firings of all actors together.
+fn sum_of(counts: &[u32]) -> u64
+    requires { length counts.now ≤ MAX_ACTORS }
+    ensures { result ≡ sum counts.now }
 {
     let mut all: u64 = 0;
-    for firings in q {
-        all += u64::from(periods) * u64::from(*firings);
+    for count in counts {
+        all += u64::from(*count);
     }
     all
 }
@@ -129,14 +141,20 @@ impl RunRequest {
         self.options.workers
     }
 
-    /// How many firings it makes at most.
-    pub(crate) fn most_firings(&self) -> u64
-        ensures { result ≡ most_firings self.now.work }
+    /// How many firings it makes at most, by the tokens of the sources, its periods and its limit. An
+    /// error says that memory ran out.
+    pub(crate) fn most_firings(&self, alloc: Global) -> Result<u64, AllocError>
+        ensures most { IfOk result (IsMostFirings self.now.work) }
+        ensures accepted { IsAccepted self.now.work.accepted }
     {
-        let all = firings_in(self.periods, self.fed.accepted.vector().q.as_slice());
+        let accepted = &self.fed.accepted;
+        let _graph = accepted.graph();
+        let tokens = lengths_of(alloc, &self.fed.feeds)?;
+        let counts = most_firings(alloc, accepted, self.periods, &tokens)?;
+        let all = sum_of(&counts);
         match self.options.firings {
-            Some(most) if u64::from(most) < all => u64::from(most),
-            _ => all,
+            Some(most) if u64::from(most) < all => Ok(u64::from(most)),
+            _ => Ok(all),
         }
     }
 

@@ -7,7 +7,7 @@ ghost use Rattle.csdf_floor.specs.Work.{AreFeeds, HasFewFirings, feeds_in};
 ghost use Rattle.csdf_floor.specs.Outcome.{HasHonestJournal, EndsSettled, TakesInOrder, StaysWithinCapacities, LeavesClosedAlone};
 ghost use Rattle.csdf_floor.specs.Outcome.{TellsSinks, TellsReport, TellsLeft, TellsEnding, IsAsSequentialRun, IsAsInAnyRoom, CompletesWhereAmple, IsOutcome};
 ghost use Rattle.csdf_run.specs.Causes.{IsCauseAmong, IsWantAmong};
-ghost use Rattle.csdf_run.specs.Requests.{IsFedOf, most_firings};
+ghost use Rattle.csdf_run.specs.Requests.{IsFedOf, KnowsMost};
 ghost use Rattle.csdf_run.specs.Workers.{AnswersForAll, HoldsNothing, IsEndAt, TakesIn, both};
 
 use crate::alone::outcome_alone;
@@ -323,7 +323,7 @@ fn outcome_as<K: Asked + Send + Sync, R: Threads + Wait + Sync, G: Told>(
     ensures fed { IsFedOf request.work result.fed }
     ensures outcome { IfOk result.outcome (IsOutcome request.work) }
     ensures cause { IfErr result.outcome (IsCauseAmong request.workers) }
-    ensures most { IfOk result.outcome (λ _. G.knows_most gate.now (most_firings request.work)) }
+    ensures most { IfOk result.outcome (KnowsMost (G.knows_most gate.now) request.work) }
     ensures keeps { IfOk result.outcome (λ o. o.journal.keeps ≡ request.keeps) }
 {
     let crew = Crew {
@@ -332,7 +332,15 @@ fn outcome_as<K: Asked + Send + Sync, R: Threads + Wait + Sync, G: Told>(
         may_wait: gate.may_wait(),
     };
     let actors = request.actors();
-    let most = request.most_firings();
+    let most = match request.most_firings(alloc) {
+        Ok(most) => most,
+        Err(_error) => {
+            return Settled {
+                fed: request.into_fed(),
+                outcome: Err(RunFault::Memory),
+            };
+        }
+    };
     let hall: Hall<K> = match hall_of(alloc, request, crew) {
         Ok(hall) => hall,
         Err(fed) => {

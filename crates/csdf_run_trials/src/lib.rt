@@ -22,6 +22,8 @@ mod length_tests;
 #[cfg(test)]
 mod memory_tests;
 #[cfg(test)]
+mod most_tests;
+#[cfg(test)]
 mod oracle_tests;
 #[cfg(test)]
 mod outcome_tests;

@@ -3,7 +3,6 @@
 ghost use Rattle.std.specs.Prelude.{None};
 
 use crate::telling::{Extra, ProgressLine, ProgressOutput, tell_begin, tell_end, tell_made};
-use csdf_analysis::Length;
 use csdf_bytes::DeviceFailed;
 use csdf_run::Watch;
 use std::sync::atomic::Ordering::SeqCst;
@@ -22,14 +21,12 @@ impl<R: Eprint> ProgressOutput for OnError<'_, R> {
 }
 
 /// The watch of a run. Where it is asked to, it tells over and over how many firings were made, of how many at
-/// most where that says something, and by how many workers where these were chosen; and nothing of a run that
-/// never begins. A failure of standard error changes
-/// nothing.
+/// most, and by how many workers where these were chosen; and nothing of a run that never begins. A failure of
+/// standard error changes nothing.
 #[derive(Drop)]
 pub(crate) struct Progress<'a, R> {
     rt: &'a R,
     is_asked: bool,
-    has_most: bool,
     crew: Option<u32>,
     has_begun: AtomicBool,
     made: AtomicU64,
@@ -37,18 +34,11 @@ pub(crate) struct Progress<'a, R> {
 }
 
 impl<'a, R: Eprint> Progress<'a, R> {
-    /// Of a run that has not begun, goes on so long and is made by so many workers, where these were chosen.
-    /// One that goes on until a source is dry makes far fewer firings than it may, so nothing is told of these.
-    pub(crate) fn new(
-        rt: &'a R,
-        is_asked: bool,
-        how_long: Length,
-        crew: Option<u32>,
-    ) -> Progress<'a, R> {
+    /// Of a run that has not begun and is made by so many workers, where these were chosen.
+    pub(crate) fn new(rt: &'a R, is_asked: bool, crew: Option<u32>) -> Progress<'a, R> {
         Progress {
             rt,
             is_asked,
-            has_most: matches!(how_long, Length::Periods(_)),
             crew,
             has_begun: AtomicBool::new(false),
             made: AtomicU64::new(0),
@@ -58,13 +48,8 @@ impl<'a, R: Eprint> Progress<'a, R> {
 
     /// What is told beside the firings that were made.
     fn beside(&self) -> Extra {
-        let most = if self.has_most {
-            Some(self.most.load(SeqCst))
-        } else {
-            None
-        };
         Extra {
-            most,
+            most: Some(self.most.load(SeqCst)),
             crew: self.crew,
         }
     }

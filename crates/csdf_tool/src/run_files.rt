@@ -167,7 +167,7 @@ fn ran_over<R: AllocGlobal + Eprint + Threads + Wait + Sync>(
     let asked = order.options;
     let workers = workers_for(rt, alloc, order.workers, &graph, asked.room)?;
     let crew = chosen(order.workers, workers);
-    let progress = Progress::new(rt, order.progress, asked.how_long, crew);
+    let progress = Progress::new(rt, order.progress, crew);
     let options = RunOptions { workers, ..asked };
     let TokensRun { graph, outcome } = run_tokens(rt, alloc, graph, feeds, options, &progress);
     progress.end();

@@ -1,8 +1,9 @@
-use Rattle.std.proofs.Common.{◌≡◌, ℕ, subst, ◌∙◌}
+use Rattle.std.proofs.Common.{◌≡◌, subst, ◌∙◌}
 use Rattle.std.specs.Prelude.{Bool, IfOk}
 use Rattle.csdf_floor.specs.Outcome.{IsOutcome}
 use Rattle.csdf_floor.specs.Work.{Work}
-use Rattle.csdf_run.proofs.RunFaults.{told_ok, where_ok}
+use Rattle.csdf_run.proofs.KnownMost.{known_most}
+use Rattle.csdf_run.proofs.RunFaults.{told_ok}
 use Rattle.csdf_run.proofs.alone.outcome_alone.Goals as goal
 
 pub returns-in-Ok-make_all-clause-outcome : goal.returns-in-Ok-make_all-clause-outcome
@@ -12,8 +13,11 @@ returns-in-Ok-make_all-clause-outcome g c =
 
 pub returns-in-Ok-make_all-clause-most : goal.returns-in-Ok-make_all-clause-most
 returns-in-Ok-make_all-clause-most g c =
-    where_ok _ c.told_of.result.outcome
-    (subst (λ (n : ℕ). g.G.Told.knows_most c.args.gate.now n) c.most_firings-most.ensures c.tell_most.ensures)
+    known_most (g.G.Told.knows_most c.args.gate.now) c.args.request.work c.in-Ok.prepared.0 c.told_of.result.outcome c.prepared.ensures.accepted
+    c.in-Ok.ensures.most c.tell_most.ensures
+    (told_ok (IsOutcome c.args.request.work) c.into_settled.result.outcome c.told_of.result.outcome _ c.told_of.ensures.told c.told_of.ensures.memory
+    (subst (λ (w : Work). IfOk c.into_settled.result.outcome (IsOutcome w)) (c.make_all.ensures.work ∙ c.in-Ok-into_floor.ensures.work)
+    c.into_settled.ensures.outcome))
 
 pub returns-in-Ok-make_all-clause-keeps : goal.returns-in-Ok-make_all-clause-keeps
 returns-in-Ok-make_all-clause-keeps g c =

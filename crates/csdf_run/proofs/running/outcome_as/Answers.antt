@@ -1,6 +1,9 @@
-use Rattle.std.proofs.Common.{◌≡◌, ℕ, subst, sym, ◌∙◌}
+use Rattle.std.proofs.Common.{◌≡◌, subst, sym, ◌∙◌}
 use Rattle.std.specs.Prelude.{Bool, IfOk}
-use Rattle.csdf_run.proofs.RunFaults.{settled_cause, where_ok}
+use Rattle.csdf_floor.specs.Outcome.{IsOutcome}
+use Rattle.csdf_floor.specs.Work.{Work}
+use Rattle.csdf_run.proofs.KnownMost.{known_most}
+use Rattle.csdf_run.proofs.RunFaults.{settled_cause}
 use Rattle.csdf_run.proofs.running.outcome_as.Goals as goal
 
 pub returns-in-Ok-run_hall-clause-keeps : goal.returns-in-Ok-run_hall-clause-keeps
@@ -13,5 +16,7 @@ returns-in-Ok-run_hall-clause-cause g c = settled_cause _ _ c.args.request.worke
 
 pub returns-in-Ok-run_hall-clause-most : goal.returns-in-Ok-run_hall-clause-most
 returns-in-Ok-run_hall-clause-most g c =
-    where_ok _ c.settle_and_hand_back.result.outcome
-    (subst (λ (n : ℕ). g.G.Told.knows_most c.args.gate.now n) c.most_firings-most.ensures c.tell_most.ensures)
+    known_most (g.G.Told.knows_most c.args.gate.now) c.args.request.work c.in-Ok.most c.settle_and_hand_back.result.outcome c.most_firings.ensures.accepted
+    c.in-Ok.ensures.most c.tell_most.ensures
+    (subst (λ (w : Work). IfOk c.settle_and_hand_back.result.outcome (IsOutcome w)) (c.into_floor.ensures.work ∙ sym c.requires.work)
+    c.settle_and_hand_back.ensures.outcome)
