@@ -18,6 +18,10 @@ pub start_answer_as : (first : Option StartFault) (fault : StartFault) → IsSta
 start_answer_as (Some why) fault h = let e : fault ≡ why = cc in ap Err e
 start_answer_as None fault h = h
 
+pub start_answer_made : (first : Option StartFault) (count : ℕ) (block : Block) → IsStartAnswer {T = ℕ} first (Ok count) → IsStartAnswer {T = Block} first (Ok block)
+start_answer_made (Some why) count block h = absurd (let e : Ok count ≡ Err why = h in cc)
+start_answer_made None count block h = tt
+
 -- what is wrong with the texts is no fault of the run
 pub feed_cause : (actors : List Actor) (texts : List (List ℕ)) (why : TextsFault) → IsFeedFault actors texts why → (n : ℕ) → IsRunCause n why
 feed_cause actors texts fault.FeedCount h n = tt

@@ -5,6 +5,13 @@ use Rattle.csdf_analysis.specs.Waking.{IsIn, ProducersIn, ConsumersIn}
 use Rattle.csdf_core.specs.Moves.{Begin}
 use Rattle.csdf_core.specs.Shows.{View as CoreView}
 use Rattle.csdf_core.specs.Step.{refusal}
+use Rattle.csdf_floor.specs.Floor.{FloorView}
+
+-- what contracts see of what the workers share: the floor, the actors that may be able to begin, as bits, and how many firings are under way
+pub record SharedView : Type 0 where
+  pub floor : FloorView
+  pub ready : ℕ
+  pub running : ℕ
 
 -- the core would let the actor begin a firing
 abbrev pub CanBegin : CoreView → ℕ → Type 0

@@ -62,15 +62,15 @@ pub record Block : Type 0 where
   pub claim : Claim
   pub count : ℕ
 
--- the block begins with the claimed firing, and has some firings and at most so many
-pub record IsBlockOf (c : Claim) (most : ℕ) (b : Block) : Type 0 where
-  pub claim : b.claim ≡ c
-  pub some : 0 < b.count
-  pub enough : b.count ≤ most
-
 -- after several firings from this one on an actor still has a number that can be claimed
 abbrev pub CanEnd : Claim → ℕ → Type 0
 CanEnd c count = 1 < count → c.firing + count ≤ MAX_FIRINGS_PER_ACTOR + 1
+
+-- the block begins with the claimed firing, and has some firings
+pub record IsBlockOf (c : Claim) (b : Block) : Type 0 where
+  pub claim : b.claim ≡ c
+  pub some : 0 < b.count
+  pub fits : CanEnd c b.count
 
 -- every firing of the block is finished
 abbrev pub HasMadeAll : View → Block → Type 0

@@ -4,7 +4,7 @@ ghost use Rattle.std.specs.Prelude.{◌≡◌, ◌<◌, ◌≤◌, ◌+◌, ℕ,
 ghost use Rattle.csdf_claims.specs.Board.{HasFinished};
 ghost use Rattle.csdf_run.specs.Workers.{CanEnd, HasMade, HasMadeAll, HoldsJust, IsActor, IsClaimBeside};
 
-use crate::run_floor::{Delivered, Made};
+use crate::monitor::{Delivered, Made};
 use crate::told::Told;
 use csdf_claims::{Board, Place};
 use csdf_model::{MAX_ACTORS, MAX_FIRINGS_PER_ACTOR};

@@ -4,7 +4,7 @@ ghost use Rattle.std.specs.Prelude.{◌≡◌, ◌≢◌, IfErr, IfOk, None, Som
 ghost use Rattle.csdf_floor.specs.declared.fault.RunFault.TheVariants.{Memory, Worker};
 ghost use Rattle.csdf_run.specs.Causes.{cause_of_no_start, cause_untaken};
 
-use crate::run_floor::{NotStarted, NotTaken};
+use crate::monitor::{NotStarted, NotTaken};
 use csdf_floor::{DeliverFault, RunFault, StartFault};
 use std::alloc::AllocError;
 use std::marker::Model;

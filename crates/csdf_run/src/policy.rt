@@ -33,11 +33,6 @@ impl Crew {
     pub(crate) fn is_alone(self) -> bool {
         self.workers <= 1
     }
-
-    /// Whether blocks of firings that are heavy are evaluated without the lock.
-    pub(crate) fn drafts(self) -> bool {
-        self.workers > 1
-    }
 }
 
 /// Whether a firing is worth waking a worker for.
@@ -45,15 +40,6 @@ impl Crew {
 enum Weight {
     Light,
     Heavy,
-}
-
-/// What a worker does once it has told where to look.
-#[derive(Clone, Copy, PartialEq, Eq)]
-pub(crate) enum Teller {
-    /// It makes the firing that it has started.
-    Fires,
-    /// It looks for a firing itself.
-    Looks,
 }
 
 /// Which actors are heavy, whether a worker tends, how many sleep, and how many were woken and have not
@@ -95,6 +81,7 @@ pub(crate) struct Policy {
     sleeping: u32,
     woken: u32,
     may_wait: bool,
+    is_alone: bool,
 }
 
 /// How heavy the firing of a job is.
@@ -125,6 +112,7 @@ impl Policy {
             sleeping: 0,
             woken: 0,
             may_wait: crew.may_wait,
+            is_alone: crew.is_alone(),
         }
     }
 
@@ -173,8 +161,11 @@ impl Policy {
     }
 
     /// Whether to look if the actor's next firings are heavy: where some of them were, and else not each
-    /// time, since a look costs a tenth of a light firing.
+    /// time, since a look costs a tenth of a light firing. One worker alone has none to evaluate beside others.
     pub(crate) fn looks_at(&mut self, actor: u32) -> bool {
+        if self.is_alone {
+            return false;
+        }
         if self.blocks & bit_of(actor) != 0 {
             return true;
         }
@@ -182,15 +173,14 @@ impl Policy {
         self.looks <= LOOKED_AT || self.looks % ONE_IN == 0
     }
 
-    /// A worker has claimed an actor, and drafts firings of it, or finds that they are light. Who has drafted
-    /// some may draft again, however few firings there are in between.
-    pub(crate) fn drafts(&mut self, actor: u32, is_drafted: bool) {
-        if is_drafted {
-            let bit = bit_of(actor);
-            self.blocks |= bit;
-            self.drafted |= bit;
-            self.drafting = self.drafting.saturating_add(1);
-        }
+    /// A worker that tended or not has drafted firings of an actor, and tends no longer. It may draft again,
+    /// however few firings there are in between.
+    pub(crate) fn drafts(&mut self, actor: u32, tended: bool) {
+        let bit = bit_of(actor);
+        self.blocks |= bit;
+        self.drafted |= bit;
+        self.drafting = self.drafting.saturating_add(1);
+        self.rests(tended);
     }
 
     /// The drafted firings of an actor are about to be made.
@@ -240,9 +230,10 @@ impl Policy {
         )
     }
 
-    /// Whether the teller is to wake a worker, which then counts as woken.
-    pub(crate) fn wakes_one(&mut self, spare: u64, looking: u32, teller: Teller) -> bool {
-        let own = if teller == Teller::Looks { 1 } else { 0 };
+    /// Whether the teller, who looks for a firing itself or has one, is to wake a worker, which then counts as
+    /// woken.
+    pub(crate) fn wakes_one(&mut self, spare: u64, looking: u32, looks: bool) -> bool {
+        let own = if looks { 1 } else { 0 };
         let awake = looking.saturating_add(self.woken).saturating_add(own);
         if self.sleeping == 0 || self.places(spare) <= awake {
             return false;

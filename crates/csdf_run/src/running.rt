@@ -13,13 +13,12 @@ ghost use Rattle.csdf_run.specs.Workers.{AnswersForAll, HoldsNothing, IsEndAt, T
 use crate::alone::outcome_alone;
 use crate::gate::Gate;
 use crate::gave_up::GaveUp;
-use crate::hall::Hall;
+use crate::monitor::{Asked, Monitor};
 use crate::no_outcome::{NoOutcome, Ran};
 use crate::options::RunOptions;
 use crate::policy::Crew;
 use crate::request::RunRequest;
 use crate::run_end::{EndCause, RunEnd, Unstarted};
-use crate::run_floor::{Asked, RunFloor};
 use crate::told::{Telling, Told};
 use crate::watch::{Watch, Watching};
 use crate::worker::{Ended, work};
@@ -150,7 +149,7 @@ fn place_after(place: Place, answer: Result<RunEnd, GaveUp>) -> Result<Place, Ru
 fn alone<K: Asked, R: Wait, G: Told>(
     rt: &R,
     alloc: Global,
-    hall: &Hall<K>,
+    monitor: &Monitor<K>,
     board: &Board,
     gate: &G,
     first: Place,
@@ -159,7 +158,7 @@ fn alone<K: Asked, R: Wait, G: Told>(
     ensures place { IfOk result (λ p. (p.board ≡ board.now.id) × HoldsNothing p.view) }
     ensures cause { IfErr result (λ fault. fault ≢ Worker) }
 {
-    let Ended { place, answer } = work(rt, alloc, hall, board, gate, first);
+    let Ended { place, answer } = work(rt, alloc, monitor, board, gate, first);
     place_after(place, answer)
 }
 
@@ -168,7 +167,7 @@ fn alone<K: Asked, R: Wait, G: Told>(
 fn in_threads<K: Asked + Send + Sync, R: Threads + Wait + Sync, G: Told>(
     rt: &R,
     alloc: Global,
-    hall: &Hall<K>,
+    monitor: &Monitor<K>,
     board: &Board,
     gate: &G,
     first: Place,
@@ -194,15 +193,15 @@ fn in_threads<K: Asked + Send + Sync, R: Threads + Wait + Sync, G: Told>(
                     move || -> Ended
                         requires { (place.board ≡ board.now.id) × HoldsNothing place.view }
                         ensures { IsEndAt board.entry.now result }
-                    { work(rt, alloc, hall, board, gate, place) },
+                    { work(rt, alloc, monitor, board, gate, place) },
                 );
                 keep(board, &mut handles, started.ok());
             }
             let threads = handles.len();
             if threads < count {
-                hall.give_up(rt, EndCause::Unstarted(Unstarted::of(threads, count)));
+                monitor.give_up(rt, EndCause::Unstarted(Unstarted::of(threads, count)));
             }
-            let Ended { mut place, answer } = work(rt, alloc, hall, board, gate, first);
+            let Ended { mut place, answer } = work(rt, alloc, monitor, board, gate, first);
             let answer = join_all(rt, board, &mut place, answer, handles);
             let place = place_after(place, answer)?;
             all_started(threads, count)?;
@@ -257,11 +256,11 @@ fn totals_of(alloc: Global, board: Board, place: Place) -> Result<Vec<u32>, RunF
     }
 }
 
-/// Runs what is in the hall by so many workers, and answers how many firings of each actor they finished.
-fn run_hall<K: Asked + Send + Sync, R: Threads + Wait + Sync, G: Told>(
+/// Runs what is behind the lock by so many workers, and answers how many firings of each actor they finished.
+fn run_crew<K: Asked + Send + Sync, R: Threads + Wait + Sync, G: Told>(
     rt: &R,
     alloc: Global,
-    hall: &Hall<K>,
+    monitor: &Monitor<K>,
     actors: u32,
     workers: u32,
     gate: &G,
@@ -276,29 +275,25 @@ fn run_hall<K: Asked + Send + Sync, R: Threads + Wait + Sync, G: Told>(
         places,
     } = make_seats(alloc, actors, workers.saturating_sub(1))?;
     let place = if places.is_empty() {
-        alone(rt, alloc, hall, &board, gate, first)?
+        alone(rt, alloc, monitor, &board, gate, first)?
     } else {
-        in_threads(rt, alloc, hall, &board, gate, first, places)?
+        in_threads(rt, alloc, monitor, &board, gate, first, places)?
     };
     totals_of(alloc, board, place)
 }
 
-/// A hall for the run. What is run comes back where memory runs out.
-fn hall_of<K: Asked>(alloc: Global, request: RunRequest, crew: Crew) -> Result<Hall<K>, Fed>
+/// A monitor for the run. What is run comes back where memory runs out.
+fn monitor_of<K: Asked>(alloc: Global, request: RunRequest, crew: Crew) -> Result<Monitor<K>, Fed>
     requires keeps { request.keeps ≡ K.keeps }
     requires work { request.work ≡ K.work }
     ensures back { IfErr result (IsFedOf request.work) }
 {
-    let mut hints = match request.hints(alloc) {
+    let hints = match request.hints(alloc) {
         Ok(hints) => hints,
         Err(_error) => return Err(request.into_fed()),
     };
     match request.into_floor(alloc) {
-        Ok(floor) => {
-            let floor = RunFloor::new(floor);
-            hints.look_at_all(floor.core());
-            Ok(Hall::new(floor, hints, crew))
-        }
+        Ok(floor) => Ok(Monitor::new(floor, hints, crew)),
         Err(fed) => Err(fed),
     }
 }
@@ -341,8 +336,8 @@ fn outcome_as<K: Asked + Send + Sync, R: Threads + Wait + Sync, G: Told>(
             };
         }
     };
-    let hall: Hall<K> = match hall_of(alloc, request, crew) {
-        Ok(hall) => hall,
+    let monitor: Monitor<K> = match monitor_of(alloc, request, crew) {
+        Ok(monitor) => monitor,
         Err(fed) => {
             return Settled {
                 fed,
@@ -351,10 +346,10 @@ fn outcome_as<K: Asked + Send + Sync, R: Threads + Wait + Sync, G: Told>(
         }
     };
     gate.tell_most(most);
-    match run_hall(rt, alloc, &hall, actors, crew.workers, gate) {
-        Ok(totals) => settle_and_hand_back(alloc, hall.into_floor(), totals.as_slice()),
+    match run_crew(rt, alloc, &monitor, actors, crew.workers, gate) {
+        Ok(totals) => settle_and_hand_back(alloc, monitor.into_floor(), totals.as_slice()),
         Err(fault) => Settled {
-            fed: hall.into_floor().into_fed(),
+            fed: monitor.into_floor().into_fed(),
             outcome: Err(fault),
         },
     }

@@ -5,17 +5,15 @@ ghost use Rattle.csdf_claims.specs.Board.{HasFinished};
 ghost use Rattle.csdf_floor.specs.Floor.{IsReady};
 ghost use Rattle.csdf_floor.specs.declared.fault.RunFault.TheVariants.{Memory};
 ghost use Rattle.csdf_run.specs.Hand.{claim_for, claim_if, claim_in};
-ghost use Rattle.csdf_run.specs.Workers.{CanEnd, HasMade, HoldsJust, HoldsNothing, IsActor, IsStartOf};
+ghost use Rattle.csdf_run.specs.Workers.{HasMade, HoldsJust, HoldsNothing, IsActor, IsBlockOf, IsStartOf};
 
 use crate::claims::{Claim, claim_among, finish, finish_block, give_back};
 use crate::gate::Gate;
 use crate::gave_up::{GaveUp, refused, unevaluated, untaken};
-use crate::hall::{BlockTurn, Hall, JobTurn};
 use crate::hand::Hand;
+use crate::monitor::{Asked, BlockTurn, JobTurn, LastSeen, Made, Monitor, NotStarted};
 use crate::run_end::{EndCause, RunEnd};
-use crate::run_floor::{Asked, Made, NotStarted};
 use crate::told::Told;
-use crate::watched::LastSeen;
 use csdf_claims::{Board, Place};
 use std::alloc::Global;
 use std::sync::Wait;
@@ -31,10 +29,10 @@ pub(crate) struct Ended {
 /// once what is held is delivered. None once all is over, and none beside what is held where the worker
 /// goes on by blocks, each of which begins with nothing in hand.
 fn claim_next<K: Asked>(
-    hall: &Hall<K>,
+    monitor: &Monitor<K>,
     board: &Board,
     place: &mut Place,
-    stand: &LastSeen,
+    seen: &LastSeen,
     beside: Option<Claim>,
     by_blocks: bool,
 ) -> Option<Claim>
@@ -44,16 +42,16 @@ fn claim_next<K: Asked>(
     ensures holds { HoldsJust place.new.view beside result }
     ensures actor { IsActor board.now.actors result }
 {
-    if hall.is_ended() {
+    if monitor.is_ended() {
         return None;
     }
-    if by_blocks && beside.is_some() && hall.has_blocks(stand) {
+    if by_blocks && beside.is_some() && monitor.has_blocks(seen) {
         return None;
     }
-    if let Some(claim) = claim_among(board, place, beside, hall.seen(stand)) {
+    if let Some(claim) = claim_among(board, place, beside, monitor.near(seen)) {
         return Some(claim);
     }
-    claim_among(board, place, beside, stand.next)
+    claim_among(board, place, beside, seen.next)
 }
 
 /// What becomes of a claim once a start was tried: that of a job which was started is held, and one that was
@@ -92,11 +90,11 @@ fn settle_start(
 fn turn<K: Asked, R: Wait, G: Told>(
     rt: &R,
     alloc: Global,
-    hall: &Hall<K>,
+    monitor: &Monitor<K>,
     board: &Board,
     gate: &G,
     place: &mut Place,
-    stand: &mut LastSeen,
+    seen: &mut LastSeen,
     hand: &mut Hand,
     next: Option<Claim>,
 ) -> Result<bool, GaveUp>
@@ -115,7 +113,7 @@ fn turn<K: Asked, R: Wait, G: Told>(
         delivered,
         started,
         wakes,
-    } = hall.turn(rt, alloc, place, stand, hand, next);
+    } = monitor.turn(rt, alloc, place, seen, hand, next);
     let delivered = match delivered {
         Ok(delivered) => delivered,
         Err(why) => return Err(untaken(why)),
@@ -123,7 +121,7 @@ fn turn<K: Asked, R: Wait, G: Told>(
     finish(board, gate, place, delivered, next);
     let answer = settle_start(board, place, next, started, hand);
     if wakes {
-        hall.wake();
+        monitor.wake();
     }
     answer
 }
@@ -173,9 +171,7 @@ fn settle_block<G: Told>(
     requires place { place.old.board ≡ board.now.id }
     requires actor { claim.actor < board.now.actors }
     requires holds { HoldsJust place.old.view (Some claim) beside }
-    requires claim { IfOk made (λ made. made.claim ≡ claim) }
-    requires some { IfOk made (λ made. 0 < made.count) }
-    requires fits { IfOk made (λ made. CanEnd claim made.count) }
+    requires made { IfOk made (IsBlockOf claim) }
     ensures board { place.new.board ≡ board.now.id }
     ensures holds { HoldsJust place.new.view None beside }
 {
@@ -196,11 +192,11 @@ fn settle_block<G: Told>(
 /// True where the last one made some.
 fn make_drafted<K: Asked, R: Wait, G: Told>(
     rt: &R,
-    hall: &Hall<K>,
+    monitor: &Monitor<K>,
     board: &Board,
     gate: &G,
     place: &mut Place,
-    stand: &mut LastSeen,
+    seen: &mut LastSeen,
     hand: &mut Hand,
     claim: Claim,
 ) -> Result<bool, GaveUp>
@@ -215,15 +211,15 @@ fn make_drafted<K: Asked, R: Wait, G: Told>(
     let mut claim = claim;
     for _ in rt.forever() {
         hand.evaluate_draft(gate);
-        let beside = claim_next(hall, board, place, stand, Some(claim), false);
+        let beside = claim_next(monitor, board, place, seen, Some(claim), false);
         let BlockTurn {
             made,
             is_drafted,
             wakes,
-        } = hall.make_drafted(rt, gate, place, stand, hand, claim, beside);
+        } = monitor.make_drafted(rt, gate, place, seen, hand, claim, beside);
         let answer = settle_block(board, gate, place, claim, made, beside);
         if wakes {
-            hall.wake();
+            monitor.wake();
         }
         match beside {
             Some(next) if is_drafted && answer.is_ok() => claim = next,
@@ -240,11 +236,11 @@ fn make_drafted<K: Asked, R: Wait, G: Told>(
 /// where they are heavy. True where some were made.
 fn make<K: Asked, R: Wait, G: Told>(
     rt: &R,
-    hall: &Hall<K>,
+    monitor: &Monitor<K>,
     board: &Board,
     gate: &G,
     place: &mut Place,
-    stand: &mut LastSeen,
+    seen: &mut LastSeen,
     hand: &mut Hand,
     claim: Claim,
 ) -> Result<bool, GaveUp>
@@ -256,15 +252,15 @@ fn make<K: Asked, R: Wait, G: Told>(
     ensures idle { hand.new.is_made ≡ false }
     ensures holds { HoldsJust place.new.view None None }
 {
-    match hall.make(rt, gate, place, stand, hand, claim) {
+    match monitor.make(rt, gate, place, seen, hand, claim) {
         Some(turn) => {
             let answer = settle_block(board, gate, place, claim, turn.made, None);
             if turn.wakes {
-                hall.wake();
+                monitor.wake();
             }
             answer
         }
-        None => make_drafted(rt, hall, board, gate, place, stand, hand, claim),
+        None => make_drafted(rt, monitor, board, gate, place, seen, hand, claim),
     }
 }
 
@@ -273,11 +269,11 @@ fn make<K: Asked, R: Wait, G: Told>(
 fn advance<K: Asked, R: Wait, G: Told>(
     rt: &R,
     alloc: Global,
-    hall: &Hall<K>,
+    monitor: &Monitor<K>,
     board: &Board,
     gate: &G,
     place: &mut Place,
-    stand: &mut LastSeen,
+    seen: &mut LastSeen,
     hand: &mut Hand,
 ) -> Result<bool, GaveUp>
     requires place { place.old.board ≡ board.now.id }
@@ -291,16 +287,16 @@ fn advance<K: Asked, R: Wait, G: Told>(
 {
     let given = hand.claim();
     let is_open = gate.is_open();
-    let next = claim_next(hall, board, place, stand, given, is_open);
+    let next = claim_next(monitor, board, place, seen, given, is_open);
     if given.is_none() {
         let Some(claim) = next else {
             return Ok(false);
         };
-        if is_open && hall.makes_blocks(stand, claim.actor) {
-            return make(rt, hall, board, gate, place, stand, hand, claim);
+        if is_open && monitor.makes_blocks(seen, claim.actor) {
+            return make(rt, monitor, board, gate, place, seen, hand, claim);
         }
     }
-    let is_started = turn(rt, alloc, hall, board, gate, place, stand, hand, next)?;
+    let is_started = turn(rt, alloc, monitor, board, gate, place, seen, hand, next)?;
     if !is_started {
         return Ok(false);
     }
@@ -312,7 +308,7 @@ fn advance<K: Asked, R: Wait, G: Told>(
 pub(crate) fn work<K: Asked, R: Wait, G: Told>(
     rt: &R,
     alloc: Global,
-    hall: &Hall<K>,
+    monitor: &Monitor<K>,
     board: &Board,
     gate: &G,
     place: Place,
@@ -323,16 +319,16 @@ pub(crate) fn work<K: Asked, R: Wait, G: Told>(
     ensures free { IfOk result.answer (λ _. HoldsNothing result.place.view) }
 {
     let mut place = place;
-    let mut stand = hall.stand();
+    let mut seen = monitor.first_seen();
     let mut hand = Hand::new(alloc);
     for _ in rt.forever() {
         let is_idle = hand.claim().is_none();
         match advance(
-            rt, alloc, hall, board, gate, &mut place, &mut stand, &mut hand,
+            rt, alloc, monitor, board, gate, &mut place, &mut seen, &mut hand,
         ) {
             Ok(gets_on) => {
                 if is_idle && !gets_on {
-                    if let Some(end) = hall.wait(rt, &mut stand) {
+                    if let Some(end) = monitor.wait(rt, &mut seen) {
                         return Ended {
                             place,
                             answer: Ok(end),
@@ -341,7 +337,7 @@ pub(crate) fn work<K: Asked, R: Wait, G: Told>(
                 }
             }
             Err(fault) => {
-                hall.give_up(rt, EndCause::GaveUp(&fault));
+                monitor.give_up(rt, EndCause::GaveUp(&fault));
                 return Ended {
                     place,
                     answer: Err(fault),

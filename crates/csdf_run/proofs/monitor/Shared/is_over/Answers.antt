@@ -1,6 +1,6 @@
 use Rattle.std.proofs.Common.{arith, rules}
 use Rattle.std.proofs.lemmas.Grind.{common_steps}
-use Rattle.csdf_run.proofs.watched.Watched.is_over.Goals as goal
+use Rattle.csdf_run.proofs.monitor.Shared.is_over.Goals as goal
 
 pub returns-clause-over : goal.returns-clause-over
 returns-clause-over g c = search rules
