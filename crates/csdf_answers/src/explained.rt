@@ -23,8 +23,7 @@ use csdf_analysis::{
     stall_of, tight_channel,
 };
 use csdf_bytes::Outlet;
-use csdf_graph::{GraphFault, read_graph};
-use csdf_misfits::explain_fault;
+use csdf_graph::{GraphFault, Refusal, read_graph_explained};
 use csdf_model::Graph;
 use std::alloc::{AllocError, Global};
 
@@ -167,23 +166,14 @@ fn push_fault(text: &mut String, fault: GraphFault) -> Result<(), AllocError>
     write!(text, "{told}\n")
 }
 
-/// The line of a fault of a graph file, and more.
-fn fault_text_with(alloc: Global, fault: GraphFault, more: &str) -> Result<String, AllocError>
-    ensures { IfOk result (λ text. string_bytes text ≡ fault_text (fault_of fault) ++ newline ++ more.now) }
-{
-    let mut text = String::new(alloc);
-    push_fault(&mut text, fault)?;
-    text.push_str(more)?;
-    Ok(text)
-}
-
 /// The line of a fault of a graph file, and what else there is to say of it.
-fn tell_fault(alloc: Global, bytes: &[u8], fault: GraphFault) -> Result<String, ToolFault>
-    ensures told { IfOk result (λ text. ExplainsFault fault (string_bytes text)) }
+fn tell_fault(alloc: Global, refusal: &Refusal) -> Result<String, ToolFault>
+    ensures told { IfOk result (λ text. ExplainsFault refusal.now.fault (string_bytes text)) }
     ensures memory { IfErr result (λ fault. fault ≡ ToolFault.Memory) }
 {
-    let more = explain_fault(alloc, bytes, fault)?;
-    let text = fault_text_with(alloc, fault, more.as_str())?;
+    let mut text = String::new(alloc);
+    push_fault(&mut text, refusal.fault)?;
+    text.push_str(&refusal.words)?;
     Ok(text)
 }
 
@@ -192,10 +182,10 @@ fn explanation_of(alloc: Global, bytes: &[u8]) -> Result<String, ToolFault>
     ensures told { IfOk result (λ text. IsExplained bytes.now (Ok (string_bytes text))) }
     ensures memory { IfErr result (λ fault. fault ≡ ToolFault.Memory) }
 {
-    match read_graph(alloc, bytes) {
+    match read_graph_explained(alloc, bytes) {
         Ok(graph) => tell_graph(alloc, graph),
-        Err(GraphFault::Memory) => Err(ToolFault::Memory),
-        Err(fault) => tell_fault(alloc, bytes, fault),
+        Err(refusal) if refusal.fault == GraphFault::Memory => Err(ToolFault::Memory),
+        Err(refusal) => tell_fault(alloc, &refusal),
     }
 }
 

@@ -24,7 +24,6 @@ mod turns;
 mod way;
 mod words;
 
-pub use csdf_misfits::explain_fault;
 pub use described::{describe, describe_as, describe_with_room};
 pub use explained::{explain, explain_with};
 pub use fault::{DeviceName, Lack, Name, ToolFault, unread};

@@ -2,7 +2,9 @@
 use Rattle.std.proofs.Common.{◌≡◌, ℕ, zero, suc, ◌+◌, ◌<◌, ◌==◌, Bool, true, false, cond, ◌⊎◌, inl, inr, List, [], ◌∷◌, length, get_or, slice_get, Option, Some}
 use Rattle.std.proofs.Common.{None, option_map, refl, sym, ap, subst, ◌∙◌, arith}
 use Rattle.std.specs.Prelude.{slice_index}
-use Rattle.std.specs.List.{list_all, range_with_len}
+use Rattle.std.specs.List.{list_all, position_or_len, range_with_len}
+use Rattle.std.specs.Prelude.{is_none}
+use Rattle.std.proofs.Common.{not, ◌&&◌, ltb}
 use Rattle.std.proofs.lemmas.Bool.{cases_Bool, and_parts, and_from, eqb-true, eq-eqb}
 use Rattle.std.proofs.lemmas.Option.{slice_get-map, slice_get-get_or, same_Some}
 use Rattle.std.proofs.lemmas.List.FromFn.{length-range_with_len}
@@ -174,3 +176,22 @@ joined_connected n cs ends joined =
     let len = groups_length n cs in
     all_from (groups_of n cs) (slice_index (groups_of n cs) 0)
     (λ a lt. joined_same cs n a 0 ends (joined a 0 (omega arith) (omega arith)) ∙ slice_get-get_or (groups_of n cs) 0 0 (omega arith))
+
+-- a place is found exactly where some element is not in the group
+pub none_outside : (group : ℕ) (groups : List ℕ)
+    → is_none (cond (ltb (position_or_len (λ g. not (g == group)) groups) (length groups)) (Some (position_or_len (λ g. not (g == group)) groups)) None)
+    ≡ list_all (λ g. g == group) groups
+none_outside group groups = none_by (ltb (position_or_len (λ g. not (g == group)) groups) (length groups)) (position_or_len (λ g. not (g == group)) groups)
+    ∙ none_at groups
+  where
+    none_by : (b : Bool) (i : ℕ) → is_none (cond b (Some i) None) ≡ not b
+    none_by true i = refl
+    none_by false i = refl
+
+    step : (b : Bool) (p l : ℕ) (r : Bool) → not (ltb p l) ≡ r → not (ltb (cond (not (not b)) (1 + p) 0) (suc l)) ≡ (b && r)
+    step true p l r e = grind arith
+    step false p l r e = grind arith
+
+    none_at : (gs : List ℕ) → not (ltb (position_or_len (λ g. not (g == group)) gs) (length gs)) ≡ list_all (λ g. g == group) gs
+    none_at [] = refl
+    none_at (g ∷ gs) = step (g == group) (position_or_len (λ x. not (x == group)) gs) (length gs) (list_all (λ x. x == group) gs) (none_at gs)

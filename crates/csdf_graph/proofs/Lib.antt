@@ -8,3 +8,4 @@ pub mod PassFacts
 pub mod RangeFacts
 pub mod FitLemmas
 pub mod JoinedLemmas
+pub mod ShapeLemmas

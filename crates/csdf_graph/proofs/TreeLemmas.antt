@@ -4,7 +4,9 @@ use Rattle.std.proofs.Common.{String, Global, string_bytes, refl, sym, ap, subst
 use Rattle.std.proofs.lemmas.Iterator.{YieldsList}
 use Rattle.std.proofs.lemmas.Iterator.Consumers.{YieldsList-from_shown}
 use Rattle.std.specs.Map.Iter.{TakesFirst, deref}
-use Rattle.std.specs.List.{list_any, list_all}
+use Rattle.std.specs.List.{list_any, list_all, find}
+use Rattle.std.specs.Prelude.{is_none}
+use Rattle.std.proofs.Common.{true, false, not, cond}
 use Rattle.toml.specs.Data.{Data}
 use Rattle.toml.specs.View.{items_of, members_view}
 use Rattle.toml.specs.declared.value.Value.{Value}
@@ -20,6 +22,24 @@ pub has_only-view : (keys : List (List ℕ)) (es : List (String Global × Value)
     → has_only keys (members_view es) ≡ list_all (λ k. is_among keys (string_bytes k)) (keys_of es)
 has_only-view keys [] = refl
 has_only-view keys (e ∷ es) = ap (λ b. is_among keys (string_bytes e.0) && b) (has_only-view keys es)
+
+-- no key is found that is none of these exactly where the table has no others
+pub none_unlisted : {A : Type 0} (v : A → String Global) (keys : List (List ℕ)) (es : List (String Global × Value)) (found : Option A)
+    → option_map v found ≡ find (λ k. not (is_among keys (string_bytes k))) (keys_of es) → is_none found ≡ has_only keys (members_view es)
+none_unlisted {A = A} v keys es found is = same_none found ∙ ap is_none is ∙ none_found (keys_of es) ∙ sym (has_only-view keys es)
+  where
+    same_none : (o : Option A) → is_none o ≡ is_none (option_map v o)
+    same_none None = refl
+    same_none (Some x) = refl
+
+    step : (b : Bool) (k : String Global) (r : Option (String Global)) → is_none (cond (not b) (Some k) r) ≡ (b && is_none r)
+    step true k r = refl
+    step false k r = refl
+
+    none_found : (ks : List (String Global)) → is_none (find (λ k. not (is_among keys (string_bytes k))) ks) ≡ list_all (λ k. is_among keys (string_bytes k)) ks
+    none_found [] = refl
+    none_found (k ∷ ks) = step (is_among keys (string_bytes k)) k (find (λ j. not (is_among keys (string_bytes j))) ks)
+        ∙ ap (λ b. is_among keys (string_bytes k) && b) (none_found ks)
 
 -- the list that items were made of
 pub data_of_items : (ds : List Data) → data_of (items_of ds) ≡ ds

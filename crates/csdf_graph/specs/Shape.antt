@@ -59,6 +59,14 @@ kernel_of word ms =
     else if is_some (get_member (codes "weights") ms) || is_some (get_member (codes "shift") ms) then None
     else plain_kernel word
 
+-- the kernel of a word, with the weights and the shift that stand beside it
+unfoldable pub kernel_with : List ℕ → Option (List ℤ) → Option ℤ → Option KernelDraft
+kernel_with word weights shift =
+    if bytes_eq word (codes "fir")
+    then option_and_then (λ ws. option_map (λ s. fir ws s) shift) weights
+    else if is_some weights || is_some shift then None
+    else plain_kernel word
+
 abbrev pub actor_keys : List (List ℕ)
 actor_keys = codes "name" ∷ codes "kernel" ∷ codes "phases" ∷ codes "weights" ∷ codes "shift" ∷ []
 

@@ -59,6 +59,9 @@ integers_at key ms = option_and_then (all_some as_integer) (array_at key ms)
 abbrev pub integers_or_none : List ℕ → Members → Option (List ℤ)
 integers_or_none key ms = option_and_then (all_some as_integer) (array_or_none key ms)
 
+abbrev pub optional_integers_at : List ℕ → Members → Option (Option (List ℤ))
+optional_integers_at key ms = found_or None (λ d. option_map Some (option_and_then (all_some as_integer) (elements_of d))) (get_member key ms)
+
 abbrev pub tables_at : List ℕ → Members → Option (List Members)
 tables_at key ms = option_and_then (all_some as_table) (array_at key ms)
 

@@ -1,6 +1,6 @@
 //! Whether all actors are joined by channels, directions ignored.
 
-ghost use Rattle.std.specs.Prelude.{◌≡◌, ◌==◌, map, IfOk, IsTrue, slice_get, ◌↔◌};
+ghost use Rattle.std.specs.Prelude.{◌≡◌, ◌==◌, map, IfOk, IsTrue, is_none, slice_get, ◌↔◌};
 ghost use Rattle.std.specs.List.{list_all, range_with_len};
 ghost use Rattle.csdf_model.specs.Graph.{channel_view};
 ghost use Rattle.csdf_model.specs.Joined.{HasEnds, AreJoined};
@@ -53,32 +53,38 @@ fn groups_of(alloc: Global, count: usize, channels: &[Channel]) -> Result<Vec<us
     Ok(groups)
 }
 
-fn are_all(groups: &[usize], group: usize) -> bool
-    ensures { result ≡ list_all (λ g. g == group) groups.now }
+/// The first that is not in this group.
+fn first_outside(groups: &[usize], group: usize) -> Option<usize>
+    ensures { is_none result ≡ list_all (λ g. g == group) groups.now }
 {
-    groups.iter().all(|g| *g == group)
+    groups.iter().position(|g| *g != group)
 }
 
-/// Whether so many actors end up in one group.
-fn are_one_group(alloc: Global, count: usize, channels: &[Channel]) -> Result<bool, AllocError>
-    ensures { IfOk result (λ b. b ≡ are_one_group count (map channel_view channels.now)) }
-{
-    let groups = groups_of(alloc, count, channels)?;
-    match groups.first() {
-        Some(group) => Ok(are_all(&groups, *group)),
-        None => Ok(true),
-    }
-}
-
-/// Whether any two of so many actors are joined by the channels.
-pub(crate) fn is_connected(
+/// The first of so many actors that does not end up in one group with actor 0.
+fn first_apart(
     alloc: Global,
     count: usize,
     channels: &[Channel],
-) -> Result<bool, AllocError>
-    requires { HasEnds count (map channel_view channels.now) }
-    ensures { IfOk result (λ b. IsTrue b ↔ AreJoined count (map channel_view channels.now)) }
+) -> Result<Option<usize>, AllocError>
+    ensures { IfOk result (λ o. is_none o ≡ are_one_group count (map channel_view channels.now)) }
 {
-    let one = are_one_group(alloc, count, channels)?;
-    Ok(one)
+    let groups = groups_of(alloc, count, channels)?;
+    match groups.first() {
+        Some(group) => Ok(first_outside(&groups, *group)),
+        None => Ok(None),
+    }
+}
+
+/// The first of so many actors that the channels do not join with actor 0, or none where they join
+/// any two.
+pub(crate) fn unjoined(
+    alloc: Global,
+    count: usize,
+    channels: &[Channel],
+) -> Result<Option<usize>, AllocError>
+    requires { HasEnds count (map channel_view channels.now) }
+    ensures { IfOk result (λ o. IsTrue (is_none o) ↔ AreJoined count (map channel_view channels.now)) }
+{
+    let apart = first_apart(alloc, count, channels)?;
+    Ok(apart)
 }

@@ -3,8 +3,8 @@
 ghost use Rattle.std.specs.Prelude.{◌≡◌};
 ghost use Rattle.csdf_graph.specs.declared.fault.GraphFault.TheVariants.{Memory};
 ghost use Rattle.csdf_graph.specs.FaultPlace.{fault_place};
-ghost use Rattle.csdf_graph.specs.Passes.{answer_of};
 
+use crate::misfit::Misfit;
 use std::alloc::{AllocError, AllocFailed};
 use std::fmt;
 use thiserror::Error;
@@ -89,33 +89,43 @@ impl<T: Drop> From<AllocFailed<T>> for GraphFault {
     }
 }
 
-/// Why a table was not read: it has a fault, or memory ran out.
+/// Why a table was not read: a key that does not fit, or memory ran out.
 #[derive(Clone, Copy)]
-pub(crate) enum Unfit {
-    Fault,
+pub(crate) enum Unfit<'a> {
+    Fault(Misfit<'a>),
     Memory,
 }
 
-impl From<AllocError> for Unfit {
-    ghost use Rattle.csdf_graph.specs.declared.fault.Unfit.TheVariants as misfit;
+impl<'a> From<Misfit<'a>> for Unfit<'a> {
+    ghost use Rattle.csdf_graph.specs.declared.fault.Unfit.TheVariants as unfit;
     ghost use Rattle.std.specs.Prelude.{◌≡◌};
 
-    ghost from_gives = { λ _ e. e ≡ misfit.Memory };
+    ghost from_gives = { λ misfit e. e ≡ unfit.Fault misfit };
 
-    fn from(_e: AllocError) -> Unfit {
+    fn from(misfit: Misfit<'a>) -> Unfit<'a> {
+        Unfit::Fault(misfit)
+    }
+}
+
+impl<'a> From<AllocError> for Unfit<'a> {
+    ghost use Rattle.csdf_graph.specs.declared.fault.Unfit.TheVariants as unfit;
+    ghost use Rattle.std.specs.Prelude.{◌≡◌};
+
+    ghost from_gives = { λ _ e. e ≡ unfit.Memory };
+
+    fn from(_e: AllocError) -> Unfit<'a> {
         Unfit::Memory
     }
 }
 
-/// What a reader of one table answered, as the pass over the file tells it: out of shape is this
-/// fault.
-pub(crate) fn answer_of<T>(read: Result<T, Unfit>, fault: GraphFault) -> Result<T, GraphFault>
-    ensures { result ≡ answer_of fault read }
-{
-    match read {
-        Ok(found) => Ok(found),
-        Err(Unfit::Fault) => Err(fault),
-        Err(Unfit::Memory) => Err(GraphFault::Memory),
+impl<'a, T: Drop> From<AllocFailed<T>> for Unfit<'a> {
+    ghost use Rattle.csdf_graph.specs.declared.fault.Unfit.TheVariants as unfit;
+    ghost use Rattle.std.specs.Prelude.{◌≡◌};
+
+    ghost from_gives = { λ _ e. e ≡ unfit.Memory };
+
+    fn from(_e: AllocFailed<T>) -> Unfit<'a> {
+        Unfit::Memory
     }
 }
 

@@ -5,6 +5,7 @@ ghost use Rattle.csdf_graph.specs.GraphText.{IsGraphOf};
 ghost use Rattle.csdf_graph.specs.ScriptText.{script_view, script_of, IsFirstFaultOf};
 
 use crate::fault::GraphFault;
+use crate::notes::Notes;
 use crate::read::{file_of, graph_of};
 use crate::script::Script;
 use crate::script_text::script_in;
@@ -29,8 +30,9 @@ pub fn read_graph_and_script(alloc: Global, bytes: &[u8]) -> Result<GraphAndScri
     ensures fault { IfErr result (λ fault. fault ≢ GraphFault.Memory
         → IsFirstFaultOf bytes.now fault) }
 {
-    let file = file_of(alloc, bytes)?;
-    let graph = graph_of(alloc, &file)?;
-    let script = script_in(alloc, &file)?;
+    let mut notes = Notes::unasked(alloc);
+    let file = file_of(alloc, bytes, &mut notes)?;
+    let graph = graph_of(alloc, &file, &mut notes)?;
+    let script = script_in(alloc, &file, &mut notes)?;
     Ok(GraphAndScript { graph, script })
 }

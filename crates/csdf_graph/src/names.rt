@@ -1,12 +1,14 @@
 //! Names have the right form, and none is used twice.
 
-ghost use Rattle.std.specs.Prelude.{◌≡◌, map, string_bytes};
+ghost use Rattle.std.specs.Prelude.{◌≡◌, map, string_bytes, is_ok};
 ghost use Rattle.std.specs.List.{list_all};
 ghost use Rattle.csdf_graph.specs.Passes.{Gives};
 ghost use Rattle.csdf_model.specs.Names.{is_word_byte, is_name};
 ghost use Rattle.csdf_graph.specs.Names.{is_free, at, names_of};
 
 use crate::fault::{At, GraphFault, fault_place};
+use crate::misfit::{Found, Misfit};
+use crate::notes::Notes;
 use csdf_model::MAX_NAME_BYTES;
 use indexmap::IndexSet;
 use std::alloc::Global;
@@ -19,7 +21,7 @@ pub(crate) enum Kind {
 }
 
 impl Kind {
-    fn at(self, number: u32) -> At
+    pub(crate) fn at(self, number: u32) -> At
         ensures { result ≡ at self number }
     {
         match self {
@@ -54,12 +56,26 @@ pub fn is_name(text: &str) -> bool
     }
 }
 
-/// Whether the text is a name, and none of these.
+/// Checks that the text is a name, and none of those that are taken, which stand earlier among the
+/// names.
 #[tactic(auto, using(crate::proofs::TreeLemmas::list_any_map))]
-fn is_free(name: &str, taken: &IndexSet<String>) -> bool
-    ensures { result ≡ is_free name.now (map string_bytes taken.now.keys) }
+fn check_name<'a>(
+    kind: Kind,
+    names: &'a [&'a str],
+    name: &'a str,
+    taken: &IndexSet<String>,
+) -> Result<(), Misfit<'a>>
+    ensures { is_ok result ≡ is_free name.now (map string_bytes taken.now.keys) }
 {
-    is_name(name) && !taken.contains(name)
+    if !is_name(name) {
+        let words = "a letter, then at most 31 letters, digits or underscores";
+        return Err(Misfit::new("name", Found::Text(name), words));
+    }
+    if taken.contains(name) {
+        let found = Found::Taken(name, kind, names);
+        return Err(Misfit::new("name", found, "a name that no earlier table has"));
+    }
+    Ok(())
 }
 
 /// Names that differ, each with its place as its number.
@@ -83,17 +99,29 @@ impl Names {
 }
 
 /// The names in order, so that each has its place as its number.
-pub(crate) fn numbered(alloc: Global, kind: Kind, names: &[&str]) -> Result<Names, GraphFault>
+pub(crate) fn numbered(
+    alloc: Global,
+    kind: Kind,
+    names: &[&str],
+    notes: &mut Notes,
+) -> Result<Names, GraphFault>
     ensures { Gives (λ n. map string_bytes n.numbers.keys) result (names_of kind (map (λ n. n.now) names.now)) }
 {
     let mut taken = Names {
         numbers: IndexSet::new(alloc),
     };
+    let mut checked = Ok(());
     for (place, name) in names.iter().enumerate() {
-        if !is_free(name, &taken.numbers) {
-            return Err(GraphFault::Name(kind.at(fault_place(place))));
+        match check_name(kind, names, name, &taken.numbers) {
+            Ok(()) => {
+                taken.numbers.insert(String::from_str(alloc, name)?)?;
+            }
+            Err(misfit) => {
+                let fault = GraphFault::Name(kind.at(fault_place(place)));
+                checked = checked.and(Err(notes.refuse(alloc, fault, &misfit)));
+            }
         }
-        taken.numbers.insert(String::from_str(alloc, name)?)?;
     }
+    checked?;
     Ok(taken)
 }

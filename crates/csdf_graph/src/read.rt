@@ -11,11 +11,13 @@ ghost use Rattle.csdf_graph.specs.GraphText.{parts_view, parts_of, unjoined_in, 
 ghost use Rattle.csdf_graph.specs.Shape.{draft_view};
 ghost use Rattle.csdf_graph.specs.Ranges.{file_view};
 
-use crate::checks::{check_phase_lengths, check_ports, check_rates};
-use crate::connected::is_connected;
+use crate::checks::{check_phase_lengths, check_ports, check_rates, name_of};
+use crate::connected::unjoined;
 use crate::fault::GraphFault;
 use crate::links::linked_channels;
+use crate::misfit::{Apart, Unparsed};
 use crate::names::{Kind, Names, numbered};
+use crate::notes::Notes;
 use crate::ranges::{Ranged, range_of};
 use crate::shape::{ActorDraft, ChannelDraft, GraphDraft, draft_of};
 use csdf_model::{Actor, Channel, Graph, MAX_ACTORS};
@@ -36,19 +38,27 @@ fn channel_names<'a>(alloc: Global, drafts: &[ChannelDraft<'a>]) -> Result<Vec<&
 }
 
 #[tactic(auto, using(crate::proofs::ReadLemmas::map_map))]
-fn numbered_actors(alloc: Global, draft: &GraphDraft<'_>) -> Result<Names, GraphFault>
+fn numbered_actors(
+    alloc: Global,
+    draft: &GraphDraft<'_>,
+    notes: &mut Notes,
+) -> Result<Names, GraphFault>
     ensures { Gives (λ n. map string_bytes n.numbers.keys) result (names_of kind.Actor (map (λ a. a.name) (draft_view draft.now).actors)) }
 {
     let names = actor_names(alloc, &draft.actors)?;
-    numbered(alloc, Kind::Actor, &names)
+    numbered(alloc, Kind::Actor, &names, notes)
 }
 
 #[tactic(auto, using(crate::proofs::ReadLemmas::map_map))]
-fn numbered_channels(alloc: Global, draft: &GraphDraft<'_>) -> Result<Names, GraphFault>
+fn numbered_channels(
+    alloc: Global,
+    draft: &GraphDraft<'_>,
+    notes: &mut Notes,
+) -> Result<Names, GraphFault>
     ensures { Gives (λ n. map string_bytes n.numbers.keys) result (names_of kind.Channel (map (λ c. c.name) (draft_view draft.now).channels)) }
 {
     let names = channel_names(alloc, &draft.channels)?;
-    numbered(alloc, Kind::Channel, &names)
+    numbered(alloc, Kind::Channel, &names, notes)
 }
 
 /// Actors and channels that fit each other.
@@ -65,15 +75,16 @@ fn parts_of(
     alloc: Global,
     names: &IndexSet<String>,
     ranged: Ranged<'_>,
+    notes: &mut Notes,
 ) -> Result<JoinedParts, GraphFault>
     requires { length names.now.keys ≤ MAX_ACTORS }
     ensures { Gives parts_view result (parts_of (map string_bytes names.now.keys) (file_view ranged.entry)) }
 {
-    let channels = linked_channels(alloc, names, ranged.channels)?;
+    let channels = linked_channels(alloc, names, ranged.channels, notes)?;
     let actors = ranged.actors;
-    check_phase_lengths(&actors, &channels)?;
-    check_rates(&channels)?;
-    check_ports(&actors, &channels)?;
+    check_phase_lengths(alloc, &actors, &channels, notes)?;
+    check_rates(alloc, &channels, notes)?;
+    check_ports(alloc, &actors, &channels, notes)?;
     Ok(JoinedParts {
         actors,
         channels,
@@ -100,15 +111,17 @@ impl Drop for Named {
 
 /// All checks but the last.
 #[tactic(auto, unfolding(crate::specs::GraphText::unjoined_in))]
-fn named_parts(alloc: Global, file: &Table) -> Result<Named, GraphFault>
+fn named_parts(alloc: Global, file: &Table, notes: &mut Notes) -> Result<Named, GraphFault>
     ensures value { Gives (λ n. parts_view n.parts) result (unjoined_in (table_view file.now)) }
     ensures kept { IfOk result (λ n. IsUnjoined (map string_bytes n.actor_names.numbers.keys) (map string_bytes n.channel_names.numbers.keys) (parts_view n.parts)) }
 {
-    let draft = draft_of(alloc, file)?;
-    let actor_names = numbered_actors(alloc, &draft)?;
-    let channel_names = numbered_channels(alloc, &draft)?;
-    let ranged = range_of(alloc, &draft)?;
-    let parts = parts_of(alloc, &actor_names.numbers, ranged)?;
+    let draft = draft_of(alloc, file, notes)?;
+    let actor_names = numbered_actors(alloc, &draft, notes);
+    let channel_names = numbered_channels(alloc, &draft, notes);
+    let actor_names = actor_names?;
+    let channel_names = channel_names?;
+    let ranged = range_of(alloc, &draft, notes)?;
+    let parts = parts_of(alloc, &actor_names.numbers, ranged, notes)?;
     Ok(Named {
         parts,
         actor_names,
@@ -118,13 +131,15 @@ fn named_parts(alloc: Global, file: &Table) -> Result<Named, GraphFault>
 
 impl Named {
     /// The graph of the parts, where any two of its actors are joined.
-    fn judged(self, alloc: Global) -> Result<Graph, GraphFault>
+    fn judged(self, alloc: Global, notes: &mut Notes) -> Result<Graph, GraphFault>
         requires { IsUnjoined (map string_bytes self.actor_names.numbers.keys) (map string_bytes self.channel_names.numbers.keys) (parts_view self.parts) }
         ensures { Tells itself result (IsJudged (parts_view self.parts)) }
     {
         let parts = &self.parts;
-        if !is_connected(alloc, parts.actors.len(), &parts.channels)? {
-            return Err(GraphFault::NotConnected);
+        if let Some(number) = unjoined(alloc, parts.actors.len(), &parts.channels)? {
+            let (name, first) = (name_of(&parts.actors, number), name_of(&parts.actors, 0));
+            let fault = GraphFault::NotConnected;
+            return Err(notes.refuse(alloc, fault, &Apart(name, first)));
         }
         let Named {
             parts,
@@ -151,21 +166,27 @@ impl Named {
 }
 
 /// The graph of a file.
-pub(crate) fn graph_of(alloc: Global, file: &Table) -> Result<Graph, GraphFault>
+pub(crate) fn graph_of(alloc: Global, file: &Table, notes: &mut Notes) -> Result<Graph, GraphFault>
     ensures { Tells itself result (IsGraphIn (table_view file.now)) }
 {
-    let named = named_parts(alloc, file)?;
-    named.judged(alloc)
+    let named = named_parts(alloc, file, notes)?;
+    named.judged(alloc, notes)
 }
 
 /// The file that the bytes are.
-pub(crate) fn file_of(alloc: Global, bytes: &[u8]) -> Result<Table, GraphFault>
+pub(crate) fn file_of(alloc: Global, bytes: &[u8], notes: &mut Notes) -> Result<Table, GraphFault>
     ensures { Gives table_view result (or_fault NotToml (file_of bytes.now)) }
 {
     match toml::table_from_slice(alloc, bytes) {
         Ok(file) => Ok(file),
         Err(error) if error.is_memory() => Err(GraphFault::Memory),
-        Err(_) => Err(GraphFault::NotToml),
+        Err(error) => {
+            let found = Unparsed {
+                bytes,
+                error: &error,
+            };
+            Err(notes.refuse(alloc, GraphFault::NotToml, &found))
+        }
     }
 }
 
@@ -176,6 +197,7 @@ pub(crate) fn file_of(alloc: Global, bytes: &[u8]) -> Result<Table, GraphFault>
 pub fn read_graph(alloc: Global, bytes: &[u8]) -> Result<Graph, GraphFault>
     ensures { Tells itself result (IsGraphOf bytes.now) }
 {
-    let file = file_of(alloc, bytes)?;
-    graph_of(alloc, &file)
+    let mut notes = Notes::unasked(alloc);
+    let file = file_of(alloc, bytes, &mut notes)?;
+    graph_of(alloc, &file, &mut notes)
 }

@@ -2,14 +2,16 @@
 
 ghost use Rattle.std.specs.Prelude.{◌≡◌, map, option_and_then, string_bytes, IfOk};
 ghost use Rattle.toml.specs.View.{table_view};
-ghost use Rattle.csdf_graph.specs.Passes.{Gives, Reads};
+ghost use Rattle.csdf_graph.specs.Passes.{Finds, Gives, Reads, itself};
 ghost use Rattle.csdf_graph.specs.ScriptText.{script_table, script_draft, draft_view, script_view, optional_within, script_within, script_of, script_in};
 
-use crate::fault::{At, GraphFault, Unfit, answer_of};
-use crate::ranges::number_within;
+use crate::fault::{At, GraphFault, Unfit};
+use crate::misfit::Misfit;
+use crate::notes::Notes;
+use crate::ranges::checked;
 use crate::read::file_of;
 use crate::script::Script;
-use crate::tree::{has_only, integer_or, optional_integer_at, texts_or_none, value_at};
+use crate::tree::{has_only, integer_or, of_kind, optional_integer_at, texts_or_none, value_at};
 use csdf_model::{MAX_FIRINGS, MAX_SCRIPT_LIMIT, MAX_SCRIPT_LINES, MAX_SCRIPT_SUPPLY};
 use std::alloc::{AllocError, Global};
 use toml::Table;
@@ -32,24 +34,14 @@ const DEFAULT_SUPPLY: i64 = MAX_SCRIPT_SUPPLY as i64;
 const SCRIPT_KEYS: [&str; 4] = ["limit", "supply", "firings", "moves"];
 
 #[tactic(auto, unfolding(crate::specs::ScriptText::script_draft))]
-fn draft_of(alloc: Global, table: &Table) -> Result<ScriptDraft<'_>, Unfit>
+fn draft_of(alloc: Global, table: &Table) -> Result<ScriptDraft<'_>, Unfit<'_>>
     ensures { Reads draft_view result (script_draft (table_view table.now)) }
 {
-    if !has_only(table, &SCRIPT_KEYS) {
-        return Err(Unfit::Fault);
-    }
-    let Some(limit) = integer_or(DEFAULT_LIMIT, table, "limit") else {
-        return Err(Unfit::Fault);
-    };
-    let Some(supply) = integer_or(DEFAULT_SUPPLY, table, "supply") else {
-        return Err(Unfit::Fault);
-    };
-    let Some(firings) = optional_integer_at(table, "firings") else {
-        return Err(Unfit::Fault);
-    };
-    let Some(lines) = texts_or_none(alloc, table, "moves")? else {
-        return Err(Unfit::Fault);
-    };
+    has_only(table, &SCRIPT_KEYS, "limit, supply, firings or moves")?;
+    let limit = integer_or(DEFAULT_LIMIT, table, "limit")?;
+    let supply = integer_or(DEFAULT_SUPPLY, table, "supply")?;
+    let firings = optional_integer_at(table, "firings")?;
+    let lines = texts_or_none(alloc, table, "moves")?;
     Ok(ScriptDraft {
         limit,
         supply,
@@ -60,7 +52,7 @@ fn draft_of(alloc: Global, table: &Table) -> Result<ScriptDraft<'_>, Unfit>
 
 /// The script of a file, with its numbers as they stand there.
 #[tactic(auto, unfolding(crate::specs::ScriptText::script_draft))]
-fn file_draft(alloc: Global, file: &Table) -> Result<ScriptDraft<'_>, Unfit>
+fn file_draft(alloc: Global, file: &Table) -> Result<ScriptDraft<'_>, Unfit<'_>>
     ensures { Reads draft_view result (option_and_then script_draft (script_table (table_view file.now))) }
 {
     let Some(value) = value_at(file, "script") else {
@@ -73,17 +65,21 @@ fn file_draft(alloc: Global, file: &Table) -> Result<ScriptDraft<'_>, Unfit>
     };
     match value.as_table() {
         Some(table) => draft_of(alloc, table),
-        None => Err(Unfit::Fault),
+        None => Err(Unfit::Fault(of_kind("script", value, "a table"))),
     }
 }
 
-/// A number that may be absent, else from 0 to `high`.
-fn optional_within(high: u32, number: Option<i64>) -> Option<Option<u32>>
-    ensures { result ≡ optional_within high number }
+/// A number at a key that may be absent, else from 0 to `high`.
+fn optional_within(
+    key: &'static str,
+    high: u32,
+    number: Option<i64>,
+) -> Result<Option<u32>, Misfit<'static>>
+    ensures { Finds itself result (optional_within high number) }
 {
     match number {
-        Some(number) => Some(Some(number_within(0, high, number)?)),
-        None => Some(None),
+        Some(number) => Ok(Some(checked(key, 0, high, number)?)),
+        None => Ok(None),
     }
 }
 
@@ -100,20 +96,15 @@ fn owned(alloc: Global, texts: &[&str]) -> Result<Vec<String>, AllocError>
 
 /// The script, where its numbers and the count of its lines are within their limits.
 #[tactic(auto, unfolding(crate::specs::ScriptText::script_within))]
-fn script_within(alloc: Global, draft: &ScriptDraft<'_>) -> Result<Script, Unfit>
+fn script_within(alloc: Global, draft: &ScriptDraft<'_>) -> Result<Script, Unfit<'static>>
     ensures { Reads script_view result (script_within (draft_view draft.now)) }
 {
-    let Some(limit) = number_within(0, MAX_SCRIPT_LIMIT, draft.limit) else {
-        return Err(Unfit::Fault);
-    };
-    let Some(supply) = number_within(0, MAX_SCRIPT_SUPPLY, draft.supply) else {
-        return Err(Unfit::Fault);
-    };
-    let Some(firings) = optional_within(MAX_FIRINGS, draft.firings) else {
-        return Err(Unfit::Fault);
-    };
-    if draft.lines.len() > MAX_SCRIPT_LINES {
-        return Err(Unfit::Fault);
+    let limit = checked("limit", 0, MAX_SCRIPT_LIMIT, draft.limit)?;
+    let supply = checked("supply", 0, MAX_SCRIPT_SUPPLY, draft.supply)?;
+    let firings = optional_within("firings", MAX_FIRINGS, draft.firings)?;
+    let (count, most) = (draft.lines.len(), MAX_SCRIPT_LINES);
+    if count > most {
+        return Err(Unfit::Fault(Misfit::counted("moves", count, 0, most as i64)));
     }
     let lines = owned(alloc, &draft.lines)?;
     Ok(Script {
@@ -126,11 +117,17 @@ fn script_within(alloc: Global, draft: &ScriptDraft<'_>) -> Result<Script, Unfit
 
 /// The script of a file.
 #[tactic(auto, unfolding(crate::specs::ScriptText::script_in), using(crate::proofs::PassLemmas::gives_read))]
-pub(crate) fn script_in(alloc: Global, file: &Table) -> Result<Script, GraphFault>
+pub(crate) fn script_in(
+    alloc: Global,
+    file: &Table,
+    notes: &mut Notes,
+) -> Result<Script, GraphFault>
     ensures { Gives script_view result (script_in (table_view file.now)) }
 {
-    let draft = answer_of(file_draft(alloc, file), GraphFault::Shape(At::Script))?;
-    answer_of(script_within(alloc, &draft), GraphFault::Range(At::Script))
+    let shape = GraphFault::Shape(At::Script);
+    let draft = notes.answer_of(alloc, shape, file_draft(alloc, file))?;
+    let range = GraphFault::Range(At::Script);
+    notes.answer_of(alloc, range, script_within(alloc, &draft))
 }
 
 /// Reads the table `script` of a graph file, and looks at nothing else of it.
@@ -141,6 +138,7 @@ pub(crate) fn script_in(alloc: Global, file: &Table) -> Result<Script, GraphFaul
 pub fn read_script(alloc: Global, bytes: &[u8]) -> Result<Script, GraphFault>
     ensures { Gives script_view result (script_of bytes.now) }
 {
-    let file = file_of(alloc, bytes)?;
-    script_in(alloc, &file)
+    let mut notes = Notes::unasked(alloc);
+    let file = file_of(alloc, bytes, &mut notes)?;
+    script_in(alloc, &file, &mut notes)
 }

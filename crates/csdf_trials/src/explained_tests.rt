@@ -1,6 +1,5 @@
 use crate::shared::{expect_eq, expect_eq_of};
-use csdf_answers::explain_fault;
-use csdf_graph::{read_graph, read_script};
+use csdf_graph::{GraphFault, Refusal, read_graph_explained, read_script_explained};
 use std::alloc::{AllocError, Global};
 use std::process::Abort;
 use std::test::*;
@@ -127,11 +126,20 @@ const CASES: [Case; 20] = [
     },
 ];
 
+/// The words of a refusal, and want of memory as an error.
+fn words_of(refusal: Refusal) -> Result<String, AllocError> {
+    let Refusal { fault, words } = refusal;
+    if fault == GraphFault::Memory {
+        return Err(AllocError);
+    }
+    Ok(words)
+}
+
 /// What is said of a text that is refused, and nothing of one that is not.
 fn explained(alloc: Global, bytes: &[u8]) -> Result<String, AllocError> {
-    match read_graph(alloc, bytes) {
+    match read_graph_explained(alloc, bytes) {
         Ok(_) => Ok(String::new(alloc)),
-        Err(fault) => explain_fault(alloc, bytes, fault),
+        Err(refusal) => words_of(refusal),
     }
 }
 
@@ -190,9 +198,9 @@ const SCRIPTS: [(&str, &str); 6] = [
 
 /// What is said of a text whose script is refused.
 fn explained_script(alloc: Global, text: &str) -> Result<String, Fail> {
-    match read_script(alloc, text.as_bytes()) {
+    match read_script_explained(alloc, text.as_bytes()) {
         Ok(_) => Err(Fail::from("a script is taken")),
-        Err(fault) => Ok(explain_fault(alloc, text.as_bytes(), fault)?),
+        Err(refusal) => Ok(words_of(refusal)?),
     }
 }
 

@@ -1,15 +1,21 @@
-use Rattle.std.proofs.Common.{map, string_bytes, arith, ◌≡◌, length}
-use Rattle.std.specs.Vec.Iter.{into_iter_items}
+use Rattle.std.proofs.Common.{◌≡◌, [], map, string_bytes, arith}
+use Rattle.std.proofs.lemmas.List.{nil_from_length}
 use Rattle.csdf_model.specs.Graph.{channel_view}
 use Rattle.csdf_graph.specs.Ranges.{ranged_view}
 use Rattle.csdf_graph.specs.Links.{linked_at}
-use Rattle.csdf_graph.proofs.PassLemmas.{each_takes}
+use Rattle.csdf_graph.proofs.PassLemmas.{stands_on, stands_still}
 use Rattle.csdf_graph.proofs.links.linked_channels.Goals as goal
 
-pub loop-channel-preserved : goal.loop-channel-preserved
-loop-channel-preserved c =
-    let place : c.len-place.result ≡ length c.loop-channel.linked.items = omega (arith, c.loop-channel.linked.ok.0) in
-    each_takes (linked_at (map string_bytes c.args.names.now.keys)) ranged_view channel_view c.loop-channel.linked.items c.push.new.self.items
-    (into_iter_items c.loop-channel.channel-iterator) (into_iter_items c.next.new.self)
-    c.in-Some.channel c.in_ok-channel_linked.field-0 c.len-place.result _ place c.in-Some.ensures.steps.0 c.in_ok-channel_linked.ensures
-    c.in_ok-push.ensures.items c.loop-channel.invariant
+pub loop-place-preserved : goal.loop-place-preserved
+loop-place-preserved c =
+    let steps = c.in-Some.ensures.steps in
+    rw (steps.2) (stands_on (linked_at (map string_bytes c.args.names.now.keys)) ranged_view channel_view c.loop-place.place-iterator.count c.in-Some.channel _ _
+    steps.0.0 _ _ _ _ c.loop-place.invariant (rw (steps.1) at c.channel_linked.ensures) c.one_more-linked.ensures)
+
+pub returns : goal.returns
+returns c =
+    let steps = c.in-None.ensures.steps in
+    let rest = c.loop-place.place-iterator.iter.rest in
+    let none : rest.items ≡ [] = nil_from_length rest.items (omega (arith, rest.ok.0, steps.0.0)) in
+    stands_still (linked_at (map string_bytes c.args.names.now.keys)) ranged_view channel_view c.loop-place.place-iterator.count _ none _ _
+    c.loop-place.invariant

@@ -1,21 +1,22 @@
 use Rattle.std.proofs.Common.{sym, ap, ◌∙◌}
-use Rattle.csdf_graph.proofs.NameLemmas.{name_refused, name_taken, keys_grow}
 use Rattle.csdf_graph.specs.declared.fault.GraphFault.TheVariants.{Name}
-use Rattle.std.proofs.Common.{Err}
+use Rattle.std.specs.Prelude.{is_ok}
 use Rattle.csdf_graph.specs.Names.{at}
+use Rattle.csdf_graph.proofs.NameLemmas.{name_refused, name_taken, keys_grow}
 use Rattle.csdf_graph.proofs.names.numbered.Goals as goal
-
-pub returns-then-not-is_free : goal.returns-then-not-is_free
-returns-then-not-is_free c =
-    let stops = name_refused c.args.kind c.args.names.now c.loop-place.place _ _ c.loop-place-test.true c.loop-place.invariant.so_far (sym c.is_free.ensures
-    ∙ c.if-not-is_free.true) c.loop-place.invariant.whole in
-    λ _. stops ∙ ap (λ a. Err (Name a)) (sym (c.at.ensures ∙ ap (at c.args.kind) c.fault_place.ensures))
+use Rattle.csdf_graph.proofs.names.numbered.Goals.{in-Ok+in_ok-from_str-in-Ok+in_ok-insert-in-Ok, in-Err}
 
 pub loop-place-preserved : goal.loop-place-preserved
-loop-place-preserved c =
-    let free = sym c.is_free.ensures ∙ c.if-not-is_free.false in
-    let grown = keys_grow c.loop-place.taken.numbers.keys c.insert.new.self.keys c.in_ok-from_str.field-0 _ c.in_ok-insert.ensures.keys c.in_ok-from_str.ensures.ok
-    free in
-    let step = name_taken c.args.kind c.args.names.now c.loop-place.place _ _ _ c.loop-place-test.true c.loop-place.invariant.so_far free grown
-    c.loop-place.invariant.whole in
-    record { so_far = step.0; whole = step.1 }
+loop-place-preserved c = elim c.match-check_name.branch [
+  | in-Ok+in_ok-from_str-in-Ok+in_ok-insert-in-Ok w ↦
+      let free = sym c.check_name.ensures ∙ ap is_ok w.in-Ok.is in
+      let grown = keys_grow c.loop-place.taken.numbers.keys w.insert.new.self.keys w.in_ok-from_str-in-Ok.field-0 _ w.in_ok-insert-in-Ok.ensures.keys
+      w.in_ok-from_str-in-Ok.ensures.ok free in
+      rw (w.taken-is, w.checked-is) (name_taken c.args.kind c.args.names.now c.loop-place.checked c.loop-place.place _ _ _ c.loop-place-test.true free grown
+      c.loop-place.invariant)
+  | in-Err w ↦
+      let taken = sym c.check_name.ensures ∙ ap is_ok w.in-Err.is in
+      rw (w.taken-is) (name_refused c.args.kind c.args.names.now c.loop-place.checked c.match-check_name.checked c.loop-place.place _ _ w.refuse.result
+      c.loop-place-test.true taken (w.checked-is ∙ w.and-checked.ensures)
+      (λ other. w.refuse.ensures other ∙ ap Name (w.at.ensures ∙ ap (at c.args.kind) w.fault_place.ensures)) c.loop-place.invariant)
+]

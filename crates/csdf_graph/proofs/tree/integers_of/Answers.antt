@@ -9,9 +9,9 @@ use mir.Syntax.{w64}
 
 pub returns-in-None : goal.returns-in-None
 returns-in-None c =
-    all_some-stops as_integer _ _ _ c.loop-value.invariant (view c.value-item.result) _
+    sym (all_some-stops as_integer _ _ _ c.loop-value.invariant (view c.value-item.result) _
     (left_more view c.args.values.now c.loop-value.value-index c.value-item.result c.loop-value-test.true c.value-item.is)
-    (sym c.as_integer.ensures ∙ c.in-None.is)
+    (sym c.as_integer.ensures ∙ c.in-None.is))
 
 pub loop-value-preserved : goal.loop-value-preserved
 loop-value-preserved c =
@@ -22,4 +22,4 @@ loop-value-preserved c =
     (rw (to_z-of_z w64 c.in-Some.integer fits) at c.in_ok-push-in-Some.ensures.items)
 
 pub returns : goal.returns
-returns c = all_some-ends as_integer _ _ _ c.loop-value.invariant (left_none view c.args.values.now c.loop-value.value-index c.loop-value-test.false)
+returns c = sym (all_some-ends as_integer _ _ _ c.loop-value.invariant (left_none view c.args.values.now c.loop-value.value-index c.loop-value-test.false))

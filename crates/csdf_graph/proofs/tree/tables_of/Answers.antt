@@ -7,9 +7,9 @@ use Rattle.csdf_graph.proofs.tree.tables_of.Goals as goal
 
 pub returns-in-None : goal.returns-in-None
 returns-in-None c =
-    all_some-stops as_table _ _ _ c.loop-value.invariant (view c.value-item.result) _
+    sym (all_some-stops as_table _ _ _ c.loop-value.invariant (view c.value-item.result) _
     (left_more view c.args.values.now c.loop-value.value-index c.value-item.result c.loop-value-test.true c.value-item.is)
-    (sym c.as_table.ensures ∙ ap (option_map (λ t. table_view t.now)) c.in-None.is)
+    (sym c.as_table.ensures ∙ ap (option_map (λ t. table_view t.now)) c.in-None.is))
 
 pub loop-value-preserved : goal.loop-value-preserved
 loop-value-preserved c =
@@ -19,4 +19,4 @@ loop-value-preserved c =
     (ap (map (λ t. table_view t.now)) c.in_ok-push-in-Some.ensures.items ∙ map_push (λ t. table_view t.now) c.loop-value.tables.items c.in-Some.table)
 
 pub returns : goal.returns
-returns c = all_some-ends as_table _ _ _ c.loop-value.invariant (left_none view c.args.values.now c.loop-value.value-index c.loop-value-test.false)
+returns c = sym (all_some-ends as_table _ _ _ c.loop-value.invariant (left_none view c.args.values.now c.loop-value.value-index c.loop-value-test.false))

@@ -1,8 +1,8 @@
 //! A key whose value does not fit, in words.
 
-use csdf_graph::At;
+use crate::fault::fault_place;
+use crate::names::Kind;
 use std::fmt;
-use toml::{Table, Value};
 
 /// A number of things, with the words for one and for several.
 #[derive(Clone, Copy)]
@@ -35,8 +35,15 @@ fn write_kind<W: fmt::Write>(
     write!(f, "{something} of kind {kind}")
 }
 
-/// Writes a name that the table at this place has.
-fn write_taken<W: fmt::Write>(f: &mut fmt::Formatter<W>, name: &str, at: At) -> fmt::Result {
+/// Writes a name, and which of those with these names has it.
+fn write_taken<W: fmt::Write>(
+    f: &mut fmt::Formatter<W>,
+    name: &str,
+    kind: Kind,
+    names: &[&str],
+) -> fmt::Result {
+    let first = names.iter().position(|n| *n == name).unwrap_or(usize::MAX);
+    let at = kind.at(fault_place(first));
     write!(f, "{name:?}, the name of {at}")
 }
 
@@ -51,8 +58,8 @@ pub(crate) enum Found<'a> {
     Entry(&'static str),
     Number(i64),
     Text(&'a str),
-    /// A name that the table at this place has.
-    Taken(&'a str, At),
+    /// A name that stands earlier among these names.
+    Taken(&'a str, Kind, &'a [&'a str]),
     /// An array of so many entries.
     Entries(usize),
     Zeros,
@@ -69,7 +76,7 @@ impl fmt::Display for Found<'_> {
             Found::Entry(kind) => write_kind(f, "an entry", kind),
             Found::Number(number) => write!(f, "{number}"),
             Found::Text(text) => write!(f, "{text:?}"),
-            Found::Taken(name, at) => write_taken(f, name, *at),
+            Found::Taken(name, kind, names) => write_taken(f, name, *kind, names),
             Found::Entries(count) => Counted(*count, "entry", "entries").fmt(f),
             Found::Zeros => f.write_str("zeros alone"),
             Found::Ports(inputs, outputs) => write_ports(f, *inputs, *outputs),
@@ -84,7 +91,7 @@ pub(crate) enum Wanted<'a> {
     /// A number from one to another.
     Number(i64, i64),
     /// So many rates, one for each phase of the actor with this name.
-    Rates(i64, &'a str),
+    Rates(usize, &'a str),
 }
 
 impl fmt::Display for Wanted<'_> {
@@ -97,7 +104,7 @@ impl fmt::Display for Wanted<'_> {
     }
 }
 
-/// A key, what stands there, and what is wanted.
+/// A key, what stands there, and what is wanted: a line.
 #[derive(Clone, Copy)]
 pub(crate) struct Misfit<'a> {
     pub(crate) key: &'a str,
@@ -114,51 +121,74 @@ impl<'a> Misfit<'a> {
             wanted: Wanted::Words(words),
         }
     }
+
+    /// A key with a number outside these limits.
+    pub(crate) fn outside(key: &'a str, number: i64, least: i64, most: i64) -> Misfit<'a> {
+        Misfit {
+            key,
+            found: Found::Number(number),
+            wanted: Wanted::Number(least, most),
+        }
+    }
+
+    /// A key with an array whose number of entries is outside these limits.
+    pub(crate) fn counted(key: &'a str, count: usize, least: i64, most: i64) -> Misfit<'a> {
+        Misfit {
+            key,
+            found: Found::Entries(count),
+            wanted: Wanted::Number(least, most),
+        }
+    }
 }
 
 impl fmt::Display for Misfit<'_> {
     fn fmt<W: fmt::Write>(&self, f: &mut fmt::Formatter<W>) -> fmt::Result {
-        write!(
-            f,
-            "{}: found {}, wanted {}",
-            self.key, self.found, self.wanted
-        )
+        let Misfit { key, found, wanted } = self;
+        write!(f, "{key}: found {found}, wanted {wanted}\n")
     }
 }
 
-/// The text at a key.
-pub(crate) fn text_at<'a>(table: &'a Table, key: &str) -> Option<&'a str> {
-    table.get(key)?.as_str()
-}
+/// Two actors that no channels join, the later one before the other.
+#[derive(Clone, Copy)]
+pub(crate) struct Apart<'a>(pub(crate) &'a str, pub(crate) &'a str);
 
-/// The table of a list with this number.
-fn listed_at<'a>(file: &'a Table, list: &str, number: u32) -> Option<&'a Table> {
-    entries_at(file, list).get(number as usize)?.as_table()
-}
-
-/// The list that the table at a place is in, and its number there.
-pub(crate) fn listed(at: At) -> Option<(&'static str, u32)> {
-    match at {
-        At::Actor(number) => Some(("actor", number)),
-        At::Channel(number) => Some(("channel", number)),
-        At::File | At::Script => None,
+impl fmt::Display for Apart<'_> {
+    fn fmt<W: fmt::Write>(&self, f: &mut fmt::Formatter<W>) -> fmt::Result {
+        write!(f, "no channels join {} with {}\n", self.0, self.1)
     }
 }
 
-/// The table at a place.
-pub(crate) fn table_at(file: &Table, at: At) -> Option<&Table> {
-    match at {
-        At::File => Some(file),
-        At::Actor(number) => listed_at(file, "actor", number),
-        At::Channel(number) => listed_at(file, "channel", number),
-        At::Script => file.get("script")?.as_table(),
-    }
+/// Bytes that are no TOML, with what the parser says of them.
+#[derive(Clone, Copy)]
+pub(crate) struct Unparsed<'a> {
+    pub(crate) bytes: &'a [u8],
+    pub(crate) error: &'a toml::de::Error,
 }
 
-/// The entries of the array at a key, none where there is no array.
-pub(crate) fn entries_at<'a>(table: &'a Table, key: &str) -> &'a [Value] {
-    match table.get(key) {
-        Some(Value::Array(entries)) => entries.as_slice(),
-        _ => &[],
+/// The bytes of the line in which this place is.
+fn line_at(bytes: &[u8], place: usize) -> &[u8] {
+    let (before, after) = bytes.split_at(place.min(bytes.len()));
+    let start = match before.iter().rposition(|byte| *byte == b'\n') {
+        Some(newline) => newline + 1,
+        None => 0,
+    };
+    let end = match after.iter().position(|byte| *byte == b'\n') {
+        Some(newline) => before.len() + newline,
+        None => bytes.len(),
+    };
+    &bytes[start..end]
+}
+
+impl fmt::Display for Unparsed<'_> {
+    fn fmt<W: fmt::Write>(&self, f: &mut fmt::Formatter<W>) -> fmt::Result {
+        write!(f, "{}", self.error)?;
+        let place = match self.error.span() {
+            Some(span) => span.start,
+            None => 0,
+        };
+        match str::from_utf8(line_at(self.bytes, place)) {
+            Ok(line) if !line.is_empty() => write!(f, "{line}\n"),
+            _ => Ok(()),
+        }
     }
 }
