@@ -149,6 +149,7 @@ fn room_in(
 }
 
 /// For how many cycles of the actor's phases, of at most so many, the channels at this side let them through.
+#[inline(always)]
 fn let_through(
     plan: &Plan,
     pool: &Pool,

@@ -477,6 +477,7 @@ impl Book {
     }
 
     /// How many tokens the actor's next firing computes from.
+    #[inline(always)]
     pub(crate) fn amount(&self, actor: u32) -> usize
         requires { actor < length self.now.shown.core.plan.sources }
         ensures value { result ≡ amount_of (program self.now.shown.work) actor (count self.now.shown.core.now actor) }

@@ -95,6 +95,7 @@ impl Work {
 
 impl Book {
     /// What the block computes from: what is in the actor's buffer, or for a source the next part of its file.
+    #[inline(always)]
     pub(crate) fn block_inputs(&self, actor: u32, block: Block) -> &[i32]
         requires exists { actor < length self.now.shown.core.plan.sources }
         requires some { 0 < block.firings }
