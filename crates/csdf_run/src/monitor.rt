@@ -166,6 +166,8 @@ pub(crate) struct LastSeen {
     pub(crate) light: u64,
     /// The actors of whom it drafts firings.
     pub(crate) drafted: u64,
+    /// Whether it is to wake another worker, once the claims that have come to their end are ended.
+    pub(crate) wakes: bool,
 }
 
 /// The value behind the lock: a floor that runs what the run asks for, and keeps its journal where the run
@@ -235,7 +237,11 @@ impl<K: Asked> Shared<K> {
     }
 
     /// Starts what is claimed, in the place of what is in hand. False where nothing is.
-    fn start_next(&mut self, next: Option<Claim>, hand: &mut Hand) -> Result<bool, NotStarted>
+    pub(crate) fn start_next(
+        &mut self,
+        next: Option<Claim>,
+        hand: &mut Hand,
+    ) -> Result<bool, NotStarted>
         ensures idle { hand.new.is_made ≡ false }
         ensures started { IfOk result (λ is_started. IsStartOf next is_started hand.new.job) }
     {
@@ -252,7 +258,11 @@ impl<K: Asked> Shared<K> {
     }
 
     /// Gives the floor what is in hand, where something is.
-    fn deliver(&mut self, alloc: Global, hand: &Hand) -> Result<Option<Delivered>, NotTaken>
+    pub(crate) fn deliver(
+        &mut self,
+        alloc: Global,
+        hand: &Hand,
+    ) -> Result<Option<Delivered>, NotTaken>
         ensures claim { IfOk result (λ delivered. delivered ≡ claim_in hand.now) }
         ensures taken { OnOk result (HasTaken hand.now.is_made hand.now.job self.old.floor self.new.floor) }
         ensures untaken { IfErr result (IsUntaken hand.now.is_made hand.now.job self.old.floor) }
@@ -276,7 +286,7 @@ impl<K: Asked> Shared<K> {
     /// Drafts firings of an actor, the claimed one first, where they are heavy. They count as under way, and
     /// nobody looks for the actor, until they are made. Then the worker tends no longer, since it leaves the
     /// lock to evaluate them.
-    fn draft(&mut self, seen: &mut LastSeen, hand: &mut Hand, claim: Claim) -> bool
+    pub(crate) fn draft(&mut self, seen: &mut LastSeen, hand: &mut Hand, claim: Claim) -> bool
         ensures { hand.new ≡ hand.old }
     {
         if !self.policy.looks_at(claim.actor) {
@@ -293,7 +303,12 @@ impl<K: Asked> Shared<K> {
 
     /// Makes firings of an actor one after another, the claimed one first, all of which pass the gate. They
     /// are those of the hand's draft where it was evaluated. Nothing is in hand then.
-    fn make<G: Gate>(&mut self, gate: &G, claim: Claim, hand: &mut Hand) -> Result<Made, NotStarted>
+    pub(crate) fn make<G: Gate>(
+        &mut self,
+        gate: &G,
+        claim: Claim,
+        hand: &mut Hand,
+    ) -> Result<Made, NotStarted>
         requires open { (k : ℕ) → claim.firing ≤ k → G.passed gate.now claim.actor k }
         ensures idle { hand.new.is_made ≡ false }
         ensures answer { IsStartAnswer (start_refusal self.old.floor claim.actor claim.firing) result }
@@ -314,24 +329,14 @@ impl<K: Asked> Shared<K> {
         }
     }
 
-    /// Makes the firings of an actor that were drafted, the claimed one first. Nothing is in hand then.
-    fn make_drafted<G: Gate>(
-        &mut self,
-        gate: &G,
-        claim: Claim,
-        hand: &mut Hand,
-    ) -> Result<Made, NotStarted>
-        requires open { (a k : ℕ) → G.passed gate.now a k }
-        ensures idle { hand.new.is_made ≡ false }
-        ensures made { IfOk result (IsBlockOf claim) }
-    {
+    /// Firings of an actor that were drafted are about to be made, the claimed one first.
+    pub(crate) fn has_drafted(&mut self, claim: Claim) {
         self.running = self.running.saturating_sub(1);
         self.policy.has_drafted(claim.actor);
-        self.make(gate, claim, hand)
     }
 
     /// What a worker knows that has started this job, or none.
-    fn seen(&mut self, tended: bool, started: Option<&Job>) -> LastSeen {
+    pub(crate) fn seen(&mut self, tended: bool, started: Option<&Job>) -> LastSeen {
         LastSeen {
             tends: self.policy.tends(tended, started),
             ready: self.hints.ready(),
@@ -341,6 +346,7 @@ impl<K: Asked> Shared<K> {
             },
             light: self.policy.light(),
             drafted: self.policy.blocks(),
+            wakes: false,
         }
     }
 
@@ -376,24 +382,6 @@ pub(crate) struct Monitor<K: Asked> {
     looking: AtomicU32,
     end: EndWord,
     is_alone: bool,
-}
-
-/// What came of a turn: what was delivered, whether a job was started, and whether another worker is to be
-/// woken.
-#[derive(Drop)]
-pub(crate) struct JobTurn {
-    pub(crate) delivered: Result<Option<Delivered>, NotTaken>,
-    pub(crate) started: Result<bool, NotStarted>,
-    pub(crate) wakes: bool,
-}
-
-/// What came of a hold of the lock in which firings of an actor were made: which these were; whether those of
-/// another one, which was claimed beside it, are drafted; and whether another worker is to be woken.
-#[derive(Drop)]
-pub(crate) struct BlockTurn {
-    pub(crate) made: Result<Made, NotStarted>,
-    pub(crate) is_drafted: bool,
-    pub(crate) wakes: bool,
 }
 
 /// Stores a word where it is another one, so that who reads it is not disturbed for nothing.
@@ -441,7 +429,7 @@ impl<K: Asked> Monitor<K> {
 
     /// Holds the lock. It is held for some microseconds at a time, which is less than it takes to sleep and to
     /// be woken: so a worker looks for it a while before it sleeps.
-    fn hold<R: Wait>(&self, rt: &R) -> MutexGuard<'_, Shared<K>> {
+    pub(crate) fn hold<R: Wait>(&self, rt: &R) -> MutexGuard<'_, Shared<K>> {
         for _ in 0..TRIES {
             if let Some(guard) = self.shared.try_lock() {
                 return guard;
@@ -459,6 +447,7 @@ impl<K: Asked> Monitor<K> {
             next: 0,
             light: if self.is_alone { u64::MAX } else { 0 },
             drafted: 0,
+            wakes: false,
         }
     }
 
@@ -500,7 +489,7 @@ impl<K: Asked> Monitor<K> {
 
     /// Tells where to look, under the lock. True where the teller, who looks for a firing itself or makes one,
     /// is to wake a worker.
-    fn tell(&self, shared: &mut Shared<K>, looks: bool) -> bool {
+    pub(crate) fn tell(&self, shared: &mut Shared<K>, looks: bool) -> bool {
         if self.is_alone {
             return false;
         }
@@ -511,128 +500,6 @@ impl<K: Asked> Monitor<K> {
         shared
             .policy
             .wakes_one(spare, self.looking.load(SeqCst), looks)
-    }
-
-    /// Delivers what is in hand and starts what is claimed, in one hold of the lock.
-    pub(crate) fn turn<R: Wait>(
-        &self,
-        rt: &R,
-        alloc: Global,
-        place: &Place,
-        seen: &mut LastSeen,
-        hand: &mut Hand,
-        next: Option<Claim>,
-    ) -> JobTurn
-        requires given { HasClaim place.now.view (claim_in hand.old) }
-        requires next { HasClaim place.now.view next }
-        ensures idle { hand.new.is_made ≡ false }
-        ensures delivered { IfOk result.delivered (λ delivered. delivered ≡ claim_in hand.old) }
-        ensures started { IfOk result.started (λ is_started. IsStartOf next is_started hand.new.job) }
-    {
-        let _ = place;
-        let mut guard = self.hold(rt);
-        let shared = &mut *guard;
-        let delivered = shared.deliver(alloc, hand);
-        let started = shared.start_next(next, hand);
-        let job = if matches!(&started, Ok(true)) {
-            Some(hand.job())
-        } else {
-            None
-        };
-        *seen = shared.seen(seen.tends, job);
-        let wakes = self.tell(shared, job.is_none());
-        JobTurn {
-            delivered,
-            started,
-            wakes,
-        }
-    }
-
-    /// Drafts firings of an actor that was claimed beside another, where the worker makes blocks of it.
-    fn draft_next(
-        &self,
-        shared: &mut Shared<K>,
-        seen: &mut LastSeen,
-        hand: &mut Hand,
-        next: Option<Claim>,
-    ) -> bool
-        ensures { hand.new ≡ hand.old }
-    {
-        match next {
-            Some(claim) => {
-                self.makes_blocks(seen, claim.actor) && shared.draft(seen, hand, claim)
-            }
-            None => false,
-        }
-    }
-
-    /// Makes the firings of an actor that were drafted and evaluated, the claimed one first, and drafts those
-    /// of another one, which is claimed beside it, in one hold of the lock.
-    pub(crate) fn make_drafted<R: Wait, G: Gate>(
-        &self,
-        rt: &R,
-        gate: &G,
-        place: &Place,
-        seen: &mut LastSeen,
-        hand: &mut Hand,
-        claim: Claim,
-        next: Option<Claim>,
-    ) -> BlockTurn
-        requires open { (a k : ℕ) → G.passed gate.now a k }
-        requires claim { HasClaim place.now.view (Some claim) }
-        requires next { HasClaim place.now.view next }
-        ensures idle { hand.new.is_made ≡ false }
-        ensures made { IfOk result.made (IsBlockOf claim) }
-    {
-        let _ = place;
-        let mut guard = self.hold(rt);
-        let shared = &mut *guard;
-        let made = shared.make_drafted(gate, claim, hand);
-        *seen = shared.seen(seen.tends, None);
-        let is_drafted = self.draft_next(shared, seen, hand, next);
-        let wakes = self.tell(shared, !is_drafted);
-        BlockTurn {
-            made,
-            is_drafted,
-            wakes,
-        }
-    }
-
-    /// Makes firings of an actor one after another, the claimed one first, in one hold of the lock, where
-    /// they are light. All of them pass the gate. Nothing is in hand then. Where they are heavy they are
-    /// drafted, and nothing is answered.
-    pub(crate) fn make<R: Wait, G: Gate>(
-        &self,
-        rt: &R,
-        gate: &G,
-        place: &Place,
-        seen: &mut LastSeen,
-        hand: &mut Hand,
-        claim: Claim,
-    ) -> Option<BlockTurn>
-        requires open { (a k : ℕ) → G.passed gate.now a k }
-        requires claim { HasClaim place.now.view (Some claim) }
-        ensures idle { IfSome result (λ _. hand.new.is_made ≡ false) }
-        ensures drafted { result ≡ None → hand.new ≡ hand.old }
-        ensures made { IfSome result (λ turn. IfOk turn.made (IsBlockOf claim)) }
-    {
-        let _ = place;
-        let mut guard = self.hold(rt);
-        let shared = &mut *guard;
-        if shared.draft(seen, hand, claim) {
-            if self.tell(shared, false) {
-                self.wake();
-            }
-            return None;
-        }
-        let made = shared.make(gate, claim, hand);
-        *seen = shared.seen(seen.tends, None);
-        let wakes = self.tell(shared, true);
-        Some(BlockTurn {
-            made,
-            is_drafted: false,
-            wakes,
-        })
     }
 
     /// Wakes a worker.

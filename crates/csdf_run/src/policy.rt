@@ -20,6 +20,8 @@ const ONE_IN: u32 = 17;
 /// The workers of a run.
 #[derive(Clone, Copy)]
 pub(crate) struct Crew {
+    /// How many actors there are, whose firings they make.
+    pub(crate) actors: u32,
     /// How many there are.
     pub(crate) workers: u32,
     /// How many of them can be busy at a time: as many as there are processors for them.

@@ -21,7 +21,7 @@ use crate::request::RunRequest;
 use crate::run_end::{EndCause, RunEnd, Unstarted};
 use crate::told::{Telling, Told};
 use crate::watch::{Watch, Watching};
-use crate::worker::{Ended, work};
+use crate::worker::{Ended, Site, work};
 use csdf_analysis::{Accepted, Length, Room};
 use csdf_claims::{Board, Place};
 use csdf_floor::{Fed, Outcome, RunFault, Settled, settle_and_hand_back};
@@ -147,37 +147,36 @@ fn place_after(place: Place, answer: Result<RunEnd, GaveUp>) -> Result<Place, Ru
 
 /// Runs a worker at the first place, on the calling thread.
 fn alone<K: Asked, R: Wait, G: Told>(
-    rt: &R,
-    alloc: Global,
-    monitor: &Monitor<K>,
-    board: &Board,
-    gate: &G,
+    site: Site<'_, K, R, G>,
     first: Place,
 ) -> Result<Place, RunFault>
-    requires { (first.board ≡ board.now.id) × HoldsNothing first.view }
-    ensures place { IfOk result (λ p. (p.board ≡ board.now.id) × HoldsNothing p.view) }
+    requires { (first.board ≡ site.board.now.id) × HoldsNothing first.view }
+    ensures place { IfOk result (λ p. (p.board ≡ site.entry.board.now.id) × HoldsNothing p.view) }
     ensures cause { IfErr result (λ fault. fault ≢ Worker) }
 {
-    let Ended { place, answer } = work(rt, alloc, monitor, board, gate, first);
+    let Ended { place, answer } = work(&site, first);
     place_after(place, answer)
 }
 
 /// Runs a worker at the first place on the calling thread, and one at each other place in a thread of its
 /// own, and joins them into the first.
 fn in_threads<K: Asked + Send + Sync, R: Threads + Wait + Sync, G: Told>(
-    rt: &R,
-    alloc: Global,
-    monitor: &Monitor<K>,
-    board: &Board,
-    gate: &G,
+    site: Site<'_, K, R, G>,
     first: Place,
     places: Vec<Place>,
 ) -> Result<Place, RunFault>
-    requires first { (first.board ≡ board.now.id) × HoldsNothing first.view }
-    requires places { All (λ p. (p.board ≡ board.now.id) × HoldsNothing p.view) places.items }
-    ensures place { IfOk result (λ p. (p.board ≡ board.now.id) × HoldsNothing p.view) }
-    ensures threads { IfOk result (TakesIn board.now (length places.items)) }
+    requires first { (first.board ≡ site.board.now.id) × HoldsNothing first.view }
+    requires places { All (λ p. (p.board ≡ site.board.now.id) × HoldsNothing p.view) places.items }
+    ensures place { IfOk result (λ p. (p.board ≡ site.entry.board.now.id) × HoldsNothing p.view) }
+    ensures threads { IfOk result (TakesIn site.entry.board.now (length places.items)) }
 {
+    let Site {
+        rt,
+        alloc,
+        monitor,
+        board,
+        gate,
+    } = site;
     thread::scope(
         thread::scope_env(),
         rt,
@@ -193,7 +192,16 @@ fn in_threads<K: Asked + Send + Sync, R: Threads + Wait + Sync, G: Told>(
                     move || -> Ended
                         requires { (place.board ≡ board.now.id) × HoldsNothing place.view }
                         ensures { IsEndAt board.entry.now result }
-                    { work(rt, alloc, monitor, board, gate, place) },
+                    {
+                        let site = Site {
+                            rt,
+                            alloc,
+                            monitor,
+                            board,
+                            gate,
+                        };
+                        work(&site, place)
+                    },
                 );
                 keep(board, &mut handles, started.ok());
             }
@@ -201,7 +209,14 @@ fn in_threads<K: Asked + Send + Sync, R: Threads + Wait + Sync, G: Told>(
             if threads < count {
                 monitor.give_up(rt, EndCause::Unstarted(Unstarted::of(threads, count)));
             }
-            let Ended { mut place, answer } = work(rt, alloc, monitor, board, gate, first);
+            let site = Site {
+                rt,
+                alloc,
+                monitor,
+                board,
+                gate,
+            };
+            let Ended { mut place, answer } = work(&site, first);
             let answer = join_all(rt, board, &mut place, answer, handles);
             let place = place_after(place, answer)?;
             all_started(threads, count)?;
@@ -256,28 +271,34 @@ fn totals_of(alloc: Global, board: Board, place: Place) -> Result<Vec<u32>, RunF
     }
 }
 
-/// Runs what is behind the lock by so many workers, and answers how many firings of each actor they finished.
+/// Runs what is behind the lock by the crew, and answers how many firings of each actor they finished.
 fn run_crew<K: Asked + Send + Sync, R: Threads + Wait + Sync, G: Told>(
     rt: &R,
     alloc: Global,
     monitor: &Monitor<K>,
-    actors: u32,
-    workers: u32,
+    crew: Crew,
     gate: &G,
 ) -> Result<Vec<u32>, RunFault>
-    requires { actors ≤ MAX_ACTORS }
-    ensures count { IfOk result (λ totals. length totals.items ≡ actors) }
-    ensures cause { IfErr result (IsCauseAmong workers) }
+    requires { crew.actors ≤ MAX_ACTORS }
+    ensures count { IfOk result (λ totals. length totals.items ≡ crew.actors) }
+    ensures cause { IfErr result (IsCauseAmong crew.workers) }
 {
     let Seats {
         board,
         first,
         places,
-    } = make_seats(alloc, actors, workers.saturating_sub(1))?;
+    } = make_seats(alloc, crew.actors, crew.workers.saturating_sub(1))?;
+    let site = Site {
+        rt,
+        alloc,
+        monitor,
+        board: &board,
+        gate,
+    };
     let place = if places.is_empty() {
-        alone(rt, alloc, monitor, &board, gate, first)?
+        alone(site, first)?
     } else {
-        in_threads(rt, alloc, monitor, &board, gate, first, places)?
+        in_threads(site, first, places)?
     };
     totals_of(alloc, board, place)
 }
@@ -322,11 +343,11 @@ fn outcome_as<K: Asked + Send + Sync, R: Threads + Wait + Sync, G: Told>(
     ensures keeps { IfOk result.outcome (λ o. o.journal.keeps ≡ request.keeps) }
 {
     let crew = Crew {
+        actors: request.actors(),
         workers: request.workers(),
         busy: processors(rt),
         may_wait: gate.may_wait(),
     };
-    let actors = request.actors();
     let most = match request.most_firings(alloc) {
         Ok(most) => most,
         Err(_error) => {
@@ -346,7 +367,7 @@ fn outcome_as<K: Asked + Send + Sync, R: Threads + Wait + Sync, G: Told>(
         }
     };
     gate.tell_most(most);
-    match run_crew(rt, alloc, &monitor, actors, crew.workers, gate) {
+    match run_crew(rt, alloc, &monitor, crew, gate) {
         Ok(totals) => settle_and_hand_back(alloc, monitor.into_floor(), totals.as_slice()),
         Err(fault) => Settled {
             fed: monitor.into_floor().into_fed(),

@@ -1,15 +1,12 @@
 use Rattle.std.proofs.lemmas.Grind.{common_steps}
 use Rattle.std.proofs.Common.{rules, arith}
-use Rattle.csdf_run.proofs.worker.turn.Goals as goal
+use Rattle.csdf_run.proofs.worker.Worker.turn.Goals as goal
 
 pub settle_start-answer-requires-clause-holds : goal.settle_start-answer-requires-clause-holds
 settle_start-answer-requires-clause-holds g c = search rules
 
-pub returns-then-wakes-clause-made : goal.returns-then-wakes-clause-made
-returns-then-wakes-clause-made g c = search rules
-
-pub returns-else-wakes-clause-made : goal.returns-else-wakes-clause-made
-returns-else-wakes-clause-made g c = search rules
+pub returns-clause-made : goal.returns-clause-made
+returns-clause-made g c = search rules
 
 pub finish-requires-clause-holds : goal.finish-requires-clause-holds
 finish-requires-clause-holds g c = grind (arith, common_steps)

@@ -1,6 +1,6 @@
 use Rattle.std.proofs.lemmas.Grind.{common_steps}
 use Rattle.std.proofs.Common.{rules, arith}
-use Rattle.csdf_run.proofs.worker.advance.Goals as goal
+use Rattle.csdf_run.proofs.worker.Worker.advance.Goals as goal
 
 pub make-requires-clause-open : goal.make-requires-clause-open
 make-requires-clause-open g c = search rules
