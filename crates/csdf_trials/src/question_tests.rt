@@ -3,7 +3,7 @@
 use crate::shared::{CHAIN, DISAGREEING, STUCK_CYCLE, expect_eq, written_or_line};
 use csdf_analysis::Room;
 use csdf_answers::{
-    Form, Name, Question, Stream, ToolFault, describe, describe_as, describe_with_room, fault_line,
+    Form, Name, Question, DeviceName, ToolFault, describe, describe_as, describe_with_room, fault_line,
     memory_line,
 };
 use csdf_bytes::ToWriter;
@@ -167,7 +167,7 @@ const UNREAD_OBJECT: &str = r#"{"fault":"device: a \"b\\c\"\t\u001fé","status":
 #[test]
 fn texts_are_escaped(rt: HostRuntime) -> Result<(), Fail> {
     let name = Name::new(rt.alloc(), "a \"b\\c\"\t\u{1f}é")?;
-    let fault = ToolFault::Device(Stream::File(name));
+    let fault = ToolFault::Device(DeviceName::File(name));
     expect_told(&rt, Form::Json, &fault, UNREAD_OBJECT)
 }
 

@@ -2,7 +2,7 @@
 
 use crate::core_tests::LOOP;
 use crate::shared::{CHAIN, DISAGREEING, STUCK_CYCLE, expect_eq, line_of, written_or_line};
-use csdf_answers::{Lack, Name, Stream, ToolFault, play_script};
+use csdf_answers::{Lack, Name, DeviceName, ToolFault, play_script};
 use csdf_bytes::{Fused, ToWriter};
 use csdf_graph::{At, GraphFault};
 use std::process::Abort;
@@ -424,12 +424,12 @@ const FAULTS: [(ToolFault, &str, u8); 12] = [
     (ToolFault::Worker, "csdf: run: worker", 3),
     (ToolFault::Memory, "csdf: memory", 3),
     (
-        ToolFault::Device(Stream::Input),
+        ToolFault::Device(DeviceName::Input),
         "csdf: device: standard input",
         3,
     ),
     (
-        ToolFault::Device(Stream::Output),
+        ToolFault::Device(DeviceName::Output),
         "csdf: device: standard output",
         3,
     ),
@@ -490,6 +490,6 @@ fn a_line_beyond_32_bits_is_told_whole(rt: HostRuntime) -> Result<(), Fail> {
 
 #[test]
 fn a_file_that_failed_is_named(rt: HostRuntime) -> Result<(), Fail> {
-    let fault = ToolFault::Device(Stream::File(Name::new(rt.alloc(), "a.toml")?));
+    let fault = ToolFault::Device(DeviceName::File(Name::new(rt.alloc(), "a.toml")?));
     expect_told_once(&rt, fault, "csdf: device: a.toml", 3)
 }
