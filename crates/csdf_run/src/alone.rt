@@ -10,8 +10,8 @@ ghost use Rattle.csdf_floor.specs.Outcome.{IsOutcome};
 ghost use Rattle.csdf_run.specs.Requests.{IsFedOf, IsMostFirings, KnowsMost};
 
 use crate::claims::most_from;
-use crate::hints::Hints;
 use crate::no_outcome::{NoOutcome, Ran};
+use crate::ready_set::ReadySet;
 use crate::request::RunRequest;
 use crate::told::Told;
 use csdf_analysis::mask::lowest;
@@ -27,11 +27,11 @@ struct Bench {
     outputs: Outputs,
 }
 
-/// Makes firings of the actor, as many as go in one call, and tells the hints and the gate of them. It answers
+/// Makes firings of the actor, as many as go in one call, and tells the ready set and the gate of them. It answers
 /// how many they are: none where it can't make one. An error says that memory ran out.
 fn make_some<G: Told>(
     floor: &mut Floor,
-    hints: &mut Hints,
+    ready: &mut ReadySet,
     actor: u32,
     bench: &mut Bench,
     gate: &G,
@@ -42,20 +42,20 @@ fn make_some<G: Told>(
     ensures told { IfOk result (λ n. 0 < n → G.knows_made gate.now n) }
 {
     if actor >= floor.core().actors() {
-        hints.refused(actor);
+        ready.refused(actor);
         return Ok(0);
     }
     let firing = floor.core().fired(actor);
     let most = most_from(firing);
     match floor.make(actor, firing, most, &mut bench.counts, &mut bench.outputs) {
         Ok(count) => {
-            hints.made(floor.core(), actor);
+            ready.made(floor.core(), actor);
             gate.tell_made(count);
             Ok(count)
         }
         Err(StartFault::Memory) => Err(AllocError),
         Err(_) => {
-            hints.refused(actor);
+            ready.refused(actor);
             Ok(0)
         }
     }
@@ -67,7 +67,7 @@ fn make_all<R: Wait, G: Told>(
     rt: &R,
     alloc: Global,
     floor: &mut Floor,
-    hints: &mut Hints,
+    ready: &mut ReadySet,
     gate: &G,
 ) -> Result<(), AllocError>
     ensures keeps { floor.new.keeps ≡ floor.old.keeps }
@@ -79,12 +79,12 @@ fn make_all<R: Wait, G: Told>(
         outputs: Outputs::new(alloc),
     };
     for _ in rt.forever() {
-        if let Some(actor) = lowest(hints.ready()) {
-            let _made = make_some(floor, hints, actor, &mut bench, gate)?;
+        if let Some(actor) = lowest(ready.actors()) {
+            let _made = make_some(floor, ready, actor, &mut bench, gate)?;
         } else if floor.core().is_quiet() {
             return Ok(());
         } else {
-            hints.look_at_all(floor.core());
+            ready.look_at_all(floor.core());
         }
     }
     unreachable!()
@@ -110,14 +110,14 @@ fn told_of(settled: Settled) -> Ran
     }
 }
 
-/// How many firings a request makes at most, and hints for its graph. An error says that memory ran out.
-fn prepared(alloc: Global, request: &RunRequest) -> Result<(u64, Hints), AllocError>
+/// How many firings a request makes at most, and the ready set of its graph. An error says that memory ran out.
+fn prepared(alloc: Global, request: &RunRequest) -> Result<(u64, ReadySet), AllocError>
     ensures most { IfOk result (λ made. IsMostFirings request.now.work made.0) }
     ensures accepted { IsAccepted request.now.work.accepted }
 {
     let most = request.most_firings(alloc)?;
-    let hints = request.hints(alloc)?;
-    Ok((most, hints))
+    let ready = request.ready_set(alloc)?;
+    Ok((most, ready))
 }
 
 /// What a request comes to that is carried out by the calling thread alone. The gate lets every firing through.
@@ -133,7 +133,7 @@ pub(crate) fn outcome_alone<R: Wait, G: Told>(
     ensures most { IfOk result.outcome (KnowsMost (G.knows_most gate.now) request.work) }
     ensures keeps { IfOk result.outcome (λ o. o.journal.keeps ≡ request.keeps) }
 {
-    let (most, mut hints) = match prepared(alloc, &request) {
+    let (most, mut ready) = match prepared(alloc, &request) {
         Ok(prepared) => prepared,
         Err(_error) => {
             return Ran {
@@ -152,8 +152,8 @@ pub(crate) fn outcome_alone<R: Wait, G: Told>(
         }
     };
     gate.tell_most(most);
-    hints.look_at_all(floor.core());
-    match make_all(rt, alloc, &mut floor, &mut hints, gate) {
+    ready.look_at_all(floor.core());
+    match make_all(rt, alloc, &mut floor, &mut ready, gate) {
         Ok(()) => told_of(floor.into_settled(alloc)),
         Err(_error) => Ran {
             fed: floor.into_fed(),

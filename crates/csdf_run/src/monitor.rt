@@ -15,8 +15,8 @@ use crate::actors::bit_of;
 use crate::claims::{Claim, most_from};
 use crate::gate::Gate;
 use crate::hand::Hand;
-use crate::hints::Hints;
 use crate::policy::{Crew, HEAVY_BLOCK, Policy};
+use crate::ready_set::ReadySet;
 use crate::run_end::{EndCause, EndWord, Quiet, RunEnd};
 use csdf_claims::Place;
 use csdf_floor::{DeliverFault, Floor, StartFault};
@@ -175,7 +175,7 @@ pub(crate) struct LastSeen {
 #[derive(Drop)]
 pub(crate) struct Shared<K: Asked> {
     floor: Floor,
-    hints: Hints,
+    ready: ReadySet,
     running: u32,
     policy: Policy,
     of: PhantomData<K>,
@@ -187,34 +187,12 @@ impl<K: Asked> Model for Shared<K> {
 
     ghost Value = { SharedView };
 
-    ghost view = { λ s. record { floor = s.floor; ready = s.hints.ready; running = s.running } };
+    ghost view = { λ s. record { floor = s.floor; ready = s.ready.ready; running = s.running } };
 
     ghost invariant = { λ s. (s.floor.keeps ≡ K.keeps) × (s.floor.work ≡ K.work) };
 }
 
 impl<K: Asked> Shared<K> {
-    fn new(floor: Floor, hints: Hints, crew: Crew) -> Shared<K>
-        requires keeps { floor.keeps ≡ K.keeps }
-        requires work { floor.work ≡ K.work }
-    {
-        Shared {
-            floor,
-            hints,
-            running: 0,
-            policy: Policy::new(crew),
-            of: PhantomData,
-        }
-    }
-
-    /// The floor itself.
-    fn into_floor(self) -> Floor
-        ensures keeps { result.keeps ≡ K.keeps }
-        ensures work { result.work ≡ K.work }
-    {
-        let Shared { floor, .. } = self;
-        floor
-    }
-
     /// Starts the claimed firing, with its job in the place of the one in hand.
     fn start(&mut self, claim: Claim, hand: &mut Hand) -> Result<(), NotStarted>
         ensures answer { IsStartAnswer (start_refusal self.old.floor claim.actor claim.firing) result }
@@ -226,11 +204,11 @@ impl<K: Asked> Shared<K> {
         match hand.start(&mut self.floor, actor, claim.firing) {
             Ok(()) => {
                 self.running = self.running.saturating_add(1);
-                self.hints.started(self.floor.core(), actor);
+                self.ready.started(self.floor.core(), actor);
                 Ok(())
             }
             Err(fault) => {
-                self.hints.refused(actor);
+                self.ready.refused(actor);
                 Err(NotStarted { fault })
             }
         }
@@ -275,7 +253,7 @@ impl<K: Asked> Shared<K> {
             return Err(NotTaken { fault });
         }
         self.running = self.running.saturating_sub(1);
-        self.hints.delivered(self.floor.core(), job.actor);
+        self.ready.delivered(self.floor.core(), job.actor);
         let claim = Claim {
             actor: job.actor,
             firing: job.firing,
@@ -319,11 +297,11 @@ impl<K: Asked> Shared<K> {
         let most = most_from(claim.firing);
         match hand.make(&mut self.floor, gate, claim, most) {
             Ok(count) => {
-                self.hints.made(self.floor.core(), claim.actor);
+                self.ready.made(self.floor.core(), claim.actor);
                 Ok(Made { claim, count })
             }
             Err(fault) => {
-                self.hints.refused(claim.actor);
+                self.ready.refused(claim.actor);
                 Err(NotStarted { fault })
             }
         }
@@ -339,33 +317,33 @@ impl<K: Asked> Shared<K> {
     pub(crate) fn seen(&mut self, tended: bool, started: Option<&Job>) -> LastSeen {
         LastSeen {
             tends: self.policy.tends(tended, started),
-            ready: self.hints.ready(),
+            ready: self.ready.actors(),
             next: match started {
-                Some(job) => self.hints.after(job.actor),
+                Some(job) => self.ready.after(job.actor),
                 None => 0,
             },
-            light: self.policy.light(),
-            drafted: self.policy.blocks(),
+            light: self.policy.light,
+            drafted: self.policy.blocks,
             wakes: false,
         }
     }
 
     /// That no firing is under way and none can begin, where it is so. The core, which looks at all actors,
-    /// is asked only where no firing is under way and no actor is hinted; if one can begin all the same, all
-    /// that can are hinted from then on.
+    /// is asked only where no firing is under way and the ready set is empty; if one can begin all the same, all
+    /// that can are in it from then on.
     fn is_over(&mut self) -> Option<Quiet>
         ensures floor { self.new.floor ≡ self.old.floor }
         ensures over { IsSome result → IsQuiet self.new.floor.core.plan self.new.floor.core.now }
         ensures looked { self.old.running ≡ 0 → self.old.ready ≡ 0 → IsNone result
             → (a : ℕ) → a < MAX_ACTORS → CanBegin self.new.floor.core a → IsIn self.new.ready a }
     {
-        if self.running != 0 || self.hints.ready() != 0 {
+        if self.running != 0 || self.ready.actors() != 0 {
             return None;
         }
         if self.floor.core().is_quiet() {
             return Some(Quiet::of(self.floor.core()));
         }
-        self.hints.look_at_all(self.floor.core());
+        self.ready.look_at_all(self.floor.core());
         None
     }
 }
@@ -400,18 +378,24 @@ fn pause() {
 
 impl<K: Asked> Monitor<K> {
     /// Of a floor on which a worker has looked at no actor.
-    pub(crate) fn new(floor: Floor, hints: Hints, crew: Crew) -> Monitor<K>
+    pub(crate) fn new(floor: Floor, ready: ReadySet, crew: Crew) -> Monitor<K>
         requires keeps { floor.keeps ≡ K.keeps }
         requires work { floor.work ≡ K.work }
     {
-        let mut hints = hints;
-        hints.look_at_all(floor.core());
-        let ready = hints.ready();
+        let mut ready = ready;
+        ready.look_at_all(floor.core());
+        let actors = ready.actors();
         Monitor {
-            shared: Mutex::new(Shared::new(floor, hints, crew)),
+            shared: Mutex::new(Shared {
+                floor,
+                ready,
+                running: 0,
+                policy: Policy::new(crew),
+                of: PhantomData,
+            }),
             changed: Condvar::new(),
-            ready: AtomicU64::new(ready),
-            spare: AtomicU64::new(ready),
+            ready: AtomicU64::new(actors),
+            spare: AtomicU64::new(actors),
             looking: AtomicU32::new(0),
             end: EndWord::new(),
             is_alone: crew.is_alone(),
@@ -424,7 +408,8 @@ impl<K: Asked> Monitor<K> {
         ensures work { result.work ≡ K.work }
     {
         let Monitor { shared, .. } = self;
-        shared.into_inner().into_floor()
+        let Shared { floor, .. } = shared.into_inner();
+        floor
     }
 
     /// Holds the lock. It is held for some microseconds at a time, which is less than it takes to sleep and to
@@ -493,7 +478,7 @@ impl<K: Asked> Monitor<K> {
         if self.is_alone {
             return false;
         }
-        let ready = shared.hints.ready();
+        let ready = shared.ready.actors();
         let spare = shared.policy.spare(ready);
         put(&self.ready, shared.policy.undrafted(ready));
         put(&self.spare, spare);
@@ -539,7 +524,7 @@ impl<K: Asked> Monitor<K> {
         shared.policy.rests(seen.tends);
         seen.tends = false;
         let over = shared.is_over();
-        seen.ready = shared.hints.ready();
+        seen.ready = shared.ready.actors();
         if let Some(quiet) = over {
             return Some(self.end(EndCause::Quiet(quiet)));
         }
@@ -549,17 +534,12 @@ impl<K: Asked> Monitor<K> {
         None
     }
 
-    /// The end of the run, where it has ended or all is over.
-    fn seen_or_rest<R: Wait>(&self, rt: &R, seen: &mut LastSeen) -> Option<RunEnd> {
-        match self.end.get() {
-            Some(end) => Some(end),
-            None => self.rest(rt, seen),
-        }
-    }
-
     /// Waits until something is spare. The end of the run, where there is nothing more to do.
     pub(crate) fn wait<R: Wait>(&self, rt: &R, seen: &mut LastSeen) -> Option<RunEnd> {
-        if let Some(end) = self.seen_or_rest(rt, seen) {
+        if let Some(end) = self.end.get() {
+            return Some(end);
+        }
+        if let Some(end) = self.rest(rt, seen) {
             return Some(end);
         }
         if self.is_alone {

@@ -37,13 +37,6 @@ impl Crew {
     }
 }
 
-/// Whether a firing is worth waking a worker for.
-#[derive(Clone, Copy, PartialEq, Eq)]
-enum Weight {
-    Light,
-    Heavy,
-}
-
 /// Which actors are heavy, whether a worker tends, how many sleep, and how many were woken and have not
 /// looked yet. All of it changes under the lock alone.
 ///
@@ -73,8 +66,10 @@ enum Weight {
 #[derive(Drop)]
 pub(crate) struct Policy {
     heavy: u64,
-    light: u64,
-    blocks: u64,
+    /// The actors that are light.
+    pub(crate) light: u64,
+    /// The actors of whom firings were drafted.
+    pub(crate) blocks: u64,
     drafted: u64,
     drafting: u32,
     busy: u32,
@@ -86,17 +81,13 @@ pub(crate) struct Policy {
     is_alone: bool,
 }
 
-/// How heavy the firing of a job is.
-fn weight_of(job: &Job) -> Weight {
+/// Whether the firing of a job is worth waking a worker for.
+fn is_heavy(job: &Job) -> bool {
     let each = match job.kernel {
         Kernel::Fir { taps, .. } => taps as usize,
         _ => 1,
     };
-    if job.inputs.len().saturating_mul(each) >= HEAVY {
-        Weight::Heavy
-    } else {
-        Weight::Light
-    }
+    job.inputs.len().saturating_mul(each) >= HEAVY
 }
 
 impl Policy {
@@ -118,48 +109,31 @@ impl Policy {
         }
     }
 
-    /// How heavy the job that is started is, which is kept for its actor's next firing.
-    fn weigh(&mut self, job: &Job) -> Weight {
-        let weight = if self.may_wait {
-            Weight::Heavy
-        } else {
-            weight_of(job)
-        };
+    /// Whether the job that is started is heavy, which is kept for its actor's next firing.
+    fn weighs(&mut self, job: &Job) -> bool {
+        let is_heavy = self.may_wait || is_heavy(job);
         let bit = bit_of(job.actor);
-        match weight {
-            Weight::Heavy => {
-                self.heavy |= bit;
-                self.light &= !bit;
-            }
-            Weight::Light => {
-                self.heavy &= !bit;
-                self.light |= bit;
-            }
+        if is_heavy {
+            self.heavy |= bit;
+            self.light &= !bit;
+        } else {
+            self.heavy &= !bit;
+            self.light |= bit;
         }
-        weight
+        is_heavy
     }
 
     /// Whether a worker tends from now on that has started this job, or none: it does unless the job is
     /// heavy or another worker tends.
     pub(crate) fn tends(&mut self, tended: bool, started: Option<&Job>) -> bool {
-        let weight = match started {
-            Some(job) => self.weigh(job),
-            None => Weight::Light,
+        let is_heavy = match started {
+            Some(job) => self.weighs(job),
+            None => false,
         };
         let another_tends = self.is_tended && !tended;
-        let tends = weight == Weight::Light && !another_tends;
+        let tends = !is_heavy && !another_tends;
         self.is_tended = tends || another_tends;
         tends
-    }
-
-    /// The actors that are light.
-    pub(crate) fn light(&self) -> u64 {
-        self.light
-    }
-
-    /// The actors of whom firings were drafted.
-    pub(crate) fn blocks(&self) -> u64 {
-        self.blocks
     }
 
     /// Whether to look if the actor's next firings are heavy: where some of them were, and else not each

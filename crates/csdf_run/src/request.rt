@@ -7,9 +7,9 @@ ghost use Rattle.csdf_floor.specs.Work.{AreFeeds, HasFewFirings, feeds_in};
 ghost use Rattle.csdf_run.specs.Requests.{IsFedOf, IsMostFirings};
 ghost use Rattle.csdf_run.specs.Texts.{GoesOnFor, MayGoOnOver, work_for};
 
-use crate::hints::Hints;
 use crate::options::RunOptions;
 use crate::periods::periods_of;
+use crate::ready_set::ReadySet;
 use csdf_analysis::most_firings;
 use csdf_floor::{Fed, Floor, RunBounds};
 use csdf_model::MAX_ACTORS;
@@ -158,9 +158,9 @@ impl RunRequest {
         }
     }
 
-    /// Hints for its graph, which tell of no actor yet.
-    pub(crate) fn hints(&self, alloc: Global) -> Result<Hints, AllocError> {
-        Hints::new(alloc, &self.fed.accepted)
+    /// A ready set for its graph, in which there is no actor yet.
+    pub(crate) fn ready_set(&self, alloc: Global) -> Result<ReadySet, AllocError> {
+        ReadySet::new(alloc, &self.fed.accepted)
     }
 
     /// What is run, handed back.

@@ -309,12 +309,12 @@ fn monitor_of<K: Asked>(alloc: Global, request: RunRequest, crew: Crew) -> Resul
     requires work { request.work ≡ K.work }
     ensures back { IfErr result (IsFedOf request.work) }
 {
-    let hints = match request.hints(alloc) {
-        Ok(hints) => hints,
+    let ready = match request.ready_set(alloc) {
+        Ok(ready) => ready,
         Err(_error) => return Err(request.into_fed()),
     };
     match request.into_floor(alloc) {
-        Ok(floor) => Ok(Monitor::new(floor, hints, crew)),
+        Ok(floor) => Ok(Monitor::new(floor, ready, crew)),
         Err(fed) => Err(fed),
     }
 }

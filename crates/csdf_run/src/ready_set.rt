@@ -16,7 +16,7 @@ use std::alloc::{AllocError, Global};
 /// A bit for each actor that may be able to begin, one for each whose last start was not refused, and whom
 /// the moves of each may enable.
 #[derive(Drop)]
-pub(crate) struct Hints {
+pub(crate) struct ReadySet {
     ready: u64,
     apt: u64,
     producers: Vec<u64>,
@@ -104,16 +104,16 @@ fn able_among(core: &Core, mask: u64) -> u64
     able
 }
 
-impl Hints {
+impl ReadySet {
     /// Of a graph; none is told yet.
-    pub(crate) fn new(alloc: Global, accepted: &Accepted) -> Result<Hints, AllocError>
-        ensures producers { IfOk result (λ h. AreProducers accepted.now.graph.channels (length accepted.now.graph.actors) h.producers.items) }
-        ensures consumers { IfOk result (λ h. AreConsumers accepted.now.graph.channels (length accepted.now.graph.actors) h.consumers.items) }
+    pub(crate) fn new(alloc: Global, accepted: &Accepted) -> Result<ReadySet, AllocError>
+        ensures producers { IfOk result (λ r. AreProducers accepted.now.graph.channels (length accepted.now.graph.actors) r.producers.items) }
+        ensures consumers { IfOk result (λ r. AreConsumers accepted.now.graph.channels (length accepted.now.graph.actors) r.consumers.items) }
     {
         let graph = accepted.graph();
         let producers = all_producers(alloc, graph)?;
         let consumers = all_consumers(alloc, graph)?;
-        Ok(Hints {
+        Ok(ReadySet {
             ready: 0,
             apt: u64::MAX,
             producers,
@@ -123,7 +123,7 @@ impl Hints {
     }
 
     /// The actors that may be able to begin.
-    pub(crate) fn ready(&self) -> u64
+    pub(crate) fn actors(&self) -> u64
         ensures { result ≡ self.now.ready }
     {
         self.ready

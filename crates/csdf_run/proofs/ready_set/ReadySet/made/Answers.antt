@@ -1,6 +1,6 @@
 use Rattle.std.proofs.Common.{arith}
 use Rattle.std.proofs.lemmas.Grind.{common_steps}
-use Rattle.csdf_run.proofs.hints.Hints.made.Goals as goal
+use Rattle.csdf_run.proofs.ready_set.ReadySet.made.Goals as goal
 
 pub returns-clause-producers : goal.returns-clause-producers
 returns-clause-producers c = grind (arith, common_steps)

@@ -1,6 +1,6 @@
 use Rattle.std.proofs.Common.{arith}
 use Rattle.std.proofs.lemmas.Grind.{common_steps}
-use Rattle.csdf_run.proofs.hints.Hints.new.Goals as goal
+use Rattle.csdf_run.proofs.ready_set.ReadySet.new.Goals as goal
 
 pub returns-clause-producers : goal.returns-clause-producers
 returns-clause-producers c = grind (arith, common_steps)

@@ -1,6 +1,6 @@
 use Rattle.std.proofs.Common.{arith}
 use Rattle.std.proofs.lemmas.Grind.{common_steps}
-use Rattle.csdf_run.proofs.hints.all_consumers.Goals as goal
+use Rattle.csdf_run.proofs.ready_set.all_consumers.Goals as goal
 
 pub loop-actor-preserved : goal.loop-actor-preserved
 loop-actor-preserved c = record { count = grind (arith, common_steps); masks = grind (arith, common_steps) }

@@ -1,7 +1,7 @@
 use Rattle.std.proofs.Common.{◌⊎◌, ℕ}
 use Rattle.csdf_analysis.specs.Waking.{IsIn}
 use Rattle.csdf_run.specs.Looking.{CanBegin}
-use Rattle.csdf_run.proofs.hints.able_among.Given as goal
+use Rattle.csdf_run.proofs.ready_set.able_among.Given as goal
 
 abbrev pub invariant-loop-actor : goal.invariant-loop-actor
 invariant-loop-actor l = record {

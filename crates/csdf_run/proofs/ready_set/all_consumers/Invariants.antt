@@ -1,9 +1,9 @@
 use Rattle.std.proofs.Common.{◌≡◌, length}
-use Rattle.csdf_run.specs.Looking.{AreProducers}
-use Rattle.csdf_run.proofs.hints.all_producers.Given as goal
+use Rattle.csdf_run.specs.Looking.{AreConsumers}
+use Rattle.csdf_run.proofs.ready_set.all_consumers.Given as goal
 
 abbrev pub invariant-loop-actor : goal.invariant-loop-actor
 invariant-loop-actor l = record {
   count : length l.masks.items ≡ l.actor;
-  masks : AreProducers l.graph.channels l.actor l.masks.items;
+  masks : AreConsumers l.graph.channels l.actor l.masks.items;
 }

@@ -1,7 +1,7 @@
 use Rattle.std.proofs.Common.{inl, inr, subst, sym}
 use Rattle.csdf_analysis.specs.Waking.{IsIn}
 use Rattle.csdf_run.specs.Looking.{CanBegin}
-use Rattle.csdf_run.proofs.hints.able_among.Goals as goal
+use Rattle.csdf_run.proofs.ready_set.able_among.Goals as goal
 
 pub with_able-able-requires : goal.with_able-able-requires
 with_able-able-requires c = c.in-Some.ensures.few
