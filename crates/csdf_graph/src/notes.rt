@@ -115,6 +115,16 @@ impl Notes {
         }
     }
 
+    /// What a pass answered. Where memory ran out for it, not all is noted.
+    pub(crate) fn heeded<T>(&mut self, pass: Result<T, GraphFault>) -> Result<T, GraphFault>
+        ensures { result ≡ pass }
+    {
+        if let Err(GraphFault::Memory) = &pass {
+            self.lacks_memory = true;
+        }
+        pass
+    }
+
     /// Whether memory ran out, so that something may not be noted.
     pub(crate) fn lack_memory(&self) -> bool {
         self.lacks_memory

@@ -118,6 +118,7 @@ fn named_parts(alloc: Global, file: &Table, notes: &mut Notes) -> Result<Named, 
     let draft = draft_of(alloc, file, notes)?;
     let actor_names = numbered_actors(alloc, &draft, notes);
     let channel_names = numbered_channels(alloc, &draft, notes);
+    let channel_names = notes.heeded(channel_names);
     let actor_names = actor_names?;
     let channel_names = channel_names?;
     let ranged = range_of(alloc, &draft, notes)?;

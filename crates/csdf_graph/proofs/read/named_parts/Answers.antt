@@ -12,7 +12,7 @@ pub returns-clause-kept : goal.returns-clause-kept
 returns-clause-kept c =
     parts_fit _ _ _ _ _ (range_fits _ _ c.in_ok-ranged.ensures)
     (names_are kind.Actor _ _ c.in_ok-actor_names.ensures)
-    (names_are kind.Channel _ _ c.in_ok-channel_names.ensures)
+    (names_are kind.Channel _ _ (rw (← c.in_ok-channel_names.ensures) at c.numbered_channels-channel_names.ensures))
     (names_kept kind.Actor _ _ c.in_ok-actor_names.ensures)
-    (names_kept kind.Channel _ _ c.in_ok-channel_names.ensures)
+    (names_kept kind.Channel _ _ (rw (← c.in_ok-channel_names.ensures) at c.numbered_channels-channel_names.ensures))
     c.in_ok-parts.ensures
