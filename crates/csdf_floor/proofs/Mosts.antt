@@ -1,7 +1,7 @@
 -- An honest journal begins no more firings than the greatest counts that fit.
-use Rattle.std.proofs.Common.{◌≡◌, ℕ, zero, suc, ◌+◌, ◌*◌, ◌<◌, ◌≤◌, ◌==◌, ◌&&◌, nat_lt, nat_le, cond, inl, inr, List, [], ◌∷◌, length, map, get_or, set}
+use Rattle.std.proofs.Common.{◌≡◌, ℕ, zero, suc, ◌+◌, ◌*◌, ◌<◌, ◌≤◌, ◌==◌, ◌&&◌, nat_lt, cond, inl, inr, List, [], ◌∷◌, length, map, get_or, set}
 use Rattle.std.proofs.Common.{replicate, refl, ap, sym, subst, ◌∙◌, arith, Bool, true, false, not, Option, Some, None}
-use Rattle.std.specs.Prelude.{ℤ, IfSome, count_by, slice_get, slice_index, sum, sum_by}
+use Rattle.std.specs.Prelude.{ℤ, IfSome, count_by, slice_get, sum, sum_by}
 use Rattle.std.specs.List.{zip, AllByRecursion}
 use Rattle.std.proofs.lemmas.Bool.{ltb-false, leb-false}
 use Rattle.std.proofs.lemmas.Bool.Decides.{eqb_tells}
@@ -11,7 +11,7 @@ use Rattle.std.proofs.lemmas.Option.{slice_get_within}
 use Rattle.csdf_model.specs.Graph as graph
 use Rattle.csdf_model.specs.Rates.{total}
 use Rattle.csdf_analysis.specs.Acceptance.{Accepted, IsAccepted}
-use Rattle.csdf_analysis.specs.Most.{AreFitting, AreMost, FitsActor, FitsChannel, given_by, given_to, is_source_at}
+use Rattle.csdf_analysis.specs.Most.{AreFitting, AreMost, FitsActor, FitsChannel, given_by, given_to}
 use Rattle.csdf_analysis.specs.Period.{fired}
 use Rattle.csdf_analysis.proofs.CountLemmas.{fired_length, fired_more, fired_other, fired_same, total_mono}
 use Rattle.csdf_core.specs.declared.stage.Stage.{Stage}
@@ -21,15 +21,15 @@ use Rattle.csdf_core.specs.Moves.{Move}
 use Rattle.csdf_core.specs.Moves.{Begin, Read, Write, Finish, Close}
 use Rattle.csdf_core.specs.Plan.{Channel, Plan}
 use Rattle.csdf_core.specs.Planned.{with_capacity, is_source_kernel}
-use Rattle.csdf_core.specs.State.{State, Present, present, opening}
+use Rattle.csdf_core.specs.State.{State, present, opening}
 use Rattle.csdf_core.specs.Step.{begun_count, is_reached, is_stage, given, refusal, accepted, after, state_after}
 use Rattle.csdf_core.proofs.Able.{IsAble, IsAbleAt, later}
 use Rattle.csdf_core.proofs.Booked.{IsBooked}
 use Rattle.csdf_core.proofs.Kept.{begins, reads, writes, finishes}
-use Rattle.csdf_floor.specs.Journal.{Program, program_for, no_reads, reads_after, state_of, IsHonest, IsHonestFrom}
+use Rattle.csdf_floor.specs.Journal.{Program, program_for, no_reads, reads_after, state_of, IsHonestFrom}
 use Rattle.csdf_floor.specs.Laws.{begun}
-use Rattle.csdf_floor.specs.Most.{BeginsAtMost, IsMostFirings, StaysWithinMost, no_more_than}
-use Rattle.csdf_floor.specs.Work.{Work, program}
+use Rattle.csdf_floor.specs.Most.{BeginsAtMost, StaysWithinMost, no_more_than}
+use Rattle.csdf_floor.specs.Work.{program}
 use Rattle.csdf_floor.proofs.Bounds.{after_is, faithful_after, faithful_end}
 use Rattle.csdf_floor.proofs.Faithful.{IsFaithful, faithful_opening}
 use Rattle.csdf_floor.proofs.Standings.{IsTop, at, stands_end}
