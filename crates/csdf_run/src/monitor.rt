@@ -1,6 +1,6 @@
 //! What the workers share behind one lock, and how they meet there.
 
-ghost use Rattle.std.specs.Prelude.{◌≡◌, ◌<◌, ◌≤◌, ◌++◌, ℕ, Bool, IfErr, IfOk, IfSome, IsNone, IsSome, None, OnOk, Some, false, true};
+ghost use Rattle.std.specs.Prelude.{◌≡◌, ◌<◌, ◌≤◌, ◌++◌, ℕ, Bool, IfErr, IfOk, IsNone, IsSome, OnOk, false, true};
 ghost use Rattle.csdf_analysis.specs.Waking.{IsIn};
 ghost use Rattle.csdf_core.specs.Step.{IsQuiet};
 ghost use Rattle.csdf_floor.specs.Floor.{HasGone, IsReady, IsStartAnswer, start_refusal};
@@ -9,7 +9,7 @@ ghost use Rattle.csdf_floor.specs.Work.{Work};
 ghost use Rattle.csdf_run.specs.Hand.{claim_for, claim_in};
 ghost use Rattle.csdf_run.specs.Looking.{CanBegin};
 ghost use Rattle.csdf_run.specs.Requests.{no_work};
-ghost use Rattle.csdf_run.specs.Workers.{HasClaim, HasTaken, IsBlockOf, IsStartOf, IsUntaken};
+ghost use Rattle.csdf_run.specs.Workers.{HasTaken, IsBlockOf, IsStartOf, IsUntaken};
 
 use crate::actors::bit_of;
 use crate::claims::{Claim, most_from};
