@@ -1,5 +1,5 @@
 -- How many firings a run makes at most, as it is told.
-use Rattle.std.proofs.Common.{◌≡◌, ℕ, ◌≤◌, Result, Ok, Err, arith, sum}
+use Rattle.std.proofs.Common.{ℕ, ◌≤◌, Result, Ok, Err, arith}
 use Rattle.std.specs.Prelude.{IfOk}
 use Rattle.csdf_analysis.specs.Acceptance.{IsAccepted}
 use Rattle.csdf_core.specs.State.{present}
@@ -10,7 +10,7 @@ use Rattle.csdf_floor.specs.Most.{IsMostFirings}
 use Rattle.csdf_floor.specs.Outcome.{IsOutcome, journal_in}
 use Rattle.csdf_floor.specs.Work.{Work, program}
 use Rattle.csdf_floor.proofs.Mosts.{begins_at_most}
-use Rattle.csdf_run.specs.Requests.{KnowsMost, firings_made}
+use Rattle.csdf_run.specs.Requests.{KnowsMost}
 
 -- an outcome has made no more
 knows_most : (knows : ℕ → Type 0) (w : Work) (most : ℕ) (o : Outcome) → IsAccepted w.accepted → IsMostFirings w most → knows most → IsOutcome w o

@@ -1,6 +1,6 @@
 //! What a run is asked for.
 
-ghost use Rattle.std.specs.Prelude.{◌≡◌, ◌≤◌, ℕ, IfErr, IfOk, length, map, sum};
+ghost use Rattle.std.specs.Prelude.{◌≡◌, ◌≤◌, ℕ, IfErr, IfOk, length, map};
 ghost use Rattle.csdf_analysis.specs.Acceptance.{IsAccepted};
 ghost use Rattle.csdf_journal.specs.View.{is_kept};
 ghost use Rattle.csdf_floor.specs.Work.{AreFeeds, HasFewFirings, feeds_in};
@@ -63,18 +63,6 @@ fn lengths_of(alloc: Global, feeds: &[Vec<i32>]) -> Result<Vec<usize>, AllocErro
         lengths.push(feed.len())?;
     }
     Ok(lengths)
-}
-
-/// The firings of all actors together.
-fn sum_of(counts: &[u32]) -> u64
-    requires { length counts.now ≤ MAX_ACTORS }
-    ensures { result ≡ sum counts.now }
-{
-    let mut all: u64 = 0;
-    for count in counts {
-        all += u64::from(*count);
-    }
-    all
 }
 
 impl RunRequest {
@@ -151,7 +139,10 @@ impl RunRequest {
         let _graph = accepted.graph();
         let tokens = lengths_of(alloc, &self.fed.feeds)?;
         let counts = most_firings(alloc, accepted, self.periods, &tokens)?;
-        let all = sum_of(&counts);
+        let mut all: u64 = 0;
+        for count in &counts {
+            all += u64::from(*count);
+        }
         match self.options.firings {
             Some(most) if u64::from(most) < all => Ok(u64::from(most)),
             _ => Ok(all),

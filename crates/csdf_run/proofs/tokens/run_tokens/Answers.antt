@@ -1,6 +1,6 @@
 use Rattle.std.proofs.Common.{◌≡◌, Bool, ap, inr, subst, ◌∙◌}
 use Rattle.std.specs.Prelude.{IfErr, IfOk}
-use Rattle.std.proofs.lemmas.Result.{IfErr-weaker, IfOk-weaker}
+use Rattle.std.proofs.lemmas.Result.{IfOk-weaker}
 use Rattle.csdf_analysis.specs.Acceptance.{Accepted}
 use Rattle.csdf_floor.specs.Outcome.{IsOutcome}
 use Rattle.csdf_floor.specs.Work.{Work, feeds_in}
