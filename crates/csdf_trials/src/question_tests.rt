@@ -3,8 +3,8 @@
 use crate::shared::{CHAIN, DISAGREEING, STUCK_CYCLE, expect_eq, written_or_line};
 use csdf_analysis::Room;
 use csdf_answers::{
-    Form, Name, Question, DeviceName, ToolFault, describe, describe_as, describe_with_room, fault_line,
-    memory_line,
+    DeviceName, Form, Name, Question, ToolFault, describe, describe_as, describe_with_room,
+    fault_line, memory_line,
 };
 use csdf_bytes::ToWriter;
 use std::process::Abort;

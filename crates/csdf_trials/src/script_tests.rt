@@ -2,7 +2,7 @@
 
 use crate::core_tests::LOOP;
 use crate::shared::{CHAIN, DISAGREEING, STUCK_CYCLE, expect_eq, line_of, written_or_line};
-use csdf_answers::{Lack, Name, DeviceName, ToolFault, play_script};
+use csdf_answers::{DeviceName, Lack, Name, ToolFault, play_script};
 use csdf_bytes::{Fused, ToWriter};
 use csdf_graph::{At, GraphFault};
 use std::process::Abort;
