@@ -31,6 +31,11 @@ producer_within n [] c ends lt = absurd (omega arith)
 producer_within n (d ∷ cs) zero ends lt = ends.0.0
 producer_within n (d ∷ cs) (suc c) ends lt = producer_within n cs c ends.1 (omega arith)
 
+pub consumer_within : (n : ℕ) (cs : List Channel) (c : ℕ) → HaveEnds n cs → c < length cs → slice_index (map (λ (channel : Channel). channel.to) cs) c < n
+consumer_within n [] c ends lt = absurd (omega arith)
+consumer_within n (d ∷ cs) zero ends lt = ends.0.1
+consumer_within n (d ∷ cs) (suc c) ends lt = consumer_within n cs c ends.1 (omega arith)
+
 pub held-chains : (chains : List (List Held)) → sum_by length (map held_tokens chains) ≡ sum_by length chains
 held-chains [] = refl
 held-chains (x ∷ chains) =

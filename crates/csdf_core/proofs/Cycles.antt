@@ -5,6 +5,7 @@ use Rattle.std.specs.List.{zip, AllByRecursion}
 use Rattle.std.proofs.Math.Nat.{suc-mul, mul-add, mul-le-mul_right, mul-le-mul_left, add-mod_right, mod-add-div'}
 use Rattle.std.proofs.lemmas.Bool.Decides.{eqb_tells}
 use Rattle.csdf_model.specs.Rates.{rate}
+use Rattle.csdf_core.specs.declared.side.Side.TheVariants.{Input, Output}
 use Rattle.csdf_core.specs.Blocks.{gifts_of, needs_of, takes_at, gives_at, capacity_at}
 use Rattle.csdf_core.specs.Engine.{FindsIn, FindsOut, FindsNext, GoesRound, IsHeld, HasRoom}
 use Rattle.csdf_core.specs.Phases.{HasPhases}
@@ -15,13 +16,13 @@ use Rattle.csdf_core.specs.Rows.{Row, need, gift}
 use Rattle.csdf_core.specs.State.{Present}
 use Rattle.csdf_core.specs.Step.{count, held, reserved}
 use Rattle.csdf_core.specs.declared.stage.Stage.{Stage}
-use Rattle.csdf_core.proofs.BlockPorts.{by_places, both}
+use Rattle.csdf_core.proofs.BlockPorts.{by_places}
 use Rattle.csdf_core.proofs.Lanes.{own_give_at, own_give}
 use Rattle.csdf_core.proofs.Finds.{sums, took, gave, FindsFor}
-use Rattle.csdf_core.proofs.OnePhase.{take_is, give_is, sum_same}
-use Rattle.csdf_core.proofs.OwnChannels.{ins_there, ins_own, outs_there, outs_own}
+use Rattle.csdf_core.proofs.OnePhase.{take_is, give_is}
+use Rattle.csdf_core.proofs.OwnChannels.{moved_alike}
 use Rattle.csdf_core.proofs.PhaseLemmas.{of_own}
-use Rattle.csdf_core.proofs.PortLemmas.{own_take, own_take_none, need_is, gift_is}
+use Rattle.csdf_core.proofs.PortLemmas.{own_take, own_take_none}
 
 -- ---- sums of a function
 module _ (f : ℕ → ℕ) where
@@ -115,18 +116,10 @@ module _ (cs : List Channel) (a p : ℕ) (has : HasPhases cs a p) where
   give_round c lt from j = give_is cs (j + p) c lt ∙ rate_round (produce_at cs c) p j (has.gives c lt from) ∙ sym (give_is cs j c lt)
 
   need_round : (j : ℕ) → need a (j + p) cs ≡ need a j cs
-  need_round j =
-      sym (need_is a (j + p) cs)
-      ∙ sum_same (take_at cs (j + p)) (take_at cs j) (inputs_at cs a)
-      (both (inputs_at cs a) (λ c (lt : c < length cs) (to : to_at cs c ≡ a). take_round c lt to j) (ins_there cs a) (ins_own cs a))
-      ∙ need_is a j cs
+  need_round j = moved_alike Input cs a (j + p) j (λ c lt to. rate_round (consume_at cs c) p j (has.takes c lt to))
 
   gift_round : (j : ℕ) → gift a (j + p) cs ≡ gift a j cs
-  gift_round j =
-      sym (gift_is a (j + p) cs)
-      ∙ sum_same (give_at cs (j + p)) (give_at cs j) (outputs_at cs a)
-      (both (outputs_at cs a) (λ c (lt : c < length cs) (from : from_at cs c ≡ a). give_round c lt from j) (outs_there cs a) (outs_own cs a))
-      ∙ gift_is a j cs
+  gift_round j = moved_alike Output cs a (j + p) j (λ c lt from. rate_round (produce_at cs c) p j (has.gives c lt from))
 
   pub gifts_cycles : (k m : ℕ) → gifts_of cs a k (m * p) ≡ m * gifts_of cs a k p
   gifts_cycles k m = gifts_sums cs a k (m * p) ∙ cycles (λ j. gift a j cs) p gift_round k m ∙ ap (λ x. m * x) (sym (gifts_sums cs a k p))

@@ -21,10 +21,9 @@ use Rattle.csdf_core.proofs.BlockReads.{fronts_more}
 use Rattle.csdf_core.proofs.BlockTokens.{taken_fronts, reads_same, length-fronts, one_read}
 use Rattle.csdf_core.proofs.FeedbackMoves.{m4, four, finds4}
 use Rattle.csdf_core.proofs.OnePhase.{same_takes, same_gives, same_gift, takes_times, sum_same}
-use Rattle.csdf_core.proofs.PhaseLemmas.{numbers_own}
+use Rattle.csdf_core.proofs.OwnChannels.{ins_own, ins_there}
 use Rattle.csdf_core.proofs.FeedbackTokens.{asks_other, all_there, state_after, other_after, state_before, ins_all}
-use Rattle.csdf_core.proofs.PortLemmas.{need_is, numbers_within}
-use Rattle.std.proofs.lemmas.List.Elements.{recursion_from_All}
+use Rattle.csdf_core.proofs.PortLemmas.{need_is}
 use Rattle.std.proofs.lemmas.List.Sums.{sum_by-cons}
 
 front_of : (P : ℕ → Type 0) (xs ys : List ℕ) → AllByRecursion P (xs ++ ys) → AllByRecursion P xs
@@ -166,13 +165,9 @@ of_other P (Some c) all = all.0
 pub other_there : (cs : List Channel) (a own : ℕ) (is_first : Bool) (other : Option ℕ) → inputs_at cs a ≡ in_order is_first own (others_of other)
     → IfSome other (λ c. (c < length cs) × (to_at cs c ≡ a))
 other_there cs a own is_first other order =
-    let within : AllByRecursion (λ c. c < length cs) (inputs_at cs a) =
-    recursion_from_All (λ c. c < length cs) (inputs_at cs a) (numbers_within (λ (c : Channel). c.to == a) cs) in
-    let mine : AllByRecursion (λ c. to_at cs c ≡ a) (inputs_at cs a) =
-    recursion_from_All (λ c. to_at cs c ≡ a) (inputs_at cs a) (numbers_own (λ (c : Channel). c.to) a cs) in
     of_other (λ c. (c < length cs) × (to_at cs c ≡ a)) other (of_others (λ c. (c < length cs) × (to_at cs c ≡ a)) is_first own (others_of other)
     (subst (AllByRecursion (λ c. (c < length cs) × (to_at cs c ≡ a))) order
-    (both (inputs_at cs a) (λ c (lt : c < length cs) (e : to_at cs c ≡ a). (lt, e)) within mine)))
+    (both (inputs_at cs a) (λ c (lt : c < length cs) (e : to_at cs c ≡ a). (lt, e)) (ins_there cs a) (ins_own cs a))))
 
 before_same_of : (f g : ℕ → ℕ) (ns : List ℕ) (own : ℕ) → AllByRecursion (λ c. f c ≡ g c) ns → before_of f ns own ≡ before_of g ns own
 before_same_of f g [] own same = refl

@@ -6,7 +6,6 @@ use Rattle.std.specs.List.{AllByRecursion}
 use Rattle.std.proofs.lemmas.Bool.{eq-eqb, ne_eqb}
 use Rattle.std.proofs.lemmas.Bool.Decides.{eqb_tells}
 use Rattle.std.proofs.lemmas.List.{drop_all, length-drop, length-take-le}
-use Rattle.std.proofs.lemmas.List.Elements.{recursion_from_All}
 use Rattle.std.proofs.lemmas.List.Sums.{sum_by-cons}
 use Rattle.csdf_model.specs.Graph.{numbers_from}
 use Rattle.csdf_model.specs.Rates.{rate}
@@ -29,8 +28,8 @@ use Rattle.csdf_core.proofs.BlockTokens.{left_at, length-left}
 use Rattle.csdf_core.proofs.Joined.{joined_other}
 use Rattle.csdf_core.proofs.Lanes.{own_give_at, given_before, joined_part, part_within, own_give}
 use Rattle.csdf_core.proofs.OnePhase.{rate_one, take_is, give_is}
-use Rattle.csdf_core.proofs.PhaseLemmas.{numbers_own}
-use Rattle.csdf_core.proofs.PortLemmas.{first_short, first_full, own_take, numbers_within}
+use Rattle.csdf_core.proofs.OwnChannels.{ins_own, ins_there}
+use Rattle.csdf_core.proofs.PortLemmas.{first_short, first_full, own_take}
 
 -- ---- what is asked of the channel to itself, and of the others
 asks_own : (cs : List Channel) (own k n : ℕ) → asks_at cs own k n own ≡ take_at cs k own
@@ -148,17 +147,8 @@ module _ (plan : Plan) (a own : ℕ) (keeps : KeepsState plan a own) where
       ap (before_of (give_at cs k) outs) (let z : own ≡ 0 + own = omega arith in z)
       ∙ before_is a k cs 0 own (give_at cs k) (λ j lt. ap (give_at cs k) (let z : 0 + j ≡ j = omega arith in z)) keeps.there keeps.from_it
 
-  outs_own_there : AllByRecursion (λ c. c < length cs) outs
-  outs_own_there = recursion_from_All (λ c. c < length cs) outs (numbers_within (λ (c : Channel). c.from == a) cs)
-
-  ins_there : AllByRecursion (λ c. c < length cs) ins
-  ins_there = recursion_from_All (λ c. c < length cs) ins (numbers_within (λ (c : Channel). c.to == a) cs)
-
-  ins_own : AllByRecursion (λ c. to_at cs c ≡ a) ins
-  ins_own = recursion_from_All (λ c. to_at cs c ≡ a) ins (numbers_own (λ (c : Channel). c.to) a cs)
-
   pub ins_all : AllByRecursion (λ c. (c < length cs) × (to_at cs c ≡ a)) ins
-  ins_all = both ins (λ c (lt : c < length cs) (e : to_at cs c ≡ a). (lt, e)) ins_there ins_own
+  ins_all = both ins (λ c (lt : c < length cs) (e : to_at cs c ≡ a). (lt, e)) (ins_there cs a) (ins_own cs a)
 
   -- each input holds what the next firing takes
   pub all_there : (k n : ℕ) (ts : List (List ℤ)) → HoldAll ts (asks_at cs own k (suc n)) ins

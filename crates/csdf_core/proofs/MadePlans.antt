@@ -1,20 +1,23 @@
 -- What a core keeps of an accepted graph can be played.
-use Rattle.std.proofs.Common.{◌≡◌, ℕ, suc, ◌*◌, ◌<◌, ◌≤◌, List, [], ◌∷◌, length, map, refl, ◌∙◌, sym, arith, Option, Some, None}
+use Rattle.std.proofs.Common.{◌≡◌, ℕ, suc, ◌*◌, ◌==◌, ◌<◌, ◌≤◌, List, [], ◌∷◌, length, map, refl, ◌∙◌, sym, arith, Option, Some, None}
 use Rattle.std.specs.Prelude.{All, sum, sum_by, unwrap_or, IfSome}
 use Rattle.std.specs.List.{zip, AllByRecursion}
 use Rattle.std.proofs.lemmas.List.{length-map}
 use Rattle.std.proofs.lemmas.List.Sums.{sum_by-cons, sum_by-le}
-use Rattle.std.proofs.lemmas.List.Elements.{recursion_from_All}
+use Rattle.std.proofs.lemmas.List.Elements.{All-from_recursion, recursion_from_All}
 use Rattle.csdf_model.specs.Graph as graph
-use Rattle.csdf_model.specs.Graph.{Graph, inputs_of, outputs_of}
+use Rattle.csdf_model.specs.Graph.{Graph, phases_of}
 use Rattle.csdf_model.specs.Kernels.{is_source_kernel}
 use Rattle.csdf_model.specs.WellFormed.{IsChannel, IsCells, initial_total}
 use Rattle.csdf_analysis.specs.Period.{HoldInitial}
 use Rattle.csdf_analysis.specs.Acceptance.{Accepted, IsAccepted, cells_of}
 use Rattle.csdf_core.specs.Plan.{Channel}
 use Rattle.csdf_core.specs.Playable.{IsPlayable}
-use Rattle.csdf_core.specs.Planned.{with_capacity, plan_for, IsPlanned}
-use Rattle.csdf_core.proofs.PlanLemmas.{length-capacities}
+use Rattle.csdf_core.specs.PlanInside.{AreOf, HasSmallRates}
+use Rattle.csdf_core.specs.Planned.{channels_of, with_capacity, plan_for}
+use Rattle.csdf_core.proofs.FewGifts.{few_gifts}
+use Rattle.csdf_core.proofs.PhaseLemmas.{first_in_phase, has_phases}
+use Rattle.csdf_core.proofs.PlanLemmas.{length-capacities, numbers-capacities}
 
 -- each channel beside its capacity, which has room for the initial tokens, and the capacities add up to more than these
 module _ (n : ℕ) (actors : List graph.Actor) (e : n ≡ length actors) where
@@ -93,12 +96,26 @@ playable_made a limits supplies firings h counted few =
       few_firings = few;
     }
 
-pub laid_out : (a : Accepted) (limits supplies : List ℕ) (firings : Option ℕ) → IsAccepted a
-    → length limits ≡ length a.graph.actors → length supplies ≡ length a.graph.actors → All (λ n. n ≤ 16384000) limits
-    → IsPlanned a.graph a.capacities limits supplies firings (cells_of a)
-laid_out a limits supplies firings h limited supplied few = record {
-  well_formed = h.well_formed;
-  roomy = h.least.completes.each_channel;
-  supplied = supplied;
-  playable = playable_made a limits supplies firings h limited few;
-}
+small_rates : (actors : List graph.Actor) (gs : List graph.Channel) (caps : List ℕ) → AllByRecursion (IsChannel actors) gs
+    → AllByRecursion HasSmallRates (map with_capacity (zip gs caps))
+small_rates actors [] caps all = tt
+small_rates actors (g ∷ gs) [] all = tt
+small_rates actors (g ∷ gs) (b ∷ caps) all =
+    (record { produce = all.0.produce.small; consume = all.0.consume.small }, small_rates actors gs caps all.1)
+
+-- the channels of an accepted graph with their capacities
+pub made_of : (a : Accepted) → IsAccepted a → AreOf a.graph (channels_of a)
+made_of a h =
+    let g : Graph = a.graph in
+    let len = h.least.completes.each_channel in
+    let all = recursion_from_All (IsChannel g.actors) g.channels h.well_formed.fitting.channels in
+    record {
+      kept = record {
+        small = All-from_recursion HasSmallRates (channels_of a) (small_rates g.actors g.channels a.capacities all);
+        first = λ b. first_in_phase g.actors g.channels a.capacities b len all;
+        few = λ b k. omega (arith, few_gifts g.actors b k g.channels a.capacities all, h.well_formed.fitting.few_channels);
+      };
+      inputs = λ b. sym (numbers-capacities (λ ch. ch.to == b) (λ ch. ch.to == b) (λ _ _. refl) 0 g.channels a.capacities len);
+      outputs = λ b. sym (numbers-capacities (λ ch. ch.from == b) (λ ch. ch.from == b) (λ _ _. refl) 0 g.channels a.capacities len);
+      phases = λ b. has_phases g.actors g.channels a.capacities b (phases_of g.actors b) len all refl;
+    }

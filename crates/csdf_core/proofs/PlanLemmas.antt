@@ -1,7 +1,9 @@
 -- The graph's lists beside the plan's.
-use Rattle.std.proofs.Common.{◌≡◌, ℕ, zero, suc, ◌<◌, ◌≤◌, List, [], ◌∷◌, length, get_or, map, Some, refl, ap, subst, ◌∙◌, sym, arith, Bool, cond}
+use Rattle.std.proofs.Common.{◌≡◌, ◌≢◌, ℕ, zero, suc, ◌+◌, ◌<◌, ◌≤◌, List, [], ◌∷◌, ◌++◌, length, get_or, map, take, Some, inl, inr, refl, ap, subst, ◌∙◌, sym, arith, Bool, cond}
 use Rattle.std.specs.List.{zip}
-use Rattle.std.proofs.lemmas.List.{length-map}
+use Rattle.std.proofs.lemmas.List.{get_or-map, get_or_append_left, length-map, length_push, map-append, take_more}
+use Rattle.std.proofs.lemmas.Bool.Decides.{eqb_tells}
+use Rattle.std.proofs.Math.Seq.{get_or-append_seam}
 use Rattle.std.proofs.Common.{◌%◌}
 use Rattle.std.specs.Prelude.{All, slice_get}
 use Rattle.std.specs.List.{AllByRecursion}
@@ -9,21 +11,19 @@ use Rattle.std.proofs.lemmas.List.Elements.{recursion_from_All}
 use Rattle.csdf_model.specs.Rates.{rate}
 use Rattle.csdf_model.specs.Graph as graph
 use Rattle.csdf_model.specs.Graph.{numbers_from}
-use Rattle.csdf_core.specs.Plan.{Channel}
+use Rattle.csdf_core.specs.Blocks.{HasNoLoop}
+use Rattle.csdf_core.specs.Plan.{Channel, from_at, to_at}
+use Rattle.csdf_core.specs.declared.planned.PlannedActor.{PlannedActor}
+use Rattle.csdf_core.specs.declared.planned.PlannedChannel.{PlannedChannel}
+use Rattle.csdf_core.specs.PlanInside.{channel_in, AreActors, AreChannels, HasSmallRates, IsActor}
 use Rattle.csdf_core.specs.Planned.{with_capacity}
+use Rattle.csdf_core.proofs.PhaseLemmas.{of_own}
 
 pub length-capacities : (gs : List graph.Channel) (caps : List ℕ) → length caps ≡ length gs → length (map with_capacity (zip gs caps)) ≡ length gs
 length-capacities [] [] e = refl
 length-capacities [] (b ∷ caps) e = absurd (omega arith)
 length-capacities (g ∷ gs) [] e = absurd (omega arith)
 length-capacities (g ∷ gs) (b ∷ caps) e = ap suc (length-capacities gs caps (omega arith))
-
-pub capacities-map : (gs : List graph.Channel) (caps : List ℕ) → length caps ≡ length gs
-    → map (λ (c : Channel). c.capacity) (map with_capacity (zip gs caps)) ≡ caps
-capacities-map [] [] e = refl
-capacities-map [] (b ∷ caps) e = absurd (omega arith)
-capacities-map (g ∷ gs) [] e = absurd (omega arith)
-capacities-map (g ∷ gs) (b ∷ caps) e = ap (λ t. b ∷ t) (capacities-map gs caps (omega arith))
 
 pub numbers-capacities : (own : Channel → Bool) (mine : graph.Channel → Bool) → ((g : graph.Channel) (b : ℕ) → own (with_capacity (g, b)) ≡ mine g)
     → (i : ℕ) (gs : List graph.Channel) (caps : List ℕ) → length caps ≡ length gs
@@ -46,31 +46,24 @@ seen_at {X = X} view h items gs same i x d lt is = by items i lt is ∙ ap (λ l
     by (y ∷ xs) zero lt e = ap (λ z. h (view z)) e
     by (y ∷ xs) (suc j) lt e = by xs j (omega arith) e
 
--- a number of the plan's channels is one of the graph's
-pub in_graph : {X : Type 0} (view : X → graph.Channel) (items : List X) (gs : List graph.Channel) (caps : List ℕ) (i : ℕ) → map view items ≡ gs
-    → length caps ≡ length gs → i < length (map with_capacity (zip gs caps)) → i < length items
-in_graph view items gs caps i same e lt =
-    let a : length items ≡ length gs = sym (length-map items view) ∙ ap length same in
-    let b : length (map with_capacity (zip gs caps)) ≡ length gs = length-capacities gs caps e in
-    omega arith
+-- a channel with its capacity, in the list of these
+pub zipped_at : {X : Type 0} (view : X → graph.Channel) (items : List X) (caps : List ℕ) (i : ℕ) (x : X) (b : ℕ) → length caps ≡ length items → i < length items
+    → x ≡ get_or items i x → b ≡ get_or caps i 0 → with_capacity (view x, b) ≡ get_or (map with_capacity (zip (map view items) caps)) i (with_capacity (view x, b))
+zipped_at view [] caps i x b len lt is cap = absurd (omega arith)
+zipped_at view (y ∷ ys) [] i x b len lt is cap = absurd (omega arith)
+zipped_at view (y ∷ ys) (c ∷ caps) zero x b len lt is cap = ap (λ z. with_capacity (view z, b)) is ∙ ap (λ n. with_capacity (view y, n)) cap
+zipped_at view (y ∷ ys) (c ∷ caps) (suc i) x b len lt is cap = zipped_at view ys caps i x b (omega arith) (omega arith) is cap
 
--- a channel of the plan, by the graph's
-pub channel_seen : {X : Type 0} (view : X → graph.Channel) (items : List X) (gs : List graph.Channel) (caps : List ℕ) (i : ℕ) (x : X) → map view items ≡ gs
-    → length caps ≡ length gs → i < length items → x ≡ get_or items i x
-    → slice_get (map with_capacity (zip gs caps)) i
-    ≡ Some (with_capacity (view x, get_or (map (λ (c : Channel). c.capacity) (map with_capacity (zip gs caps))) i 0))
-channel_seen {X = X} view items gs caps i x same len lt is =
-    subst (λ hs. slice_get (map with_capacity (zip hs caps)) i
-    ≡ Some (with_capacity (view x, get_or (map (λ (c : Channel). c.capacity) (map with_capacity (zip hs caps))) i 0))) same
-    (by items caps i (len ∙ sym (ap length same) ∙ length-map items view) lt is)
-  where
-    by : (ys : List X) (bs : List ℕ) (j : ℕ) → length bs ≡ length ys → j < length ys → x ≡ get_or ys j x
-        → slice_get (map with_capacity (zip (map view ys) bs)) j
-        ≡ Some (with_capacity (view x, get_or (map (λ (c : Channel). c.capacity) (map with_capacity (zip (map view ys) bs))) j 0))
-    by [] bs j e l h = absurd (omega arith)
-    by (y ∷ ys) [] j e l h = absurd (omega arith)
-    by (y ∷ ys) (b ∷ bs) zero e l h = ap (λ z. Some (with_capacity (view z, b))) (sym h)
-    by (y ∷ ys) (b ∷ bs) (suc j) e l h = by ys bs j (omega arith) (omega arith) h
+-- one more entry of a list that is seen as another
+pub taken_on : {X G : Type 0} (view : X → G) (done : List X) (all : List G) (i : ℕ) (x : X) → map view done ≡ take i all → i < length all
+    → view x ≡ get_or all i (view x) → map view (done ++ x ∷ []) ≡ take (i + 1) all
+taken_on view done all i x so_far lt is =
+    map-append view done (x ∷ []) ∙ ap (λ l. l ++ view x ∷ []) so_far ∙ ap (λ y. take i all ++ y ∷ []) is ∙ sym (take_more all i (view x) lt)
+
+pub got : {X G : Type 0} (view : X → G) (items : List X) (i : ℕ) (x : X) → i < length items → x ≡ get_or items i x → slice_get (map view items) i ≡ Some (view x)
+got view [] i x lt is = absurd (omega arith)
+got view (y ∷ ys) zero x lt is = ap (λ z. Some (view z)) (sym is)
+got view (y ∷ ys) (suc i) x lt is = got view ys i x (omega arith) is
 
 -- a part of a channel, in the list of these parts
 pub part_at : {K : Type 0} (f : Channel → K) (cs : List Channel) (i : ℕ) (c : Channel) (d : K) → slice_get cs i ≡ Some c → f c ≡ get_or (map f cs) i d
@@ -86,14 +79,21 @@ small_at (x ∷ xs) (suc i) h = small_at xs i h.1
 pub rate_small : (rates : List ℕ) (k : ℕ) → All (λ n. n ≤ 64) rates → rate rates k ≤ 64
 rate_small rates k h = small_at rates (k % length rates) (recursion_from_All (λ n. n ≤ 64) rates h)
 
--- a channel of a graph as the code holds it
-pub known_at : {X : Type 0} (view : X → graph.Channel) (P : graph.Channel → Type 0) (items : List X) (gs : List graph.Channel) (i : ℕ) (x : X)
-    → map view items ≡ gs → All P gs → i < length items → x ≡ get_or items i x → P (view x)
-known_at view P items gs i x same all lt is =
-    let len : length items ≡ length gs = sym (length-map items view) ∙ ap length same in
-    let here : view x ≡ get_or gs i (view x) = seen_at view (λ g. g) items gs same i x (view x) lt is ∙ ap (λ l. get_or l i (view x)) (map_same gs) in
-    subst P (sym here) (all i (view x) (omega arith))
-  where
-    map_same : (l : List graph.Channel) → map (λ g. g) l ≡ l
-    map_same [] = refl
-    map_same (g ∷ l) = ap (λ t. g ∷ t) (map_same l)
+-- the rates of one of a plan's channels are small
+pub small_at_item : (items : List PlannedChannel) (i : ℕ) (x : PlannedChannel) → AreChannels (map channel_in items) → i < length items → x ≡ get_or items i x
+    → HasSmallRates (channel_in x)
+small_at_item items i x h lt is =
+    let here : channel_in x ≡ get_or (map channel_in items) i (channel_in x) = ap channel_in is ∙ sym (get_or-map channel_in items i x (channel_in x) lt) in
+    subst HasSmallRates (sym here) (h.small i (channel_in x) (let e = length-map items channel_in in omega arith))
+
+-- one more actor
+pub actors_more : (cs : List Channel) (done : List PlannedActor) (x : PlannedActor) → AreActors cs done → IsActor cs (length done) x → AreActors cs (done ++ x ∷ [])
+actors_more cs done x so_far is a d lt = elim (eqb_tells a (length done)) [
+  | inl e ↦ subst (λ n. IsActor cs n (get_or (done ++ x ∷ []) n d)) (sym e.1) (subst (IsActor cs (length done)) (sym (get_or-append_seam done x [] d)) is)
+  | inr e ↦ (let low : a < length done = let l = length_push done x in let n = e.1 in omega arith in
+      subst (IsActor cs a) (sym (get_or_append_left done (x ∷ []) d a low)) (so_far a d low))
+]
+
+-- a channel from the actor to itself is one of its inputs
+pub loops : (cs : List Channel) (a c : ℕ) → c < length cs → from_at cs c ≡ a → to_at cs c ≡ a → HasNoLoop cs a → ⊥
+loops cs a c lt from to none = of_own (λ i. from_at cs i ≢ a) (λ (ch : Channel). ch.to) a cs none c lt to from

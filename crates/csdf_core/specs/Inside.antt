@@ -1,6 +1,5 @@
 -- What the fields of a core show, and what they keep.
 use Rattle.csdf_core.specs.declared.firing_core.Core.TheInside.{Inside}
-use Rattle.csdf_core.specs.Amounts.{AreAmounts}
 use Rattle.csdf_core.specs.Phases.{AreInPhase}
 use Rattle.csdf_core.specs.Ports.{tokens_in}
 use Rattle.csdf_core.specs.State.{Present}
@@ -18,5 +17,4 @@ view_in c = record { plan = c.plan; now = now_in c; peaks = c.peaks.items; pool 
 -- what every core keeps
 pub record IsKept (c : Inside) : Type 0 where
   pub sound : IsSound c.plan (now_in c) c.peaks.items c.sums.items c.started c.reserved c.pool
-  pub amounts : AreAmounts c.plan c.nexts.counts.items c.nexts.needs.items c.nexts.gifts.items
   pub phases : AreInPhase c.plan c.nexts.counts.items c.nexts.phases.items

@@ -14,7 +14,6 @@ pub mod Ports
 pub mod Transfers
 pub mod Playable
 pub mod Planned
-pub mod Amounts
 pub mod Phases
 pub mod Sound
 pub mod Inside
@@ -22,3 +21,4 @@ pub mod Blocks
 pub mod Engine
 pub mod Feedback
 pub mod Sides
+pub mod PlanInside

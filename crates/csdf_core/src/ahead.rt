@@ -12,7 +12,6 @@ ghost use Rattle.csdf_core.specs.Sides.{moved_ahead};
 use crate::firing_core::Core;
 use crate::plan::Plan;
 use crate::side::Side;
-use crate::transfer::moved;
 use crate::turn::{Turn, turn_after};
 use csdf_model::{MAX_FIRINGS_PER_ACTOR, MAX_PHASES, MAX_TOKENS_PER_FIRING, MAX_TOTAL_PER_FIRING};
 
@@ -79,10 +78,7 @@ impl Core {
         ensures value { result ≡ need actor turn.firing self.now.plan.channels }
         ensures small { result ≤ MAX_TOTAL_PER_FIRING }
     {
-        if self.plan.phases(actor) == 1 {
-            return self.need(actor);
-        }
-        moved(&self.plan, Side::Input, actor, turn)
+        self.plan.moved(Side::Input, actor, turn)
     }
 
     /// How many tokens the actor's firing gives.
@@ -93,10 +89,7 @@ impl Core {
         ensures value { result ≡ gift actor turn.firing self.now.plan.channels }
         ensures small { result ≤ MAX_TOTAL_PER_FIRING }
     {
-        if self.plan.phases(actor) == 1 {
-            return self.gives(actor);
-        }
-        moved(&self.plan, Side::Output, actor, turn)
+        self.plan.moved(Side::Output, actor, turn)
     }
 
     /// How many tokens the actor's firing puts into this output.

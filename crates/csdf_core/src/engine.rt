@@ -14,7 +14,7 @@ use crate::first_refusal::is_at;
 use crate::gathering::copy_reads;
 use crate::plan::Plan;
 use crate::readiness::first_closed;
-use crate::several::{drop_tokens, fire_once, has_no_loop, hold_each};
+use crate::several::{drop_tokens, fire_once, hold_each};
 use crate::side::Side;
 use crate::stage::Stage;
 use crate::transfer::{put_tokens, raise_peaks};
@@ -209,7 +209,7 @@ fn is_plain(plan: &Plan, actor: u32) -> bool
     if plan.outputs(actor).len() > 1 {
         return false;
     }
-    has_no_loop(plan, actor)
+    plan.has_no_loop(actor)
 }
 
 /// Takes so many of the oldest tokens out of the actor's input, where it has one.
@@ -408,6 +408,7 @@ impl Core {
     }
 
     /// The block of n firings.
+    #[inline(always)]
     fn block_of(&self, actor: u32, n: u32) -> Block
         requires actor { actor < length self.now.plan.sources }
         requires few { count self.now.now actor + n ≤ MAX_FIRINGS_PER_ACTOR }
@@ -442,6 +443,34 @@ impl Core {
 
     /// How many of its next firings, at most so many, the actor can make one after the other: at least one
     /// where it can make one.
+    #[inline(always)]
+    fn firings_ahead(&self, actor: u32, most: u32) -> u32
+        requires actor { actor < length self.now.plan.sources }
+        ensures most { result ≤ most }
+        ensures few { count self.now.now actor + result ≤ MAX_FIRINGS_PER_ACTOR }
+        ensures can { CanFire self.now.plan self.now.now actor result }
+        ensures some { 1 ≤ most → refusal self.now.plan self.now.now (Begin actor) ≡ None → 1 ≤ result }
+    {
+        let phases = self.plan.phases(actor);
+        let cycles = self.cycles(actor, phases, most);
+        if cycles >= 1 {
+            return cycles * phases;
+        }
+        if phases > 1 {
+            let walked = self.walked(actor, phases, most);
+            if walked >= 1 {
+                return walked;
+            }
+        }
+        self.fires_one(actor);
+        if most >= 1 && self.can_begin(actor).is_ok() {
+            return 1;
+        }
+        0
+    }
+
+    /// How many of its next firings, at most so many, the actor can make one after the other: at least one
+    /// where it can make one.
     pub fn ahead(&self, actor: u32, most: u32) -> Block
         requires actor { actor < length self.now.plan.sources }
         ensures most { result.firings ≤ most }
@@ -450,26 +479,15 @@ impl Core {
         ensures needed { result.needed ≡ needs_of self.now.plan.channels actor (count self.now.now actor) result.firings }
         ensures given { result.given ≡ gifts_of self.now.plan.channels actor (count self.now.now actor) result.firings }
     {
-        let phases = self.plan.phases(actor);
-        let cycles = self.cycles(actor, phases, most);
-        if cycles >= 1 {
-            return self.block_of(actor, cycles * phases);
+        let n = self.firings_ahead(actor, most);
+        if n == 0 {
+            return Block {
+                firings: 0,
+                needed: 0,
+                given: 0,
+            };
         }
-        if phases > 1 {
-            let walked = self.walked(actor, phases, most);
-            if walked >= 1 {
-                return self.block_of(actor, walked);
-            }
-        }
-        self.fires_one(actor);
-        if most >= 1 && self.can_begin(actor).is_ok() {
-            return self.block_of(actor, 1);
-        }
-        Block {
-            firings: 0,
-            needed: 0,
-            given: 0,
-        }
+        self.block_of(actor, n)
     }
 
     /// Makes the actor's next firing, which writes these tokens: its four moves.

@@ -49,21 +49,6 @@ pub struct Feedback {
     pub before: u32,
 }
 
-/// The first channel from the actor to itself.
-fn first_loop(plan: &Plan, actor: u32) -> Option<u32>
-    requires { actor < length plan.now.sources }
-    ensures some { IfSome result (λ c. (c < length plan.now.channels) × (from_at plan.now.channels c ≡ actor) × (to_at plan.now.channels c ≡ actor)) }
-    ensures none { IfNone result (AllByRecursion (λ c. from_at plan.now.channels c ≢ actor) (inputs_at plan.now.channels actor)) }
-{
-    let inputs = plan.inputs(actor);
-    for channel in inputs {
-        if plan.producer(*channel) == actor {
-            return Some(*channel);
-        }
-    }
-    None
-}
-
 /// Whether no other channel goes from the actor to itself.
 fn is_only_loop(plan: &Plan, actor: u32, own: u32) -> bool
     requires { actor < length plan.now.sources }
@@ -274,7 +259,7 @@ impl Core {
         if plan.phases(actor) != 1 || plan.is_source(actor) {
             return None;
         }
-        let channel = first_loop(plan, actor)?;
+        let channel = plan.first_loop(actor)?;
         if !is_only_loop(plan, actor, channel) {
             return None;
         }

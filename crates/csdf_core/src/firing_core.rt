@@ -3,12 +3,13 @@
 //! The readers that are marked so are inlined: each firing calls several of them, and a call costs more
 //! than the load that it makes.
 
-ghost use Rattle.std.specs.Prelude.{◌≡◌, ◌-◌, ◌*◌, ◌^◌, ◌<◌, ◌≤◌, suc, length, map, sum, IfOk, All, slice_index};
+ghost use Rattle.std.specs.Prelude.{◌≡◌, ◌-◌, ◌*◌, ◌^◌, ◌<◌, ◌≤◌, ◌↔◌, suc, length, map, sum, IfOk, IsTrue, All, slice_index};
 ghost use Rattle.csdf_pool.specs.Pool.{chain_of, held_cells};
 
 use crate::filling::{blank_lists, filled_pool, lengths_of};
 use crate::nexts::Nexts;
 use crate::plan::Plan;
+use crate::side::Side;
 use crate::stage::Stage;
 use crate::turn::Turn;
 use csdf_analysis::Accepted;
@@ -66,14 +67,17 @@ impl Core {
     ghost use Rattle.csdf_core.specs.State.{opening};
     ghost use Rattle.csdf_core.specs.Shows.{Shows};
     ghost use Rattle.csdf_core.specs.Step.{is_open, given, reserved, count, stage};
+    ghost use Rattle.csdf_core.specs.Blocks.{HasNoLoop};
     ghost use Rattle.csdf_core.specs.Phases.{IsInPhase};
     ghost use Rattle.csdf_core.specs.Rows.{need, gift};
     ghost use Rattle.csdf_core.specs.Ports.{inputs_at, outputs_at, tokens_at};
-    ghost use Rattle.csdf_core.specs.Plan.{Channel as ChannelModel, from_at, to_at};
+    ghost use Rattle.csdf_core.specs.Headline.{capacity_of};
+    ghost use Rattle.csdf_core.specs.Plan.{Channel as ChannelModel, consume_at, from_at, produce_at, to_at};
+    ghost use Rattle.csdf_model.specs.Rates.{total};
     ghost use Rattle.csdf_core.specs.Planned.{plan_for};
     ghost use Rattle.csdf_core.specs.Transfers.{opening_pool};
 
-    /// A core of the accepted graph, of which it keeps a copy, in the state in which nothing has fired:
+    /// A core of the accepted graph, of which it keeps what it plays, in the state in which nothing has fired:
     /// the initial tokens are in the channels, in order. Each actor has its greatest number of firings
     /// (`limits`), and the number of tokens in its file, 0 where it is no source (`supply`). There is a
     /// greatest number of firings that begin, of all actors together, where `firings` says so.
@@ -151,6 +155,59 @@ impl Core {
         ensures few { length result.now ≤ MAX_CHANNELS }
     {
         self.plan.outputs(actor)
+    }
+
+    /// The actor that writes into the channel.
+    pub fn producer(&self, channel: u32) -> u32
+        requires { channel < length self.now.plan.channels }
+        ensures value { result ≡ from_at self.now.plan.channels channel }
+        ensures within { result < length self.now.plan.sources }
+    {
+        self.plan.producer(channel)
+    }
+
+    /// The actor that reads from the channel.
+    pub fn consumer(&self, channel: u32) -> u32
+        requires { channel < length self.now.plan.channels }
+        ensures value { result ≡ to_at self.now.plan.channels channel }
+        ensures within { result < length self.now.plan.sources }
+    {
+        self.plan.consumer(channel)
+    }
+
+    /// How many tokens the channel may hold.
+    pub fn capacity(&self, channel: u32) -> u32
+        requires { channel < length self.now.plan.channels }
+        ensures { result ≡ capacity_of self.now.plan channel }
+    {
+        self.plan.capacity(channel)
+    }
+
+    /// How many tokens the finished firings of its producer put into the channel.
+    pub fn put_into(&self, channel: u32) -> u32
+        requires { channel < length self.now.plan.channels }
+        ensures { result ≡ total (produce_at self.now.plan.channels channel) (count self.now.now (from_at self.now.plan.channels channel)) }
+    {
+        let fired = self.fired(self.producer(channel));
+        self.plan.given(channel, 0, fired) as u32
+    }
+
+    /// How many tokens the finished firings of its consumer took out of the channel.
+    pub fn taken_from(&self, channel: u32) -> u32
+        requires { channel < length self.now.plan.channels }
+        ensures { result ≡ total (consume_at self.now.plan.channels channel) (count self.now.now (to_at self.now.plan.channels channel)) }
+    {
+        let fired = self.fired(self.consumer(channel));
+        self.plan.taken(channel, 0, fired) as u32
+    }
+
+    /// Whether a channel goes from the actor to itself.
+    #[inline]
+    pub fn has_loop(&self, actor: u32) -> bool
+        requires { actor < length self.now.plan.sources }
+        ensures { IsTrue result ↔ (HasNoLoop self.now.plan.channels actor → ⊥) }
+    {
+        !self.plan.has_no_loop(actor)
     }
 
     /// How many firings of the actor are finished.
@@ -250,10 +307,10 @@ impl Core {
         ensures unknown { length self.now.plan.sources ≤ actor → result ≡ 0 }
         ensures small { result ≤ MAX_TOTAL_PER_FIRING }
     {
-        if actor as usize >= self.nexts.needs.len() {
+        if actor as usize >= self.plan.actors() {
             return 0;
         }
-        self.nexts.needs[actor as usize] as usize
+        self.plan.moved(Side::Input, actor, self.turn(actor))
     }
 
     /// How many tokens firing number `fired(actor)` writes; 0 where there is no such actor.
@@ -264,10 +321,10 @@ impl Core {
         ensures unknown { length self.now.plan.sources ≤ actor → result ≡ 0 }
         ensures small { result ≤ MAX_TOTAL_PER_FIRING }
     {
-        if actor as usize >= self.nexts.gifts.len() {
+        if actor as usize >= self.plan.actors() {
             return 0;
         }
-        self.nexts.gifts[actor as usize] as usize
+        self.plan.moved(Side::Output, actor, self.turn(actor))
     }
 
     /// How many tokens the actor's finished firings wrote, over all its outputs: for a source, how

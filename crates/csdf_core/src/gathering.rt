@@ -9,9 +9,7 @@ ghost use Rattle.csdf_core.specs.Ports.{inputs_at, take_at, tokens_at, tokens_in
 ghost use Rattle.csdf_core.specs.Rows.{need};
 
 use crate::plan::Plan;
-use crate::several::has_no_loop;
 use crate::side::Side;
-use crate::transfer::moved;
 use crate::turn::{Turn, turn_after};
 use csdf_model::{MAX_CHANNELS, MAX_FIRINGS_PER_ACTOR, MAX_PHASES, MAX_TOTAL_PER_FIRING};
 use csdf_pool::{Pool, Tokens};
@@ -84,7 +82,7 @@ fn slot_of(plan: &Plan, actor: u32, place: usize, turn: Turn) -> Slot
 {
     let inputs = plan.inputs(actor);
     Slot {
-        need: moved(plan, Side::Input, actor, turn),
+        need: plan.moved(Side::Input, actor, turn),
         from: taken_before(plan, actor, &inputs[..place], turn),
         taken: plan.takes(inputs[place], turn) as usize,
     }
@@ -223,7 +221,7 @@ pub(crate) fn copy_reads(plan: &Plan, pool: &Pool, actor: u32, turn: Turn, n: u3
         gather(plan, pool, actor, turn, n, into);
         return;
     }
-    if !has_no_loop(plan, actor) {
+    if !plan.has_no_loop(actor) {
         gather(plan, pool, actor, turn, n, into);
         return;
     }

@@ -12,7 +12,7 @@ ghost use Rattle.csdf_core.specs.Rows.{gift};
 
 use crate::plan::Plan;
 use crate::side::Side;
-use crate::transfer::{moved, put_tokens};
+use crate::transfer::put_tokens;
 use crate::turn::Turn;
 use csdf_pool::Pool;
 
@@ -80,7 +80,7 @@ pub(crate) fn put_lasting(
     ensures size { pool.new.size ≡ pool.old.size }
     ensures same { length pool.new.chains ≡ length pool.old.chains }
 {
-    let gift = moved(plan, Side::Output, actor, turn);
+    let gift = plan.moved(Side::Output, actor, turn);
     let outputs = plan.outputs(actor);
     let mut before = 0;
     for channel in outputs {

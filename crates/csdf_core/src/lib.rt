@@ -13,6 +13,7 @@ mod laws;
 mod moves;
 mod nexts;
 mod plan;
+mod planned;
 mod playing;
 mod readiness;
 mod refusal;

@@ -1,13 +1,9 @@
-//! The next firing of each actor: kept, so that no move divides or adds up.
+//! The next firing of each actor: kept, so that no move divides.
 
 ghost use Rattle.std.specs.Prelude.{◌≡◌, ◌+◌, ◌<◌, ◌≤◌, length, replicate, slice_index, slice_set, IfOk};
-ghost use Rattle.csdf_core.specs.Amounts.{AreAmounts, HasAmounts};
 ghost use Rattle.csdf_core.specs.Phases.{AreInPhase};
-ghost use Rattle.csdf_core.specs.Sides.{moved};
 
 use crate::plan::Plan;
-use crate::side::Side;
-use crate::transfer::moved;
 use crate::turn::{Turn, turn_ahead};
 use csdf_model::MAX_FIRINGS_PER_ACTOR;
 use std::alloc::{AllocError, Global};
@@ -19,23 +15,6 @@ pub(crate) struct Nexts {
     pub(crate) counts: Vec<u32>,
     /// The phase that it is in.
     pub(crate) phases: Vec<u32>,
-    /// How many tokens it takes, and how many it gives.
-    pub(crate) needs: Vec<u32>,
-    pub(crate) gifts: Vec<u32>,
-}
-
-/// How many tokens the first firing of each actor moves at this side.
-///
-/// An error says that memory ran out.
-fn first_moved(alloc: Global, plan: &Plan, side: Side) -> Result<Vec<u32>, AllocError>
-    ensures { IfOk result (λ amounts. HasAmounts (λ a. moved side a 0 plan.now.channels) (length plan.now.sources) amounts.items) }
-{
-    let first = plan.first_turn();
-    let mut amounts = Vec::new(alloc);
-    for actor in 0..plan.actors() as u32 {
-        amounts.push(moved(plan, side, actor, first) as u32)?;
-    }
-    Ok(amounts)
 }
 
 impl Nexts {
@@ -44,15 +23,12 @@ impl Nexts {
     /// An error says that memory ran out.
     pub(crate) fn first(alloc: Global, plan: &Plan) -> Result<Nexts, AllocError>
         ensures counts { IfOk result (λ nexts. nexts.counts.items ≡ replicate (length plan.now.sources) 0) }
-        ensures amounts { IfOk result (λ nexts. AreAmounts plan.now nexts.counts.items nexts.needs.items nexts.gifts.items) }
         ensures phases { IfOk result (λ nexts. AreInPhase plan.now nexts.counts.items nexts.phases.items) }
     {
         let (actors, first) = (plan.actors(), plan.first_turn());
         Ok(Nexts {
             counts: vec![in alloc; first.firing; actors]?,
             phases: vec![in alloc; first.phase; actors]?,
-            needs: first_moved(alloc, plan, Side::Input)?,
-            gifts: first_moved(alloc, plan, Side::Output)?,
         })
     }
 
@@ -62,10 +38,8 @@ impl Nexts {
         requires counted { length self.old.counts.items ≡ length plan.now.sources }
         requires few { slice_index self.old.counts.items actor ≤ MAX_FIRINGS_PER_ACTOR }
         requires ahead { n ≤ MAX_FIRINGS_PER_ACTOR }
-        requires amounts { AreAmounts plan.now self.old.counts.items self.old.needs.items self.old.gifts.items }
         requires phases { AreInPhase plan.now self.old.counts.items self.old.phases.items }
         ensures counts { self.new.counts.items ≡ slice_set self.old.counts.items actor (slice_index self.old.counts.items actor + n) }
-        ensures amounts { AreAmounts plan.now self.new.counts.items self.new.needs.items self.new.gifts.items }
         ensures phases { AreInPhase plan.now self.new.counts.items self.new.phases.items }
     {
         let a = actor as usize;
@@ -76,10 +50,5 @@ impl Nexts {
         let next = turn_ahead(plan, actor, turn, n);
         self.counts[a] = next.firing;
         self.phases[a] = next.phase;
-        // Each firing of an actor of one phase takes and gives the same.
-        if plan.phases(actor) != 1 {
-            self.needs[a] = moved(plan, Side::Input, actor, next) as u32;
-            self.gifts[a] = moved(plan, Side::Output, actor, next) as u32;
-        }
     }
 }

@@ -1,36 +1,37 @@
-//! What a core plays: a graph with its capacities and limits.
+//! What a core plays: a graph with its capacities and limits, looked up and added up once.
 //!
 //! The readers that are marked so are inlined: each firing calls several of them for each of its
 //! channels, and a call costs more than the loads that it makes.
 
 ghost use Rattle.std.specs.Prelude.{ℕ, ◌≡◌, ◌+◌, ◌*◌, ◌<◌, ◌≤◌, ◌↔◌, IsTrue, length, map, slice_get, slice_index, slice_index_or, false, All, IfOk, Some};
 ghost use Rattle.csdf_core.specs.Plan.{Channel as ChannelModel, consume_at, from_at, produce_at, to_at};
-ghost use Rattle.csdf_core.specs.Planned.{plan_for, with_capacity};
-ghost use Rattle.csdf_model.specs.Graph.{channel_view};
+ghost use Rattle.csdf_core.specs.PlanInside.{channel_in, AreEnds, HasSmallRates, IsActor, IsFirstLoop};
+ghost use Rattle.csdf_core.specs.Planned.{plan_for};
 ghost use Rattle.csdf_model.specs.Rates.{total};
-ghost use Rattle.csdf_core.specs.Blocks.{takes_at, gives_at};
+ghost use Rattle.csdf_core.specs.Blocks.{takes_at, gives_at, HasNoLoop};
 ghost use Rattle.csdf_core.specs.Playable.{IsPlayable};
 ghost use Rattle.csdf_core.specs.Rows.{gift};
 ghost use Rattle.csdf_core.specs.Streams.{part};
 ghost use Rattle.csdf_core.specs.Ports.{inputs_at, outputs_at, take_at, give_at};
 ghost use Rattle.csdf_core.specs.Phases.{HasPhases, IsInPhase, IsPhase};
-ghost use Rattle.csdf_core.specs.Sides.{amount_at, amounts_at, ends_at, owner_at, rates_at};
+ghost use Rattle.csdf_core.specs.Sides.{amounts_at, ends_at, moved, owner_at, rates_at};
 
+use crate::planned::{PlannedActor, PlannedChannel, PlannedEnds, planned_actors, planned_channels};
 use crate::side::Side;
 use crate::turn::Turn;
 use csdf_analysis::Accepted;
 use csdf_model::{
-    Channel, Graph, MAX_ACTORS, MAX_CHANNELS, MAX_FIRINGS_PER_ACTOR, MAX_PHASES,
-    MAX_TOKENS_PER_FIRING, MAX_TOTAL_PER_FIRING, rate, total,
+    MAX_ACTORS, MAX_CHANNELS, MAX_FIRINGS_PER_ACTOR, MAX_PHASES, MAX_TOKENS_PER_FIRING,
+    MAX_TOTAL_PER_FIRING, rate, total,
 };
 use std::alloc::{AllocError, Global};
 use std::marker::Model;
 
-/// A graph with its capacities and limits.
+/// What is static of each actor and each channel, the greatest number of all firings, and the number of cells.
 #[derive(Drop)]
 pub(crate) struct Plan {
-    graph: Graph,
-    capacities: Vec<u32>,
+    actors: Vec<PlannedActor>,
+    channels: Vec<PlannedChannel>,
     limits: Vec<u32>,
     supply: Vec<u32>,
     firings: Option<u32>,
@@ -42,16 +43,16 @@ impl Model for Plan {
 
     ghost Value = { PlanModel };
 
-    ghost use Rattle.csdf_core.specs.Planned.{plan_of, IsPlanned};
+    ghost use Rattle.csdf_core.specs.PlanInside.{plan_in, IsPlanned};
 
-    ghost view = { λ l. plan_of l.graph l.capacities.items l.limits.items l.supply.items l.firings l.cells };
+    ghost view = { plan_in };
 
-    ghost invariant = { λ l. IsPlanned l.graph l.capacities.items l.limits.items l.supply.items l.firings l.cells };
+    ghost invariant = { IsPlanned };
 }
 
 /// How many tokens n firings move at these rates, from this one on.
 #[inline(always)]
-fn moved(rates: &[u32], firing: u32, n: u32) -> u64
+fn moved_at(rates: &[u32], firing: u32, n: u32) -> u64
     requires { firing + n ≤ MAX_FIRINGS_PER_ACTOR }
     ensures { total rates.now firing + result ≡ total rates.now (firing + n) }
 {
@@ -65,15 +66,8 @@ fn moved(rates: &[u32], firing: u32, n: u32) -> u64
     total(rates, firing + n) - total(rates, firing)
 }
 
-/// The same numbers in a list of their own.
-fn copy_of(alloc: Global, numbers: &[u32]) -> Result<Vec<u32>, AllocError>
-    ensures { IfOk result (λ v. v.items ≡ numbers.now) }
-{
-    numbers.iter().copied().collect(alloc)
-}
-
 impl Plan {
-    /// The plan of an accepted graph, which it copies, with the greatest number of firings of each actor,
+    /// The plan of an accepted graph with the greatest number of firings of each actor,
     /// the number of tokens in the file of each source, and the greatest number of all firings.
     ///
     /// An error says that memory ran out.
@@ -91,11 +85,12 @@ impl Plan {
             ≡ plan_for accepted.now limits.items supply.items firings) }
         ensures playable { IfOk result IsPlayable }
     {
-        let graph = accepted.graph().try_copy(alloc)?;
-        let capacities = copy_of(alloc, accepted.capacities())?;
+        let graph = accepted.graph();
+        let channels = planned_channels(alloc, graph.channels(), accepted.capacities())?;
+        let actors = planned_actors(alloc, graph, &channels)?;
         Ok(Plan {
-            graph,
-            capacities,
+            actors,
+            channels,
             limits,
             supply,
             firings,
@@ -108,7 +103,7 @@ impl Plan {
         ensures count { result ≡ length self.now.sources }
         ensures few { result ≤ MAX_ACTORS }
     {
-        self.graph.actors().len()
+        self.actors.len()
     }
 
     /// The number of channels.
@@ -116,7 +111,54 @@ impl Plan {
         ensures count { result ≡ length self.now.channels }
         ensures few { result ≤ MAX_CHANNELS }
     {
-        self.graph.channels().len()
+        self.channels.len()
+    }
+
+    /// What is static of the actor.
+    #[inline(always)]
+    fn actor(&self, actor: u32) -> &PlannedActor
+        requires { actor < length self.now.sources }
+        ensures actor { IsActor self.now.channels actor result.now }
+        ensures source { result.now.is_source ≡ slice_index_or self.now.sources actor false }
+    {
+        &self.actors[actor as usize]
+    }
+
+    /// What is static of the actor at this side.
+    #[inline(always)]
+    fn side(&self, side: Side, actor: u32) -> &PlannedEnds
+        requires { actor < length self.now.sources }
+        ensures { AreEnds side self.now.channels actor result.now }
+    {
+        let actor = self.actor(actor);
+        match side {
+            Side::Input => &actor.input,
+            Side::Output => &actor.output,
+        }
+    }
+
+    /// The channel.
+    #[inline(always)]
+    fn channel(&self, channel: u32) -> &PlannedChannel
+        requires { channel < length self.now.channels }
+        ensures value { slice_get self.now.channels channel ≡ Some (channel_in result.now) }
+        ensures small { HasSmallRates (channel_in result.now) }
+    {
+        &self.channels[channel as usize]
+    }
+
+    /// The channel's rates at this side.
+    #[inline(always)]
+    fn rates(&self, side: Side, channel: u32) -> &[u32]
+        requires { channel < length self.now.channels }
+        ensures value { result.now ≡ rates_at side self.now.channels channel }
+        ensures small { All (λ n. n ≤ MAX_TOKENS_PER_FIRING) result.now }
+    {
+        let channel = self.channel(channel);
+        match side {
+            Side::Input => &channel.consume,
+            Side::Output => &channel.produce,
+        }
     }
 
     /// The channels that end at the actor, in file order.
@@ -128,7 +170,7 @@ impl Plan {
         ensures within { All (λ c. c < length self.now.channels) result.now }
         ensures few { length result.now ≤ MAX_CHANNELS }
     {
-        self.graph.inputs(actor)
+        self.ends(Side::Input, actor)
     }
 
     /// The channels that begin at the actor, in file order.
@@ -140,7 +182,7 @@ impl Plan {
         ensures within { All (λ c. c < length self.now.channels) result.now }
         ensures few { length result.now ≤ MAX_CHANNELS }
     {
-        self.graph.outputs(actor)
+        self.ends(Side::Output, actor)
     }
 
     /// The channels at this side of the actor, in file order.
@@ -152,24 +194,7 @@ impl Plan {
         ensures within { All (λ c. c < length self.now.channels) result.now }
         ensures few { length result.now ≤ MAX_CHANNELS }
     {
-        match side {
-            Side::Input => self.inputs(actor),
-            Side::Output => self.outputs(actor),
-        }
-    }
-
-    /// The channel as the graph has it.
-    #[inline(always)]
-    fn channel(&self, channel: u32) -> &Channel
-        requires { channel < length self.now.channels }
-        ensures value { slice_get self.now.channels channel ≡ Some (with_capacity (
-          channel_view result.now,
-          slice_index (map (λ (c : ChannelModel). c.capacity) self.now.channels) channel,
-        )) }
-        ensures produce { All (λ n. n ≤ MAX_TOKENS_PER_FIRING) result.now.produce.items }
-        ensures consume { All (λ n. n ≤ MAX_TOKENS_PER_FIRING) result.now.consume.items }
-    {
-        &self.graph.channels()[channel as usize]
+        &self.side(side, actor).channels
     }
 
     /// No firing gives many tokens. The call does nothing.
@@ -177,8 +202,8 @@ impl Plan {
     pub(crate) fn gives_few(&self)
         ensures { (a k : ℕ) → gift a k self.now.channels ≤ MAX_TOTAL_PER_FIRING }
     {
-        // Read for the prover: what every graph keeps.
-        let _channels = self.graph.channels();
+        // Read for the prover: what the plan keeps.
+        let _channels = &self.channels;
     }
 
     /// How many phases the actor has.
@@ -189,7 +214,7 @@ impl Plan {
         ensures some { 1 ≤ result }
         ensures few { result ≤ MAX_PHASES }
     {
-        self.graph.actors()[actor as usize].phases
+        self.actor(actor).phases
     }
 
     /// The first firing of every actor.
@@ -199,7 +224,7 @@ impl Plan {
         ensures in_phase { (a : ℕ) → IsInPhase self.now.channels a 0 0 }
     {
         // The proof takes what the plan keeps from this look into it.
-        let _graph = &self.graph;
+        let _channels = &self.channels;
         Turn {
             firing: 0,
             phase: 0,
@@ -214,8 +239,8 @@ impl Plan {
         ensures value { result ≡ take_at self.now.channels turn.firing channel }
         ensures small { result ≤ MAX_TOKENS_PER_FIRING }
     {
-        let channel = self.channel(channel);
-        channel.consume[turn.phase as usize]
+        let rates = self.rates(Side::Input, channel);
+        rates[turn.phase as usize]
     }
 
     /// How many tokens a firing of the channel's producer puts in.
@@ -226,8 +251,8 @@ impl Plan {
         ensures value { result ≡ give_at self.now.channels turn.firing channel }
         ensures small { result ≤ MAX_TOKENS_PER_FIRING }
     {
-        let channel = self.channel(channel);
-        channel.produce[turn.phase as usize]
+        let rates = self.rates(Side::Output, channel);
+        rates[turn.phase as usize]
     }
 
     /// How many tokens n firings of the channel's consumer take out, from this one on.
@@ -238,8 +263,7 @@ impl Plan {
         ensures value { result ≡ takes_at self.now.channels firing n channel }
         ensures small { result ≤ MAX_TOKENS_PER_FIRING * n }
     {
-        let channel = self.channel(channel);
-        moved(&channel.consume, firing, n)
+        self.amounts(Side::Input, channel, firing, n)
     }
 
     /// How many tokens n firings of the channel's producer put in, from this one on.
@@ -250,22 +274,7 @@ impl Plan {
         ensures value { result ≡ gives_at self.now.channels firing n channel }
         ensures small { result ≤ MAX_TOKENS_PER_FIRING * n }
     {
-        let channel = self.channel(channel);
-        moved(&channel.produce, firing, n)
-    }
-
-    /// How many tokens a firing of the actor at this side of the channel moves in it.
-    #[inline(always)]
-    pub(crate) fn amount(&self, side: Side, channel: u32, turn: Turn) -> u32
-        requires channel { channel < length self.now.channels }
-        requires phase { IsPhase (rates_at side self.now.channels channel) turn.firing turn.phase }
-        ensures value { result ≡ amount_at side self.now.channels turn.firing channel }
-        ensures small { result ≤ MAX_TOKENS_PER_FIRING }
-    {
-        match side {
-            Side::Input => self.takes(channel, turn),
-            Side::Output => self.gives(channel, turn),
-        }
+        self.amounts(Side::Output, channel, firing, n)
     }
 
     /// How many tokens n firings of the actor at this side of the channel move in it, from this one on.
@@ -276,10 +285,7 @@ impl Plan {
         ensures value { result ≡ amounts_at side self.now.channels firing n channel }
         ensures small { result ≤ MAX_TOKENS_PER_FIRING * n }
     {
-        match side {
-            Side::Input => self.taken(channel, firing, n),
-            Side::Output => self.given(channel, firing, n),
-        }
+        moved_at(self.rates(side, channel), firing, n)
     }
 
     /// The channel's producer.
@@ -305,7 +311,7 @@ impl Plan {
         requires { channel < length self.now.channels }
         ensures { result ≡ slice_index (map (λ (c : ChannelModel). c.capacity) self.now.channels) channel }
     {
-        self.capacities[channel as usize]
+        self.channel(channel).capacity
     }
 
     /// The channel's initial tokens.
@@ -341,7 +347,48 @@ impl Plan {
         requires { actor < length self.now.sources }
         ensures { result ≡ slice_index_or self.now.sources actor false }
     {
-        self.graph.actors()[actor as usize].kernel.is_source()
+        self.actor(actor).is_source
+    }
+
+    /// How many tokens the actor's firing moves at this side.
+    #[inline(always)]
+    pub(crate) fn moved(&self, side: Side, actor: u32, turn: Turn) -> usize
+        requires actor { actor < length self.now.sources }
+        requires in_phase { IsInPhase self.now.channels actor turn.firing turn.phase }
+        ensures value { result ≡ moved side actor turn.firing self.now.channels }
+        ensures small { result ≤ MAX_TOTAL_PER_FIRING }
+    {
+        let ends = self.side(side, actor);
+        if self.phases(actor) == 1 {
+            return ends.first as usize;
+        }
+        let moved = &ends.moved;
+        // An actor with no channel there moves nothing, in whichever phase.
+        if turn.phase as usize >= moved.len() {
+            return 0;
+        }
+        moved[turn.phase as usize] as usize
+    }
+
+    /// The first channel from the actor to itself.
+    #[inline(always)]
+    pub(crate) fn first_loop(&self, actor: u32) -> Option<u32>
+        requires { actor < length self.now.sources }
+        ensures { IsFirstLoop self.now.channels actor result }
+    {
+        self.actor(actor).own
+    }
+
+    /// Whether no channel goes from the actor to itself.
+    #[inline(always)]
+    pub(crate) fn has_no_loop(&self, actor: u32) -> bool
+        requires { actor < length self.now.sources }
+        ensures { IsTrue result ↔ HasNoLoop self.now.channels actor }
+    {
+        match self.first_loop(actor) {
+            Some(_) => false,
+            None => true,
+        }
     }
 
     /// The greatest number of firings of all actors, where there is one.

@@ -3,7 +3,7 @@
 
 ghost use Rattle.std.specs.Prelude.{◌≡◌, ◌+◌, ◌<◌, ◌≤◌, ◌↔◌, IsTrue, drop, length, slice_set};
 ghost use Rattle.csdf_pool.specs.Pool.{IsPartition, after_takes};
-ghost use Rattle.csdf_core.specs.Blocks.{takes_at, HoldAll, HasNoLoop};
+ghost use Rattle.csdf_core.specs.Blocks.{takes_at, HoldAll};
 ghost use Rattle.csdf_core.specs.Phases.{IsInPhase};
 ghost use Rattle.csdf_core.specs.Ports.{inputs_at, outputs_at, take_at, tokens_in, tokens_at, EnoughOver, raise_over};
 ghost use Rattle.csdf_core.specs.Rows.{gift};
@@ -14,20 +14,6 @@ use crate::transfer::{put_outputs, raise_peaks};
 use crate::turn::Turn;
 use csdf_model::MAX_FIRINGS_PER_ACTOR;
 use csdf_pool::Pool;
-
-/// Whether no channel goes from the actor to itself.
-pub(crate) fn has_no_loop(plan: &Plan, actor: u32) -> bool
-    requires { actor < length plan.now.sources }
-    ensures { IsTrue result ↔ HasNoLoop plan.now.channels actor }
-{
-    let inputs = plan.inputs(actor);
-    for channel in inputs {
-        if plan.producer(*channel) == actor {
-            return false;
-        }
-    }
-    true
-}
 
 /// Whether each input of the actor holds what its next n firings take of it.
 pub(crate) fn hold_each(plan: &Plan, pool: &Pool, actor: u32, turn: Turn, n: u32) -> bool

@@ -6,29 +6,11 @@ ghost use Rattle.csdf_core.specs.Transfers.{after_read, after_write};
 ghost use Rattle.csdf_core.specs.Phases.{IsInPhase};
 ghost use Rattle.csdf_core.specs.Rows.{need, gift};
 ghost use Rattle.csdf_core.specs.Ports.{inputs_at, outputs_at, take_at, give_at, tokens_in, tokens_at};
-ghost use Rattle.csdf_core.specs.Sides.{moved};
 ghost use Rattle.csdf_core.specs.Ports.{takes_over, taken_over, EnoughOver, puts_over, raise_over};
 
 use crate::plan::Plan;
-use crate::side::Side;
 use crate::turn::Turn;
-use csdf_model::MAX_TOTAL_PER_FIRING;
 use csdf_pool::Pool;
-
-/// How many tokens the actor's firing moves at this side.
-pub(crate) fn moved(plan: &Plan, side: Side, actor: u32, turn: Turn) -> usize
-    requires actor { actor < length plan.now.sources }
-    requires in_phase { IsInPhase plan.now.channels actor turn.firing turn.phase }
-    ensures value { result ≡ moved side actor turn.firing plan.now.channels }
-    ensures small { result ≤ MAX_TOTAL_PER_FIRING }
-{
-    let ends = plan.ends(side, actor);
-    let mut sum = 0;
-    for channel in ends {
-        sum += plan.amount(side, *channel, turn) as usize;
-    }
-    sum
-}
 
 /// Takes the oldest tokens of a channel, as many as the slice has places.
 fn take_tokens(pool: &mut Pool, channel: u32, into: &mut [i32])

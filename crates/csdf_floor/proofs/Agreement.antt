@@ -39,7 +39,7 @@ use Rattle.csdf_floor.proofs.Sequential.{kept_by, IsAtRest, rest_fired, goes, af
 abbrev pub IsAgreed : List ℤ → List ℤ → Type 0
 IsAgreed x y = (n : ℕ) → n ≤ length x → n ≤ length y → take n x ≡ take n y
 
-agreed_part : (x y : List ℤ) (p n : ℕ) → IsAgreed x y → p + n ≤ length x → p + n ≤ length y → take n (drop p x) ≡ take n (drop p y)
+pub agreed_part : (x y : List ℤ) (p n : ℕ) → IsAgreed x y → p + n ≤ length x → p + n ≤ length y → take n (drop p x) ≡ take n (drop p y)
 agreed_part x y p n same lex ley = sym (drop-take p n x) ∙ ap (drop p) (same (p + n) lex ley) ∙ drop-take p n y
 
 -- x goes on as y does

@@ -48,10 +48,6 @@ book_of w core journal sinks reads = record {
 
 -- ---- the core
 
--- a channel of the core is one of what is run
-pub in_program : (f : FloorView) (reads : List (List ℤ)) (c : ℕ) → IsBook f reads → c < length f.core.plan.channels → c < length (program f.work).plan.channels
-in_program f reads c b lt = subst (λ (u : Plan). c < length u.channels) b.kept.plan lt
-
 -- what a core's answer says of the step
 pub accepted_as : (w : Program) (core nxt : View) (journal : List Move) (m : Move) (tokens : List ℤ) → IsKept w core journal → Follows core nxt m (Ok tokens)
     → (refusal w.plan (present (state_of w journal)) m ≡ None) × (tokens ≡ answer w.plan (present (state_of w journal)) m)

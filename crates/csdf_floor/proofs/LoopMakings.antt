@@ -1,5 +1,5 @@
 -- Firings that keep a state, as a floor makes them.
-use Rattle.std.proofs.Common.{◌≡◌, ℕ, zero, suc, ◌+◌, ◌*◌, ◌<◌, ◌≤◌, Bool, true, false, List, [], ◌∷◌, ◌++◌, length, get_or, take, drop}
+use Rattle.std.proofs.Common.{◌≡◌, ℕ, zero, suc, ◌+◌, ◌*◌, ◌≤◌, Bool, true, false, List, [], ◌∷◌, ◌++◌, length, get_or, take, drop}
 use Rattle.std.proofs.Common.{cond, refl, ap, ap₂, sym, subst, ◌∙◌, arith, suc-mul}
 use Rattle.std.specs.Prelude.{ℤ, sum, sum_by, slice_range}
 use Rattle.std.proofs.Math.Seq.{take-append_seam, drop-append_seam}
@@ -11,16 +11,15 @@ use Rattle.csdf_kernel.specs.Loop as kernel
 use Rattle.csdf_kernel.specs.Value.{value_of}
 use Rattle.csdf_kernel.proofs.ValueLemmas.{length_of_value}
 use Rattle.csdf_core.specs.declared.feedback.Feedback.{Feedback}
-use Rattle.csdf_core.specs.Blocks.{firings_of, answers_to, reads_among, parts_of, needs_of, gifts_of}
+use Rattle.csdf_core.specs.Blocks.{needs_of, gifts_of}
 use Rattle.csdf_core.specs.Engine.{AreReadWith}
 use Rattle.csdf_core.specs.Feedback.{IsFeedback, beside, in_order, loop_reads, others_of}
 use Rattle.csdf_core.specs.Moves.{Move}
 use Rattle.csdf_core.specs.Plan.{Channel, Plan}
 use Rattle.csdf_core.specs.Ports.{take_at}
 use Rattle.csdf_core.specs.Rows.{need, gift}
-use Rattle.csdf_core.specs.Shows.{View, PassesThrough, Plays}
-use Rattle.csdf_core.specs.Step.{count, given, is_source, stage}
-use Rattle.csdf_core.specs.declared.stage.Stage.TheVariants.{Idle}
+use Rattle.csdf_core.specs.Shows.{View}
+use Rattle.csdf_core.specs.Step.{count, given, is_source}
 use Rattle.csdf_core.proofs.FeedbackTokens.{state_before, state_given}
 use Rattle.csdf_core.proofs.OnePhase.{same_gift, same_need}
 use Rattle.csdf_core.proofs.PortLemmas.{need_is}
@@ -30,7 +29,7 @@ use Rattle.csdf_floor.specs.Making.{AreOwnValues, made_value}
 use Rattle.csdf_floor.specs.Work.{IsWork, Work, program}
 use Rattle.csdf_floor.proofs.Books.{floor_of}
 use Rattle.csdf_floor.proofs.Journals.{value_is}
-use Rattle.csdf_floor.proofs.Makings.{IsMade, length_made, made_book, same_outputs}
+use Rattle.csdf_floor.proofs.Makings.{length_made, same_outputs}
 use Rattle.csdf_floor.proofs.Sequential.{length_value}
 use Rattle.csdf_floor.proofs.Works.{playable_program}
 use Rattle.std.proofs.lemmas.List.Elements.{recursion_from_All}
@@ -175,29 +174,6 @@ own_values keeps w core journal sinks reads a n f state others v b told0 state_l
       read = read_as v v_long;
       just = v_made;
     }
-
-pub fired_on_book : (keeps : Bool) (w : Work) (core new : View) (journal : List Move) (sinks reads : List (List ℤ)) (a n : ℕ) (v : List ℤ)
-    → IsBook (floor_of keeps w core journal sinks) reads → a < length core.plan.sources → stage core.now a ≡ Idle
-    → (own : AreOwnValues (floor_of keeps w core journal sinks) a n v)
-    → Plays core new (firings_of core.plan.channels a (count core.now a) n v)
-    (answers_to core.plan core.now (firings_of core.plan.channels a (count core.now a) n v))
-    → IsMade keeps w core new journal sinks reads a (count core.now a) n own.tokens v
-fired_on_book keeps w core new journal sinks reads a n v b there idle own plays =
-    let p : Program = program w in
-    let k : ℕ = count core.now a in
-    let tokens : List ℤ = own.tokens in
-    let same : core.plan ≡ p.plan = b.kept.plan in
-    let len : length tokens ≡ needs_of p.plan.channels a k n = own.long ∙ ap (λ (u : Plan). needs_of u.channels a k n) same in
-    let through : PassesThrough core new (firings_of p.plan.channels a k n (made_value p a k n tokens))
-    (answers_to p.plan core.now (firings_of p.plan.channels a k n (made_value p a k n tokens))) =
-    subst (λ (x : List ℤ). PassesThrough core new (firings_of p.plan.channels a k n x) (answers_to p.plan core.now (firings_of p.plan.channels a k n x)))
-    own.just
-    (subst (λ (u : Plan). PassesThrough core new (firings_of u.channels a k n v) (answers_to u core.now (firings_of u.channels a k n v))) same plays.through) in
-    let read : reads_among p.plan core.now (firings_of p.plan.channels a k n (made_value p a k n tokens)) ≡ parts_of p.plan.channels a k n tokens =
-    subst (λ (x : List ℤ). reads_among p.plan core.now (firings_of p.plan.channels a k n x) ≡ parts_of p.plan.channels a k n tokens) own.just
-    (subst (λ (u : Plan). reads_among u core.now (firings_of u.channels a k n v) ≡ parts_of u.channels a k n tokens) same own.read) in
-    subst (λ (x : List ℤ). IsMade keeps w core new journal sinks reads a k n tokens x) (sym own.just)
-    (made_book {keeps = keeps} w n core new journal sinks reads a k tokens b there idle refl len through read)
 
 -- the firings have small numbers
 pub few_numbers : (w : Work) (a k n : ℕ) → IsWork w → k + n ≤ get_or (program w).plan.limits a 0 → k + n ≤ 16384000

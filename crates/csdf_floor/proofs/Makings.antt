@@ -27,7 +27,7 @@ use Rattle.csdf_journal.specs.View.{JournalView}
 use Rattle.csdf_floor.specs.Floor.{FloorView, IsKept}
 use Rattle.csdf_floor.specs.Inside.{IsBook, ListsView}
 use Rattle.csdf_floor.specs.Journal.{Program, output_counts, value, state_of, reads_of, IsJust}
-use Rattle.csdf_floor.specs.Making.{made_value, HasMade}
+use Rattle.csdf_floor.specs.Making.{made_value, AreKeptValues, AreOwnValues, HasMade}
 use Rattle.csdf_floor.specs.Sequential.{firing, fired, moves_from}
 use Rattle.csdf_floor.specs.Work.{Work, program, is_sink_kernel}
 use Rattle.csdf_floor.proofs.Books.{floor_of, accepted_as, now_next, book_moved, book_read, sinks_after, sinks_each, write_just, staged, counted}
@@ -191,6 +191,15 @@ sinks_none w sinks a = by (is_sink_kernel (get_or (program w).kernels a Sink))
     by true = ap (set sinks a) (append-nil (get_or sinks a [])) ∙ set-get_or sinks a []
     by false = refl
 
+-- only a sink keeps what it read
+pub sinks_alike : (w : Work) (sinks : List (List ℤ)) (a : ℕ) (xs ys : List ℤ) → (is_sink_kernel (get_or (program w).kernels a Sink) ≡ true → xs ≡ ys)
+    → sinks_after w sinks a xs ≡ sinks_after w sinks a ys
+sinks_alike w sinks a xs ys same = by (is_sink_kernel (get_or (program w).kernels a Sink)) same
+  where
+    by : (on : Bool) → (on ≡ true → xs ≡ ys) → cond on (set sinks a (get_or sinks a [] ++ xs)) sinks ≡ cond on (set sinks a (get_or sinks a [] ++ ys)) sinks
+    by true e = ap (λ (u : List ℤ). set sinks a (get_or sinks a [] ++ u)) (e refl)
+    by false e = refl
+
 -- ---- n firings
 
 pub record IsMade (keeps : Bool) (w : Work) (core new : View) (journal : List Move) (sinks reads : List (List ℤ)) (a k n : ℕ) (tokens v : List ℤ) : Type 0 where
@@ -307,29 +316,50 @@ length_made w a k (suc n) tokens =
     let rest = length_made w a (suc k) n later in
     omega (arith, e, one, rest)
 
+-- how many tokens the kernel's own values are
+pub all_given : (f : FloorView) (a n : ℕ) (v : List ℤ) → f.core.plan ≡ (program f.work).plan → AreOwnValues f a n v
+    → length v ≡ gifts_of f.core.plan.channels a (count f.core.now a) n
+all_given f a n v same own =
+    ap length own.just ∙ length_made (program f.work) a (count f.core.now a) n own.tokens
+    ∙ ap (λ (u : Plan). gifts_of u.channels a (count f.core.now a) n) (sym same)
+
 pub fired_book : (keeps : Bool) (w : Work) (core new : View) (journal : List Move) (sinks reads : List (List ℤ)) (a n : ℕ) (v : List ℤ)
     → IsBook (floor_of keeps w core journal sinks) reads → a < length core.plan.sources → stage core.now a ≡ Idle
-    → length (get_or reads a []) ≡ needs_of core.plan.channels a (count core.now a) n
-    → AreReadEach core.plan core.now a (count core.now a) n (get_or reads a [])
-    → v ≡ made_value (program w) a (count core.now a) n (get_or reads a [])
+    → (own : AreOwnValues (floor_of keeps w core journal sinks) a n v)
     → Plays core new (firings_of core.plan.channels a (count core.now a) n v)
     (answers_to core.plan core.now (firings_of core.plan.channels a (count core.now a) n v))
-    → IsMade keeps w core new journal sinks reads a (count core.now a) n (get_or reads a []) v
-fired_book keeps w core new journal sinks reads a n v b there idle len each is plays =
+    → IsMade keeps w core new journal sinks reads a (count core.now a) n own.tokens v
+fired_book keeps w core new journal sinks reads a n v b there idle own plays =
     let p : Program = program w in
     let k : ℕ = count core.now a in
-    let tokens : List ℤ = get_or reads a [] in
+    let tokens : List ℤ = own.tokens in
     let same : core.plan ≡ p.plan = b.kept.plan in
-    let len2 : length tokens ≡ needs_of p.plan.channels a k n = len ∙ ap (λ (u : Plan). needs_of u.channels a k n) same in
+    let len : length tokens ≡ needs_of p.plan.channels a k n = own.long ∙ ap (λ (u : Plan). needs_of u.channels a k n) same in
     let through : PassesThrough core new (firings_of p.plan.channels a k n (made_value p a k n tokens))
     (answers_to p.plan core.now (firings_of p.plan.channels a k n (made_value p a k n tokens))) =
-    subst (λ (x : List ℤ). PassesThrough core new (firings_of p.plan.channels a k n x) (answers_to p.plan core.now (firings_of p.plan.channels a k n x))) is
+    subst (λ (x : List ℤ). PassesThrough core new (firings_of p.plan.channels a k n x) (answers_to p.plan core.now (firings_of p.plan.channels a k n x)))
+    own.just
     (subst (λ (u : Plan). PassesThrough core new (firings_of u.channels a k n v) (answers_to u core.now (firings_of u.channels a k n v))) same plays.through) in
-    let each2 : AreReadEach p.plan core.now a k n tokens = subst (λ (u : Plan). AreReadEach u core.now a k n tokens) same each in
     let read : reads_among p.plan core.now (firings_of p.plan.channels a k n (made_value p a k n tokens)) ≡ parts_of p.plan.channels a k n tokens =
-    each2 (made_value p a k n tokens) (length_made p a k n tokens) in
-    subst (λ (x : List ℤ). IsMade keeps w core new journal sinks reads a k n tokens x) (sym is)
-    (made_book {keeps = keeps} w n core new journal sinks reads a k tokens b there idle refl len2 through read)
+    subst (λ (x : List ℤ). reads_among p.plan core.now (firings_of p.plan.channels a k n x) ≡ parts_of p.plan.channels a k n tokens) own.just
+    (subst (λ (u : Plan). reads_among u core.now (firings_of u.channels a k n v) ≡ parts_of u.channels a k n tokens) same own.read) in
+    subst (λ (x : List ℤ). IsMade keeps w core new journal sinks reads a k n tokens x) (sym own.just)
+    (made_book {keeps = keeps} w n core new journal sinks reads a k tokens b there idle refl len through read)
+
+-- those of what the buffer holds
+pub kept_values : (f : FloorView) (a n : ℕ) (buffer v : List ℤ) → f.core.plan ≡ (program f.work).plan
+    → length buffer ≡ needs_of f.core.plan.channels a (count f.core.now a) n → AreReadEach f.core.plan f.core.now a (count f.core.now a) n buffer
+    → v ≡ made_value (program f.work) a (count f.core.now a) n buffer → AreKeptValues f a n buffer v
+kept_values f a n buffer v same long each just = record {
+  own = record {
+    tokens = buffer;
+    long = long;
+    read = each v (ap length just ∙ length_made (program f.work) a (count f.core.now a) n buffer
+        ∙ ap (λ (u : Plan). gifts_of u.channels a (count f.core.now a) n) (sym same));
+    just = just;
+  };
+  kept = λ _. refl;
+}
 
 -- the book then
 pub book_fired : (keeps keeps2 : Bool) (w : Work) (core new : View) (journal moves2 : List Move) (sinks sinks2 reads : List (List ℤ)) (a n : ℕ)

@@ -27,7 +27,6 @@ use Rattle.csdf_core.proofs.Able.{IsAble, IsAbleAt, later}
 use Rattle.csdf_core.proofs.Booked.{IsBooked}
 use Rattle.csdf_core.proofs.Kept.{begins, reads, writes, finishes}
 use Rattle.csdf_floor.specs.Journal.{Program, program_for, no_reads, reads_after, state_of, IsHonestFrom}
-use Rattle.csdf_floor.specs.Laws.{begun}
 use Rattle.csdf_floor.specs.Most.{BeginsAtMost, StaysWithinMost, no_more_than}
 use Rattle.csdf_floor.specs.Work.{program}
 use Rattle.csdf_floor.proofs.Bounds.{after_is, faithful_after, faithful_end}

@@ -16,7 +16,7 @@ use Rattle.csdf_analysis.specs.Repetition.{IsRepetition}
 use Rattle.csdf_analysis.proofs.BoundLemmas.{firing_fits, phases_within}
 use Rattle.csdf_kernel.specs.Value.{HasFilterInRange}
 use Rattle.csdf_core.specs.Planned.{is_source_kernel}
-use Rattle.csdf_core.specs.Plan.{Channel, Plan, gives_of, to_at}
+use Rattle.csdf_core.specs.Plan.{Channel, Plan, gives_of}
 use Rattle.csdf_core.specs.Ports.{give_at, outputs_at}
 use Rattle.csdf_core.specs.Step.{producer}
 use Rattle.csdf_core.specs.Playable.{IsPlayable}
@@ -157,11 +157,6 @@ ends_there w c d is lt =
     All-get_or (λ (e : Channel). (e.from < length (program w).plan.sources) × (e.to < length (program w).plan.sources)) (program w).plan.channels c d lt
     (All-from_recursion (λ (e : Channel). (e.from < length (program w).plan.sources) × (e.to < length (program w).plan.sources)) (program w).plan.channels
     playable.ends)
-
-pub consumer_there : (w : Work) (c : ℕ) → IsWork w → c < length (program w).plan.channels → to_at (program w).plan.channels c < length (program w).plan.sources
-consumer_there w c is lt =
-    let d : Channel = record { from = 0; to = 0; produce = []; consume = []; initial = []; capacity = 0 } in
-    subst (λ n. n < length (program w).plan.sources) (sym (get_or-map (λ (e : Channel). e.to) (program w).plan.channels c d 0 lt)) (ends_there w c d is lt).1
 
 -- the producer of a channel is there
 pub producer_there : (w : Work) (c : ℕ) → IsWork w → c < length (program w).plan.channels → producer (program w).plan c < length (program w).plan.sources

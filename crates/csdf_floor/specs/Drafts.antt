@@ -4,18 +4,24 @@ use Rattle.csdf_model.specs.declared.limits.TheConstants.{MAX_CHANNELS, MAX_TOKE
 use Rattle.csdf_model.specs.declared.parts.Kernel.{Kernel}
 use Rattle.csdf_model.specs.declared.parts.Kernel.TheVariants.{Source, Sink, Copy, Sum, Fir}
 use Rattle.csdf_kernel.specs.Value.{HasFilterInRange}
-use Rattle.csdf_core.specs.Blocks.{AreReadEach, HoldAll, needs_of, takes_at}
+use Rattle.csdf_core.specs.declared.stage.Stage.TheVariants.{Idle}
+use Rattle.csdf_core.specs.Blocks.{AreReadEach, HoldAll, needs_of, reads_over, takes_at}
 use Rattle.csdf_core.specs.Engine.{CanFire}
+use Rattle.csdf_core.specs.Moves.{Move}
 use Rattle.csdf_core.specs.Phases.{HasPhases}
-use Rattle.csdf_core.specs.Ports.{inputs_at}
+use Rattle.csdf_core.specs.Ports.{inputs_at, tokens_at}
 use Rattle.csdf_core.specs.Rows.{need}
-use Rattle.csdf_core.specs.Step.{count, is_source}
+use Rattle.csdf_core.specs.State.{present}
+use Rattle.csdf_core.specs.Step.{count, is_source, stage}
 use Rattle.csdf_floor.specs.Floor.{FloorView}
-use Rattle.csdf_floor.specs.Journal.{output_counts}
-use Rattle.csdf_floor.specs.Work.{program}
+use Rattle.csdf_floor.specs.Journal.{IsHonest, Program, output_counts, state_of}
+use Rattle.csdf_floor.specs.Work.{is_sink_kernel, program}
 
--- so many firings of a kernel, each with these counts and so many of the inputs, and whether their values are there: all else determines them
+-- so many firings of an actor, from this number on: their kernel, each with these counts and so many of the inputs, and whether their values are there: all
+-- else determines them
 pub record DraftView : Type 0 where
+  pub actor : ℕ
+  pub firing : ℕ
   pub kernel : Kernel
   pub counts : List ℕ
   pub need : ℕ
@@ -31,21 +37,41 @@ pub record IsSound (kernel : Kernel) (counts : List ℕ) (need firings : ℕ) (i
   pub filter_in_range : HasFilterInRange kernel
   pub whole : firings * need ≤ length inputs
 
--- the draft has what the actor's next firings compute from, but for their tokens, which may be any of as many. The actor is no source, has one phase and can make
--- these firings, which find all that they read
+-- in some honest journal the actor stood idle at firing number k and found all that n firings read, which are these tokens
+pub record AreReadIn (w : Program) (a k n : ℕ) (tokens : List ℤ) : Type 0 where
+  pub journal : List Move
+  pub honest : IsHonest w journal
+  pub idle : stage (present (state_of w journal)) a ≡ Idle
+  pub number : count (present (state_of w journal)) a ≡ k
+  pub held : HoldAll (present (state_of w journal)).tokens (takes_at w.plan.channels k n) (inputs_at w.plan.channels a)
+  pub read : tokens ≡ reads_over w.plan.channels (inputs_at w.plan.channels a) k n (tokens_at (present (state_of w journal)).tokens)
+
+-- the draft has what the actor's firings from number k on compute from. The actor is no source and no sink, and has one phase
+pub record IsDraftedAt (w : Program) (a k : ℕ) (d : DraftView) : Type 0 where
+  pub phases : HasPhases w.plan.channels a 1
+  pub no_source : is_source w.plan a ≡ false
+  pub no_sink : is_sink_kernel (slice_index_or w.kernels a Sink) ≡ false
+  pub kernel : d.kernel ≡ slice_index_or w.kernels a Sink
+  pub counts : d.counts ≡ output_counts w a k
+  pub need : d.need ≡ need a k w.plan.channels
+  pub long : length d.inputs ≡ needs_of w.plan.channels a k d.firings
+  pub read : AreReadIn w a k d.firings d.inputs
+
+-- the draft is of this work
+abbrev pub IsDrafted : Program → DraftView → Type 0
+IsDrafted w d = IsDraftedAt w d.actor d.firing d
+
+-- the draft's firings are the actor's next ones, which it can make, and which find all that they read
 pub record Suits (f : FloorView) (a : ℕ) (d : DraftView) : Type 0 where
+  pub actor : d.actor ≡ a
+  pub firing : d.firing ≡ count f.core.now a
   pub can : CanFire f.core.plan f.core.now a d.firings
   pub held : HoldAll f.core.now.tokens (takes_at f.core.plan.channels (count f.core.now a) d.firings) (inputs_at f.core.plan.channels a)
-  pub phases : HasPhases f.core.plan.channels a 1
-  pub other : is_source (program f.work).plan a ≡ false
-  pub kernel : d.kernel ≡ slice_index_or (program f.work).kernels a Sink
-  pub counts : d.counts ≡ output_counts (program f.work) a (count f.core.now a)
-  pub need : d.need ≡ need a (count f.core.now a) f.core.plan.channels
-  pub long : length d.inputs ≡ needs_of f.core.plan.channels a (count f.core.now a) d.firings
 
 -- the draft is one of the actor's next firings: it has the tokens that they read
 pub record IsDraftOf (f : FloorView) (a : ℕ) (d : DraftView) : Type 0 where
   pub suits : Suits f a d
+  pub drafted : IsDrafted (program f.work) d
   pub read : AreReadEach f.core.plan f.core.now a (count f.core.now a) d.firings d.inputs
 
 -- how many taps a filter has; none for another kernel

@@ -1,5 +1,5 @@
 -- Several firings of one actor, made at once.
-use Rattle.std.specs.Prelude.{ℕ, zero, suc, ◌≡◌, ◌+◌, ◌*◌, List, [], ◌++◌, ℤ, if◌then◌else◌, length, take, drop, slice_index_or, slice_set, replicate}
+use Rattle.std.specs.Prelude.{ℕ, zero, suc, ◌≡◌, ◌+◌, ◌*◌, true, List, [], ◌++◌, ℤ, if◌then◌else◌, length, take, drop, slice_index_or, slice_set, replicate}
 use Rattle.csdf_model.specs.declared.parts.Kernel.{Kernel}
 use Rattle.csdf_model.specs.declared.parts.Kernel.TheVariants.{Sink}
 use Rattle.csdf_kernel.specs.Value.{value_of}
@@ -18,7 +18,7 @@ use Rattle.csdf_core.specs.State.{present}
 use Rattle.csdf_floor.specs.Floor.{FloorView, HasGone, closes}
 use Rattle.csdf_floor.specs.Journal.{Program, output_counts, value, state_of}
 use Rattle.csdf_floor.specs.Sequential.{moves_from}
-use Rattle.csdf_floor.specs.Work.{program}
+use Rattle.csdf_floor.specs.Work.{is_sink_kernel, program}
 
 -- the kernel's values of n firings from number k on, end to end, where these are the tokens that they read, end to end
 abbrev pub made_value : Program → ℕ → ℕ → ℕ → List ℤ → List ℤ
@@ -59,6 +59,11 @@ pub record AreOwnValues (f : FloorView) (a n : ℕ) (v : List ℤ) : Type 0 wher
   pub long : length tokens ≡ needs_of f.core.plan.channels a (count f.core.now a) n
   pub read : AreReadWith f.core.plan f.core.now a (count f.core.now a) n v tokens
   pub just : v ≡ made_value (program f.work) a (count f.core.now a) n tokens
+
+-- and a sink has these tokens in its buffer
+pub record AreKeptValues (f : FloorView) (a n : ℕ) (buffer v : List ℤ) : Type 0 where
+  pub own : AreOwnValues f a n v
+  pub kept : is_sink_kernel (slice_index_or (program f.work).kernels a Sink) ≡ true → buffer ≡ own.tokens
 
 -- the block is one of the actor's next firings, which it can make
 pub record IsBlock (core : View) (a : ℕ) (b : Block) : Type 0 where

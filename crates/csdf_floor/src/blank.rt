@@ -16,16 +16,14 @@ use crate::lists::Lists;
 use csdf_analysis::Accepted;
 use csdf_core::Core;
 use csdf_journal::{Journal, Keeping};
-use csdf_model::{Graph, MAX_FIRINGS_PER_ACTOR};
+use csdf_model::MAX_FIRINGS_PER_ACTOR;
 use std::alloc::{AllocError, Global};
 
-/// All of a book that takes memory, but what it is made over: a core that has not moved, whether each actor
-/// has a channel to itself, a journal of no moves with room for the closing of each channel, an empty list
-/// for each actor, and an empty buffer.
+/// All of a book that takes memory, but what it is made over: a core that has not moved, a journal of no moves
+/// with room for the closing of each channel, an empty list for each actor, and an empty buffer.
 #[derive(Drop)]
 pub(crate) struct BlankBook {
     pub(crate) core: Core,
-    pub(crate) loops: Vec<bool>,
     pub(crate) journal: Journal,
     pub(crate) sinks: Lists,
     pub(crate) reads: Vec<Vec<i32>>,
@@ -98,19 +96,6 @@ fn empty_journal(alloc: Global, keeping: Keeping, room: usize) -> Result<Journal
     Ok(journal)
 }
 
-/// Whether each actor has a channel to itself.
-fn loops_of(alloc: Global, graph: &Graph) -> Result<Vec<bool>, AllocError> {
-    let mut loops = vec![in alloc; false; graph.actors().len()]?;
-    for channel in graph.channels() {
-        if channel.from == channel.to
-            && let Some(feeds_itself) = loops.get_mut(channel.from as usize)
-        {
-            *feeds_itself = true;
-        }
-    }
-    Ok(loops)
-}
-
 /// What the sinks of so many actors took, and what the actors read: nothing.
 fn no_tokens(alloc: Global, actors: u32) -> Result<(Lists, Vec<Vec<i32>>), AllocError>
     ensures sinks { IfOk result (λ lists. lists.0.lists ≡ replicate actors []) }
@@ -122,12 +107,7 @@ fn no_tokens(alloc: Global, actors: u32) -> Result<(Lists, Vec<Vec<i32>>), Alloc
 }
 
 /// The parts of a book of this core, which has not moved.
-fn parts_of(
-    alloc: Global,
-    core: Core,
-    loops: Vec<bool>,
-    keeping: Keeping,
-) -> Result<BlankBook, AllocError>
+fn parts_of(alloc: Global, core: Core, keeping: Keeping) -> Result<BlankBook, AllocError>
     requires opening { Shows core (opening core.plan) }
     requires peaks { core.peaks ≡ first_peaks core.plan }
     ensures blank { IfOk result (IsBlank core.plan) }
@@ -137,7 +117,6 @@ fn parts_of(
     let (sinks, reads) = no_tokens(alloc, core.actors())?;
     Ok(BlankBook {
         core,
-        loops,
         journal,
         sinks,
         reads,
@@ -158,7 +137,6 @@ impl BlankBook {
         ensures keeps { IfOk result (λ blank. blank.journal.keeps ≡ is_kept keeping) }
     {
         let core = core_of(alloc, &fed.accepted, &fed.feeds, bounds)?;
-        let loops = loops_of(alloc, fed.accepted.graph())?;
-        parts_of(alloc, core, loops, keeping)
+        parts_of(alloc, core, keeping)
     }
 }

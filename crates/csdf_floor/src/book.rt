@@ -90,14 +90,12 @@ impl Book {
     {
         let BlankBook {
             core,
-            loops,
             journal,
             sinks,
             reads,
         } = blank;
-        let work = Work::new(fed, bounds, loops);
         Book {
-            work,
+            work: Work::new(fed, bounds),
             core,
             journal,
             sinks,
@@ -297,7 +295,7 @@ impl Book {
         ensures due { is_due self.old.shown.core.plan self.old.shown.core.now channel ≡ true → IsNext self.old self.new (Close channel) }
         ensures other { is_due self.old.shown.core.plan self.old.shown.core.now channel ≡ false → self.new ≡ self.old }
     {
-        let producer = self.work.producer(channel);
+        let producer = self.core.producer(channel);
         if self.core.is_open(channel) && self.core.is_over(producer) {
             self.close(channel);
         }
@@ -358,14 +356,12 @@ impl Book {
         requires idle { (a : ℕ) → a < length self.now.shown.core.plan.sources → stage self.now.shown.core.now a ≡ Idle }
         ensures { result ≡ report_of (program self.now.shown.work) self.now.shown.journal channel }
     {
-        let written = self.core.fired(self.work.producer(channel));
-        let taken = self.core.fired(self.work.consumer(channel));
         ChannelReport {
-            written: self.work.produced(channel, written),
-            taken: self.work.consumed(channel, taken),
+            written: self.core.put_into(channel),
+            taken: self.core.taken_from(channel),
             held: self.core.len(channel),
             peak: self.core.peak(channel),
-            capacity: self.work.capacity(channel),
+            capacity: self.core.capacity(channel),
             is_open: self.core.is_open(channel),
         }
     }

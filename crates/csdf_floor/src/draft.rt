@@ -1,18 +1,22 @@
 //! Firings that are evaluated before they are made.
 
-ghost use Rattle.std.specs.Prelude.{◌≡◌, ◌<◌, ◌≤◌, ◌*◌, IsTrue, OnOk, OnErr, false, length, true};
+ghost use Rattle.std.specs.Prelude.{◌≡◌, ◌<◌, OnOk, OnErr, false, true};
 ghost use Rattle.csdf_kernel.specs.Value.{values_of};
+ghost use Rattle.csdf_floor.specs.Drafts.{IsDrafted};
+ghost use Rattle.csdf_floor.specs.Journal.{Program};
 
-use crate::same::is_same_kernel;
 use csdf_kernel::{Counts, Outputs, eval_block};
 use csdf_model::Kernel;
 use std::alloc::{AllocError, Global};
 use std::marker::Model;
 
-/// Several firings of an actor that are evaluated before they are made: what they compute from, and then
-/// their values. It needs nothing but what is in it. A contract sees no values: all else determines them.
+/// Several firings of an actor that are evaluated before they are made: which they are, what they compute
+/// from, and then their values. It needs nothing but what is in it. A contract sees no values: all else
+/// determines them.
 #[derive(Drop)]
 pub struct Draft {
+    pub(crate) actor: u32,
+    pub(crate) firing: u32,
     pub(crate) kernel: Kernel,
     pub(crate) counts: Counts,
     pub(crate) need: usize,
@@ -29,7 +33,7 @@ impl Model for Draft {
 
     ghost Value = { DraftView };
 
-    ghost view = { λ d. record { kernel = d.kernel; counts = d.counts.items; need = d.need; firings = d.firings; inputs = d.inputs.items; is_made = d.is_made } };
+    ghost view = { λ d. record { actor = d.actor; firing = d.firing; kernel = d.kernel; counts = d.counts.items; need = d.need; firings = d.firings; inputs = d.inputs.items; is_made = d.is_made } };
 
     ghost invariant = { λ d. (0 < d.firings → IsSound d.kernel d.counts.items d.need d.firings d.inputs.items)
         × (d.is_made ≡ true → d.outputs.items ≡ values_of d.kernel d.counts.items d.need d.firings d.inputs.items) };
@@ -42,6 +46,8 @@ impl Draft {
         ensures is_made { result.is_made ≡ false }
     {
         Draft {
+            actor: 0,
+            firing: 0,
             kernel: Kernel::Sink,
             counts: Counts::new(alloc),
             need: 0,
@@ -57,35 +63,6 @@ impl Draft {
         ensures { result ≡ self.now.firings }
     {
         self.firings
-    }
-
-    /// What each of them computes from, end to end.
-    pub(crate) fn inputs(&self) -> &[i32]
-        ensures { result.now ≡ self.now.inputs }
-    {
-        &self.inputs
-    }
-
-    /// Whether they are firings of this kernel, with these inputs each, of which there are so many in all.
-    pub(crate) fn is_of(&self, kernel: &Kernel, need: usize, inputs: usize) -> bool
-        ensures kernel { IsTrue result → self.now.kernel ≡ kernel.now }
-        ensures need { IsTrue result → self.now.need ≡ need }
-        ensures inputs { IsTrue result → length self.now.inputs ≡ inputs }
-    {
-        if !is_same_kernel(&self.kernel, kernel) {
-            return false;
-        }
-        if self.need != need {
-            return false;
-        }
-        self.inputs.len() == inputs
-    }
-
-    /// How many tokens each of them writes to each output.
-    pub(crate) fn counts(&self) -> &[u32]
-        ensures { result.now ≡ self.now.counts }
-    {
-        self.counts.as_slice()
     }
 
     /// From now on it has no firing.
@@ -114,11 +91,14 @@ impl Draft {
     ///
     /// An error says that memory ran out; then they are not evaluated.
     pub fn evaluate(&mut self) -> Result<(), AllocError>
+        ensures actor { self.new.actor ≡ self.old.actor }
+        ensures firing { self.new.firing ≡ self.old.firing }
         ensures kernel { self.new.kernel ≡ self.old.kernel }
         ensures counts { self.new.counts ≡ self.old.counts }
         ensures need { self.new.need ≡ self.old.need }
         ensures firings { self.new.firings ≡ self.old.firings }
         ensures inputs { self.new.inputs ≡ self.old.inputs }
+        ensures drafted { (w : Program) → IsDrafted w self.old → IsDrafted w self.new }
         ensures made { OnOk result (0 < self.old.firings → self.new.is_made ≡ true) }
         ensures none { OnErr result (self.new.is_made ≡ false) }
     {

@@ -1,25 +1,23 @@
 //! Drafts of an actor's next firings, and how firings are made from them.
 
-ghost use Rattle.std.specs.Prelude.{◌≡◌, ◌↔◌, ◌<◌, ◌≤◌, ◌*◌, IsTrue, IfOk, IfSome, OnOk, OnErr, None, [], false, true, length, option_map, slice_index_or};
+ghost use Rattle.std.specs.Prelude.{◌≡◌, ◌<◌, ◌≤◌, ◌*◌, IsTrue, IfOk, IfSome, OnOk, OnErr, None, false, true, length, option_map, slice_index_or};
 ghost use Rattle.csdf_model.specs.declared.parts.Kernel.TheVariants.{Sink};
-ghost use Rattle.csdf_core.specs.declared.stage.Stage.TheVariants.{Idle};
-ghost use Rattle.csdf_core.specs.Blocks.{AreReadEach, HoldAll, needs_of, takes_at};
+ghost use Rattle.csdf_core.specs.Blocks.{AreReadEach, HoldAll, needs_of, reads_over, takes_at};
 ghost use Rattle.csdf_core.specs.Engine.{CanFire};
 ghost use Rattle.csdf_core.specs.Moves.{Begin};
 ghost use Rattle.csdf_core.specs.Phases.{HasPhases};
-ghost use Rattle.csdf_core.specs.Ports.{inputs_at, outputs_at};
+ghost use Rattle.csdf_core.specs.Ports.{inputs_at, outputs_at, tokens_at};
 ghost use Rattle.csdf_core.specs.Rows.{need};
-ghost use Rattle.csdf_core.specs.Step.{count, is_source, refusal, stage};
+ghost use Rattle.csdf_core.specs.Step.{count, is_source, refusal};
 ghost use Rattle.csdf_floor.specs.declared.fault.StartFault.TheVariants.{Refused};
 ghost use Rattle.csdf_floor.specs.Floor.{IsStartAnswer};
-ghost use Rattle.csdf_floor.specs.Drafts.{IsDraftOf, Suits, products_of, taps_of};
+ghost use Rattle.csdf_floor.specs.Drafts.{IsDraftOf, IsDrafted, Suits, products_of, taps_of};
 ghost use Rattle.csdf_floor.specs.Making.{HasMade, IsBlock, made_moves};
-ghost use Rattle.csdf_floor.specs.Work.{program};
+ghost use Rattle.csdf_floor.specs.Work.{is_sink_kernel, program};
 
 use crate::book::Book;
 use crate::draft::Draft;
 use crate::fault::StartFault;
-use crate::same::are_same_tokens;
 use csdf_core::{Block, Core};
 use csdf_kernel::{Counts, Outputs};
 use csdf_model::Kernel;
@@ -47,6 +45,8 @@ fn read_ahead(
     requires can { CanFire core.now.plan core.now.now actor n }
     requires held { HoldAll core.now.now.tokens (takes_at core.now.plan.channels (count core.now.now actor) n) (inputs_at core.now.plan.channels actor) }
     requires needed { needed ≡ needs_of core.now.plan.channels actor (count core.now.now actor) n }
+    ensures there { OnOk result (inputs.new.items ≡ reads_over core.now.plan.channels (inputs_at core.now.plan.channels actor)
+        (count core.now.now actor) n (tokens_at core.now.now.tokens)) }
     ensures read { OnOk result (AreReadEach core.now.plan core.now.now actor (count core.now.now actor) n inputs.new.items) }
     ensures long { OnOk result (length inputs.new.items ≡ needed) }
 {
@@ -79,79 +79,39 @@ impl Book {
         self.core.holds(actor, n)
     }
 
-    /// Whether the draft has what the actor's next firings compute from, but for their tokens.
+    /// Whether the draft was evaluated, is of the actor's next firings, and these can be made at once.
     fn suits(&self, actor: u32, draft: &Draft) -> bool
         requires { actor < length self.now.shown.core.plan.sources }
-        ensures { IsTrue result → Suits self.now.shown actor draft.now }
+        ensures made { IsTrue result → draft.now.is_made ≡ true }
+        ensures suits { IsTrue result → Suits self.now.shown actor draft.now }
     {
-        if self.work.is_source(actor) {
+        if !draft.is_made || draft.actor != actor || draft.firing != self.core.fired(actor) {
             return false;
         }
-        let n = draft.firings();
-        if !self.core.has_one_phase(actor) || !self.can_make(actor, n) {
-            return false;
-        }
-        if !self.are_counts(actor, draft.counts()) {
-            return false;
-        }
-        let needed = self.needed(actor, n);
-        draft.is_of(self.work.kernel(actor), self.core.need(actor), needed)
+        self.can_make(actor, draft.firings)
     }
 
-    /// Whether these are the tokens in the actor's buffer.
-    fn has_in_buffer(&self, actor: u32, tokens: &[i32]) -> bool
-        requires { actor < length self.now.shown.core.plan.sources }
-        ensures { IsTrue result ↔ (tokens.now ≡ slice_index_or self.now.reads actor []) }
-    {
-        are_same_tokens(tokens, &self.reads[actor as usize])
-    }
-
-    /// Makes the firings of the draft, which was evaluated and suits the actor, where these are the
-    /// tokens that they read. False where they are not; then nothing is made.
-    fn make_suited(&mut self, alloc: Global, actor: u32, draft: &Draft) -> Result<bool, AllocError>
+    /// Makes the firings of the draft, which suits the actor: nobody else takes the tokens that they read.
+    fn make_suited(&mut self, alloc: Global, actor: u32, draft: &Draft) -> Result<(), AllocError>
         requires exists { actor < length self.old.shown.core.plan.sources }
         requires some { 0 < draft.now.firings }
-        requires suits { Suits self.old.shown actor draft.now }
         requires made { draft.now.is_made ≡ true }
-        ensures made { IfOk result (λ is_made. IsTrue is_made
-            → HasMade self.old.shown self.new.shown actor draft.now.firings (made_moves self.old.shown actor draft.now.firings)) }
-        ensures room { IfOk result (λ is_made. IsTrue is_made → length (outputs_at self.old.shown.core.plan.channels actor) ≤ self.new.room) }
-        ensures none { IfOk result (λ is_made. is_made ≡ false → self.new.shown ≡ self.old.shown) }
+        requires suits { Suits self.old.shown actor draft.now }
+        requires drafted { IsDrafted (program self.old.shown.work) draft.now }
+        ensures begins { refusal self.old.shown.core.plan self.old.shown.core.now (Begin actor) ≡ None }
+        ensures made { OnOk result (HasMade self.old.shown self.new.shown actor draft.now.firings (made_moves self.old.shown actor draft.now.firings)) }
+        ensures room { OnOk result (length (outputs_at self.old.shown.core.plan.channels actor) ≤ self.new.room) }
         ensures unchanged { OnErr result (self.new.shown ≡ self.old.shown) }
     {
-        let n = draft.firings();
-        self.make_room_for(alloc, actor, n, draft.inputs().len())?;
-        self.peek(actor, n);
-        if !self.has_in_buffer(actor, draft.inputs()) {
-            return Ok(false);
-        }
-        let _ = &self.work;
-        self.fire(alloc, actor, n, draft.values())?;
-        Ok(true)
+        let n = draft.firings;
+        let closes = self.output_count(actor);
+        self.reserve(4 * n as usize + closes)?;
+        self.core.reads(actor, n);
+        self.fire(alloc, actor, n, draft.values())
     }
 
-    /// Makes the firings of the draft, where they are the actor's next ones and were evaluated. False
-    /// where not; then nothing is made. An error comes only where the first may begin.
-    fn make_drafted(&mut self, alloc: Global, actor: u32, draft: &Draft) -> Result<bool, AllocError>
-        requires exists { actor < length self.old.shown.core.plan.sources }
-        requires some { 0 < draft.now.firings }
-        ensures begins { IfOk result (λ is_made. IsTrue is_made
-            → refusal self.old.shown.core.plan self.old.shown.core.now (Begin actor) ≡ None) }
-        ensures may_begin { OnErr result (refusal self.old.shown.core.plan self.old.shown.core.now (Begin actor) ≡ None) }
-        ensures made { IfOk result (λ is_made. IsTrue is_made
-            → HasMade self.old.shown self.new.shown actor draft.now.firings (made_moves self.old.shown actor draft.now.firings)) }
-        ensures room { IfOk result (λ is_made. IsTrue is_made → length (outputs_at self.old.shown.core.plan.channels actor) ≤ self.new.room) }
-        ensures none { IfOk result (λ is_made. is_made ≡ false → self.new.shown ≡ self.old.shown) }
-        ensures unchanged { OnErr result (self.new.shown ≡ self.old.shown) }
-    {
-        if !draft.is_made || !self.may_begin(actor) || !self.suits(actor, draft) {
-            return Ok(false);
-        }
-        self.make_suited(alloc, actor, draft)
-    }
-
-    /// As [`Book::make_many`]: from the draft, where there is one that is of the actor's next firings, and
-    /// has some of them and at most so many.
+    /// As [`Book::make_many`]: from the draft, where there is one that suits the actor, and has some firings
+    /// and at most so many.
     pub(crate) fn make_many_from(
         &mut self,
         actor: u32,
@@ -162,6 +122,7 @@ impl Book {
     ) -> Result<u32, StartFault>
         requires exists { actor < length self.old.shown.core.plan.sources }
         requires some { 0 < most }
+        requires drafted { IfSome draft (λ draft. 0 < draft.now.firings → IsDrafted (program self.old.shown.work) draft.now) }
         ensures answer { IsStartAnswer (option_map Refused (refusal self.old.shown.core.plan self.old.shown.core.now (Begin actor))) result }
         ensures some { IfOk result (λ n. 0 < n) }
         ensures most { IfOk result (λ n. n ≤ most) }
@@ -170,8 +131,9 @@ impl Book {
         ensures unchanged { OnErr result (self.new.shown ≡ self.old.shown) }
     {
         if let Some(draft) = draft {
-            let n = draft.firings();
-            if n > 0 && n <= most && self.make_drafted(*outputs.allocator(), actor, draft)? {
+            let n = draft.firings;
+            if n > 0 && n <= most && self.suits(actor, draft) {
+                self.make_suited(*outputs.allocator(), actor, draft)?;
                 return Ok(n);
             }
         }
@@ -199,14 +161,15 @@ impl Book {
         ensures held { IfSome result (λ block. HoldAll self.now.shown.core.now.tokens
             (takes_at self.now.shown.core.plan.channels (count self.now.shown.core.now actor) block.firings) (inputs_at self.now.shown.core.plan.channels actor)) }
         ensures phases { IfSome result (λ block. HasPhases self.now.shown.core.plan.channels actor 1) }
-        ensures other { IfSome result (λ block. is_source (program self.now.shown.work).plan actor ≡ false) }
+        ensures no_source { IfSome result (λ block. is_source (program self.now.shown.work).plan actor ≡ false) }
+        ensures no_sink { IfSome result (λ block. is_sink_kernel (slice_index_or (program self.now.shown.work).kernels actor Sink) ≡ false) }
         ensures heavy { IfSome result (λ block. heavy ≤ block.firings * need actor (count self.now.shown.core.now actor) self.now.shown.core.plan.channels
             * taps_of (slice_index_or (program self.now.shown.work).kernels actor Sink)) }
     {
-        if self.work.is_source(actor) || !self.core.has_one_phase(actor) {
+        if self.work.is_source(actor) || self.work.is_sink(actor) {
             return None;
         }
-        if self.work.feeds_itself(actor) {
+        if !self.core.has_one_phase(actor) || self.core.has_loop(actor) {
             return None;
         }
         if self.products(actor, most) < heavy {
@@ -243,10 +206,12 @@ impl Book {
         let Some(block) = self.draftable(actor, most, heavy) else {
             return Ok(());
         };
-        let n = block.firings;
+        let (firing, n) = (self.core.fired(actor), block.firings);
         self.counts_into(actor, &mut draft.counts)?;
         let needed = self.needed(actor, n);
         read_ahead(&self.core, actor, n, needed, &mut draft.inputs)?;
+        draft.actor = actor;
+        draft.firing = firing;
         draft.kernel = *self.work.kernel(actor);
         draft.need = self.core.need(actor);
         draft.firings = n;

@@ -14,7 +14,7 @@ ghost use Rattle.csdf_floor.specs.declared.fault.DeliverFault.TheVariants.{Memor
 ghost use Rattle.csdf_floor.specs.Journal.{IsHonest};
 ghost use Rattle.csdf_floor.specs.Work.{AreFeeds, HasFewFirings, feeds_in, program};
 ghost use Rattle.csdf_floor.specs.Making.{made_moves, closes_made};
-ghost use Rattle.csdf_floor.specs.Drafts.{IsDraftOf, products_of};
+ghost use Rattle.csdf_floor.specs.Drafts.{IsDraftOf, IsDrafted, products_of};
 ghost use Rattle.csdf_floor.specs.Outcome.{HasTotals, IsEndOf, IsOutcome, journal_in};
 ghost use Rattle.csdf_floor.specs.Floor.{HasGone, IsFloor, IsReady, IsStartAnswer, IsUnderWay, IsDeliverAnswer, closes, closes_after, ending_of};
 ghost use Rattle.csdf_floor.specs.Floor.{present_task, start_refusal, task_of};
@@ -275,8 +275,8 @@ impl Floor {
 
     /// Puts the actor's next firings into the draft, where the actor stands at this firing: as many as can
     /// be made at once, and at most so many. The draft has none where they take fewer products than
-    /// `heavy`, and for an actor of several phases, with a channel to itself or that is a source. An
-    /// error, that memory ran out, leaves none in it as well.
+    /// `heavy`, and for an actor of several phases, with a channel to itself or that is a source or a sink.
+    /// An error, that memory ran out, leaves none in it as well.
     pub fn draft(
         &self,
         actor: u32,
@@ -300,8 +300,8 @@ impl Floor {
         Ok(())
     }
 
-    /// As [`Floor::make`]. Where the draft was evaluated and is one of the actor's next firings, and of at
-    /// most so many, these are made, and nothing is evaluated.
+    /// As [`Floor::make`]. Where the draft, which was drafted on a floor of the same work, was evaluated and
+    /// is one of the actor's next firings, and of at most so many, these are made, and nothing is evaluated.
     pub fn make_from(
         &mut self,
         actor: u32,
@@ -311,6 +311,7 @@ impl Floor {
         counts: &mut Counts,
         outputs: &mut Outputs,
     ) -> Result<u32, StartFault>
+        requires drafted { 0 < draft.now.firings → IsDrafted (program self.old.work) draft.now }
         ensures answer { IsStartAnswer (start_refusal self.old actor firing) result }
         ensures most { IfOk result (λ n. n ≤ most) }
         ensures some { IfOk result (λ n. 0 < most → 0 < n) }
@@ -331,6 +332,7 @@ impl Floor {
         counts: &mut Counts,
         outputs: &mut Outputs,
     ) -> Result<u32, StartFault>
+        requires drafted { IfSome draft (λ draft. 0 < draft.now.firings → IsDrafted (program self.old.work) draft.now) }
         ensures answer { IsStartAnswer (start_refusal self.old actor firing) result }
         ensures most { IfOk result (λ n. n ≤ most) }
         ensures some { IfOk result (λ n. 0 < most → 0 < n) }

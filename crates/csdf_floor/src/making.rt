@@ -1,7 +1,7 @@
 //! Several firings of one actor, made at once.
 
 ghost use Rattle.std.specs.Prelude.{◌≡◌, ◌≤◌, ◌+◌, ◌*◌, ◌++◌, false, length, ◌↔◌, IsTrue, All, ◌<◌, [], None, true, IfOk, OnOk, OnErr, option_map, slice_index, slice_index_or};
-ghost use Rattle.csdf_floor.specs.Making.{HasMade, IsBlock, LeavesRest, amount_of, made_moves, made_value};
+ghost use Rattle.csdf_floor.specs.Making.{AreKeptValues, HasMade, IsBlock, LeavesRest, amount_of, made_moves, made_value};
 ghost use Rattle.csdf_model.specs.declared.parts.Kernel.TheVariants.{Sink};
 ghost use Rattle.csdf_core.specs.declared.stage.Stage.TheVariants.{Idle};
 ghost use Rattle.csdf_core.specs.Blocks.{AreReadEach, HoldAll, gifts_of, needs_of, takes_at};
@@ -134,8 +134,8 @@ impl Book {
         self.values_into(actor, block, counts, outputs)
     }
 
-    /// Makes the actor's next n firings, which write these tokens: the kernel's values of what is in the
-    /// actor's buffer, which is what they read. Memory runs out only where the journal is kept.
+    /// Makes the actor's next n firings, which write these tokens: the kernel's values. A sink has what they
+    /// read in its buffer. Memory runs out only where the journal is kept.
     pub(crate) fn fire(
         &mut self,
         alloc: Global,
@@ -146,14 +146,9 @@ impl Book {
         requires exists { actor < length self.old.shown.core.plan.sources }
         requires some { 0 < n }
         requires can { CanFire self.old.shown.core.plan self.old.shown.core.now actor n }
-        requires buffer { length (slice_index_or self.old.reads actor [])
-            ≡ needs_of self.old.shown.core.plan.channels actor (count self.old.shown.core.now actor) n }
-        requires read { AreReadEach self.old.shown.core.plan self.old.shown.core.now actor (count self.old.shown.core.now actor) n
-            (slice_index_or self.old.reads actor []) }
         requires sink { is_sink_kernel (slice_index_or (program self.old.shown.work).kernels actor Sink) ≡ true
             → needs_of self.old.shown.core.plan.channels actor (count self.old.shown.core.now actor) n ≤ slice_index self.old.rooms actor }
-        requires just { tokens.now ≡ made_value (program self.old.shown.work) actor (count self.old.shown.core.now actor) n
-            (slice_index_or self.old.reads actor []) }
+        requires values { AreKeptValues self.old.shown actor n (slice_index_or self.old.reads actor []) tokens.now }
         ensures made { OnOk result (HasMade self.old.shown self.new.shown actor n (made_moves self.old.shown actor n)) }
         ensures rest { OnOk result (n ≡ 1 → LeavesRest self.old.shown.core self.new.shown.core actor) }
         ensures room { OnOk result (self.old.room ≤ self.new.room + 4 * n) }
@@ -232,6 +227,7 @@ impl Book {
         self.make_room_for(alloc, actor, n, block.needed as usize)?;
         self.peek(actor, n);
         self.block_values_into(actor, block, counts, outputs)?;
+        let _ = &self.work;
         self.fire(alloc, actor, n, outputs.as_slice())
     }
 
@@ -343,14 +339,6 @@ impl Book {
         &self.reads[actor as usize]
     }
 
-    /// Whether the actor's next firing may begin.
-    pub(crate) fn may_begin(&self, actor: u32) -> bool
-        ensures { IsTrue result ↔ (refusal self.now.shown.core.plan self.now.shown.core.now (Begin actor) ≡ None) }
-    {
-        let _ = &self.work;
-        self.core.can_begin(actor).is_ok()
-    }
-
     /// Makes some of the actor's next firings at once and tells how many, or 0 where none more is wanted, the
     /// next one may not begin, or memory runs out: then nothing is made.
     fn make_more(
@@ -385,7 +373,7 @@ impl Book {
     fn may_go_on(&self, actor: u32, n: u32) -> bool
         requires { actor < length self.now.shown.core.plan.sources }
     {
-        if n >= LONG_DELAY && self.work.feeds_itself(actor) {
+        if n >= LONG_DELAY && self.core.has_loop(actor) {
             return true;
         }
         let phases = self.work.phases(actor);

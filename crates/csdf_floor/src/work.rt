@@ -2,12 +2,7 @@
 
 ghost use Rattle.std.specs.Prelude.{◌≡◌, ◌↔◌, ◌+◌, ◌*◌, ◌^◌, ◌<◌, ◌≤◌, All, IsTrue, IfOk, OnOk, Some, length, map, slice_get, slice_index_or, slice_range};
 ghost use Rattle.csdf_model.specs.declared.parts.Kernel.TheVariants.{Sink};
-ghost use Rattle.csdf_model.specs.Graph.{channel_view};
-ghost use Rattle.csdf_model.specs.Rates.{total};
-ghost use Rattle.csdf_core.specs.Headline.{capacity_of};
-ghost use Rattle.csdf_core.specs.Planned.{with_capacity};
-ghost use Rattle.csdf_core.specs.Plan.{consume_at, produce_at, to_at};
-ghost use Rattle.csdf_core.specs.Step.{is_source, producer};
+ghost use Rattle.csdf_core.specs.Step.{is_source};
 ghost use Rattle.csdf_kernel.specs.Value.{HasFilterInRange};
 ghost use Rattle.csdf_floor.specs.Journal.{output_counts};
 ghost use Rattle.csdf_floor.specs.Work.{AreFeeds, HasFewFirings, IsFeed, IsWork, feeds_in, feed_of, is_sink_kernel, program};
@@ -17,22 +12,17 @@ use crate::limits::MAX_FEED_TOKENS;
 use crate::same::{are_same_feeds, is_same_accepted, is_same_limit};
 use csdf_analysis::Accepted;
 use csdf_kernel::Counts;
-use csdf_model::{
-    Actor, Channel, Graph, Kernel, MAX_CHANNELS, MAX_FIRINGS_PER_ACTOR, MAX_TOKENS_PER_FIRING,
-    MAX_TOTAL_PER_FIRING,
-};
+use csdf_model::{Actor, Graph, Kernel};
 use std::alloc::{AllocError, Global};
 use std::marker::Model;
 
 /// What is run: an accepted graph, the contents of its sources' files, for how many periods, and the
-/// limit on all firings where there is one. Whether an actor has a channel to itself stands beside them,
-/// so that no firing looks for it in the graph again.
+/// limit on all firings where there is one.
 #[derive(Drop)]
 pub(crate) struct Work {
     accepted: Accepted,
     feeds: Vec<Vec<i32>>,
     bounds: RunBounds,
-    loops: Vec<bool>,
 }
 
 impl Model for Work {
@@ -61,8 +51,8 @@ fn kernel_in(actor: &Actor) -> &Kernel
 }
 
 impl Work {
-    /// What is run, and which actors have a channel to themselves.
-    pub(crate) fn new(fed: Fed, bounds: RunBounds, loops: Vec<bool>) -> Work
+    /// What is run.
+    pub(crate) fn new(fed: Fed, bounds: RunBounds) -> Work
         requires fed { AreFeeds fed.accepted.graph (feeds_in fed.feeds.items) }
         requires some_period { 1 ≤ bounds.periods }
         requires few_firings { HasFewFirings fed.accepted bounds.periods }
@@ -76,7 +66,6 @@ impl Work {
             accepted,
             feeds,
             bounds,
-            loops,
         }
     }
 
@@ -89,15 +78,8 @@ impl Work {
             accepted,
             feeds,
             bounds: _,
-            loops: _,
         } = self;
         Fed { accepted, feeds }
-    }
-
-    /// Whether the actor has a channel to itself. It decides no more than how many firings are made at
-    /// once.
-    pub(crate) fn feeds_itself(&self, actor: u32) -> bool {
-        matches!(self.loops.get(actor as usize), Some(true))
     }
 
     /// The actor's kernel.
@@ -130,59 +112,6 @@ impl Work {
         ensures { result ≡ is_sink_kernel (slice_index_or (program self.now).kernels actor Sink) }
     {
         self.kernel(actor).is_sink()
-    }
-
-    /// The channel as the graph has it.
-    fn channel(&self, channel: u32) -> &Channel
-        requires { channel < length (program self.now).plan.channels }
-        ensures value { slice_get (program self.now).plan.channels channel
-            ≡ Some (with_capacity (channel_view result.now, capacity_of (program self.now).plan channel)) }
-        ensures produce { All (λ n. n ≤ MAX_TOKENS_PER_FIRING) result.now.produce.items }
-        ensures consume { All (λ n. n ≤ MAX_TOKENS_PER_FIRING) result.now.consume.items }
-    {
-        &self.accepted.graph().channels()[channel as usize]
-    }
-
-    /// The producer of the channel.
-    pub(crate) fn producer(&self, channel: u32) -> u32
-        requires { channel < length (program self.now).plan.channels }
-        ensures { result ≡ producer (program self.now).plan channel }
-    {
-        self.channel(channel).from
-    }
-
-    /// The consumer of the channel.
-    pub(crate) fn consumer(&self, channel: u32) -> u32
-        requires { channel < length (program self.now).plan.channels }
-        ensures { result ≡ to_at (program self.now).plan.channels channel }
-    {
-        self.channel(channel).to
-    }
-
-    /// How many tokens so many firings of its producer put into the channel.
-    pub(crate) fn produced(&self, channel: u32, firings: u32) -> u32
-        requires exists { channel < length (program self.now).plan.channels }
-        requires few { firings ≤ MAX_FIRINGS_PER_ACTOR }
-        ensures { result ≡ total (produce_at (program self.now).plan.channels channel) firings }
-    {
-        self.channel(channel).produced(firings) as u32
-    }
-
-    /// How many tokens so many firings of its consumer take out of the channel.
-    pub(crate) fn consumed(&self, channel: u32, firings: u32) -> u32
-        requires exists { channel < length (program self.now).plan.channels }
-        requires few { firings ≤ MAX_FIRINGS_PER_ACTOR }
-        ensures { result ≡ total (consume_at (program self.now).plan.channels channel) firings }
-    {
-        self.channel(channel).consumed(firings) as u32
-    }
-
-    /// How many tokens the channel may hold.
-    pub(crate) fn capacity(&self, channel: u32) -> u32
-        requires { channel < length (program self.now).plan.channels }
-        ensures { result ≡ capacity_of (program self.now).plan channel }
-    {
-        self.accepted.capacities()[channel as usize]
     }
 
     /// So many tokens for the actor from this place on, or as many as there are.

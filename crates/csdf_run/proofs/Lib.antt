@@ -1,8 +1,6 @@
 pub mod FeedTexts
 pub mod RoomTexts
-pub mod Held
 pub mod Lengths
-pub mod Ends
 pub mod RunFaults
 pub mod TokenRuns
 pub mod Stretching

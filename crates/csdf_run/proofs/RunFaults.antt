@@ -1,26 +1,14 @@
 -- Why a run has no outcome, as it is told of texts.
-use Rattle.std.proofs.Common.{◌≡◌, ℕ, List, Option, Some, None, Result, Ok, Err, sym, ap, subst}
+use Rattle.std.proofs.Common.{◌≡◌, ℕ, List, Result, Ok, Err, sym, subst}
 use Rattle.std.specs.Prelude.{IfErr, IfOk, OnOk}
 use Rattle.csdf_floor.specs.declared.fault.RunFault.{RunFault}
 use Rattle.csdf_floor.specs.declared.fault.RunFault.TheVariants.{Memory, Mixed, Worker}
-use Rattle.csdf_floor.specs.declared.fault.StartFault.{StartFault}
-use Rattle.csdf_floor.specs.Floor.{IsStartAnswer}
 use Rattle.csdf_floor.specs.Outcome.{IsSettleAnswer}
 use Rattle.csdf_model.specs.Graph.{Actor}
 use Rattle.csdf_run.specs.declared.texts.TextsFault.{TextsFault}
 use Rattle.csdf_run.specs.declared.texts.TextsFault.TheVariants as fault
 use Rattle.csdf_run.specs.Causes.{IsCauseAmong}
 use Rattle.csdf_run.specs.Texts.{IsFeedFault, IsRunCause}
-use Rattle.csdf_run.specs.Workers.{Block}
-
--- a start that is refused answers alike, whether it would have given a number of firings or a block
-pub start_answer_as : (first : Option StartFault) (fault : StartFault) → IsStartAnswer {T = ℕ} first (Err fault) → IsStartAnswer {T = Block} first (Err fault)
-start_answer_as (Some why) fault h = let e : fault ≡ why = cc in ap Err e
-start_answer_as None fault h = h
-
-pub start_answer_made : (first : Option StartFault) (count : ℕ) (block : Block) → IsStartAnswer {T = ℕ} first (Ok count) → IsStartAnswer {T = Block} first (Ok block)
-start_answer_made (Some why) count block h = absurd (let e : Ok count ≡ Err why = h in cc)
-start_answer_made None count block h = tt
 
 -- what is wrong with the texts is no fault of the run
 pub feed_cause : (actors : List Actor) (texts : List (List ℕ)) (why : TextsFault) → IsFeedFault actors texts why → (n : ℕ) → IsRunCause n why

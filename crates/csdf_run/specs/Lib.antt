@@ -1,10 +1,7 @@
 pub mod Causes
-pub mod Hand
-pub mod Looking
 pub mod Requests
 pub mod Scripts
 pub mod Streaming
 pub mod Texts
 pub mod Tokens
 pub mod Totals
-pub mod Workers

@@ -1,5 +1,5 @@
 -- What a run is asked for.
-use Rattle.std.specs.Prelude.{◌≡◌, ◌≤◌, ℕ, Bool, [], None, sum}
+use Rattle.std.specs.Prelude.{◌≡◌, ◌≤◌, ℕ, Bool, sum}
 use Rattle.csdf_floor.specs.declared.fed.Fed.{Fed}
 use Rattle.csdf_floor.specs.declared.outcome.Outcome.{Outcome}
 use Rattle.csdf_floor.specs.Journal.{state_of}
@@ -17,10 +17,6 @@ pub record RequestView : Type 0 where
 pub record IsFedOf (w : Work) (fed : Fed) : Type 0 where
   pub accepted : fed.accepted ≡ w.accepted
   pub feeds : feeds_in fed.feeds.items ≡ w.feeds
-
--- a work of no actors, where a type stands for the work of no run
-abbrev pub no_work : Work
-no_work = record { accepted = record { graph = record { actors = []; channels = []; cells = None }; r = []; q = []; capacities = [] }; feeds = []; periods = 0; firings = None }
 
 -- how many firings an outcome has finished
 abbrev pub firings_made : Work → Outcome → ℕ

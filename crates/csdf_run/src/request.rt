@@ -9,8 +9,8 @@ ghost use Rattle.csdf_run.specs.Texts.{GoesOnFor, MayGoOnOver, work_for};
 
 use crate::options::RunOptions;
 use crate::periods::periods_of;
-use crate::ready_set::ReadySet;
 use csdf_analysis::most_firings;
+use csdf_crew::ReadySet;
 use csdf_floor::{Fed, Floor, RunBounds};
 use csdf_model::MAX_ACTORS;
 use std::alloc::{AllocError, Global};
@@ -131,7 +131,7 @@ impl RunRequest {
 
     /// How many firings it makes at most, by the tokens of the sources, its periods and its limit. An
     /// error says that memory ran out.
-    pub(crate) fn most_firings(&self, alloc: Global) -> Result<u64, AllocError>
+    fn most_firings(&self, alloc: Global) -> Result<u64, AllocError>
         ensures most { IfOk result (IsMostFirings self.now.work) }
         ensures accepted { IsAccepted self.now.work.accepted }
     {
@@ -149,9 +149,15 @@ impl RunRequest {
         }
     }
 
-    /// A ready set for its graph, in which there is no actor yet.
-    pub(crate) fn ready_set(&self, alloc: Global) -> Result<ReadySet, AllocError> {
-        ReadySet::new(alloc, &self.fed.accepted)
+    /// How many firings it makes at most, and the ready set of its graph, in which there is no actor yet. An
+    /// error says that memory ran out.
+    pub(crate) fn prepared(&self, alloc: Global) -> Result<(u64, ReadySet), AllocError>
+        ensures most { IfOk result (λ made. IsMostFirings self.now.work made.0) }
+        ensures accepted { IsAccepted self.now.work.accepted }
+    {
+        let most = self.most_firings(alloc)?;
+        let ready = ReadySet::new(alloc, &self.fed.accepted)?;
+        Ok((most, ready))
     }
 
     /// What is run, handed back.

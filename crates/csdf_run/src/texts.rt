@@ -14,13 +14,13 @@ ghost use Rattle.csdf_floor.specs.Work.{AreFeeds, Work, feeds_in};
 ghost use Rattle.csdf_journal.specs.View.{is_kept};
 ghost use Rattle.csdf_run.specs.Scripts.{kept_script};
 
-use crate::gate::{Gate, Open};
 use crate::options::RunOptions;
 use crate::request::RunRequest;
 use crate::running::outcome_of;
 use crate::script::kept_script;
 use csdf_analysis::{AcceptFault, Length, Room, accept_or_hand_back};
 use csdf_bytes::{Slice, TokenFault, read_tokens};
+use csdf_crew::{Gate, Open};
 use csdf_floor::{ChannelReport, Ending, Fed, Outcome, RunFault, Settled, list_at, printed_report};
 use csdf_graph::{GraphFault, read_graph};
 use csdf_journal::Keeping;

@@ -2,8 +2,8 @@
 
 ghost use Rattle.csdf_claims.specs.Board.{KeepsJust};
 
-use crate::gate::{Gate, Open};
 use csdf_claims::{Board, Place};
+use csdf_crew::{Gate, Open};
 
 /// Is told how far a run has come. Nothing of the run depends on it.
 pub trait Watch: Sync {

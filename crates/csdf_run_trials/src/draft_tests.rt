@@ -1,6 +1,10 @@
 //! Firings that are evaluated before they are made, for `tests/memory/run` too: it refuses one allocation
 //! after another.
 
+ghost use Rattle.std.specs.Prelude.{◌≡◌, ◌<◌, IfOk, OnOk};
+ghost use Rattle.csdf_floor.specs.Drafts.{IsDrafted};
+ghost use Rattle.csdf_floor.specs.Work.{program};
+
 use crate::shared::{asked_for, expect_eq, fired_by, floor_that_keeps};
 use csdf_floor::{Draft, Floor};
 use csdf_journal::Keeping;
@@ -29,19 +33,26 @@ struct Lists {
 }
 
 /// Makes all firings of the actor that can be made.
-fn make(floor: &mut Floor, actor: u32, lists: &mut Lists) -> Result<u32, Fail> {
+fn make(floor: &mut Floor, actor: u32, lists: &mut Lists) -> Result<u32, Fail>
+    ensures { OnOk result (floor.new.work ≡ floor.old.work) }
+{
     let firing = fired_by(floor, actor);
     Ok(floor.make(actor, firing, 10, &mut lists.counts, &mut lists.outputs)?)
 }
 
 /// The same of the filter, by the draft where it is one of these firings.
-fn make_from(floor: &mut Floor, draft: &Draft, lists: &mut Lists) -> Result<u32, Fail> {
+fn make_from(floor: &mut Floor, draft: &Draft, lists: &mut Lists) -> Result<u32, Fail>
+    requires { 0 < draft.now.firings → IsDrafted (program floor.old.work) draft.now }
+    ensures { OnOk result (floor.new.work ≡ floor.old.work) }
+{
     let firing = fired_by(floor, 1);
     Ok(floor.make_from(1, firing, 10, draft, &mut lists.counts, &mut lists.outputs)?)
 }
 
 /// The filter's next firings, where they take so many products, evaluated.
-fn drafted(alloc: Global, floor: &Floor, heavy: u64) -> Result<Draft, Fail> {
+fn drafted(alloc: Global, floor: &Floor, heavy: u64) -> Result<Draft, Fail>
+    ensures { IfOk result (λ draft. 0 < draft.firings → IsDrafted (program floor.now.work) draft) }
+{
     let mut draft = Draft::new(alloc);
     floor.draft(1, fired_by(floor, 1), 10, heavy, &mut draft)?;
     draft.evaluate()?;
@@ -61,7 +72,10 @@ fn check_made(
     draft: &Draft,
     lists: &mut Lists,
     wanted: &[i32],
-) -> Result<(), Fail> {
+) -> Result<(), Fail>
+    requires { 0 < draft.now.firings → IsDrafted (program floor.old.work) draft.now }
+    ensures { OnOk result (floor.new.work ≡ floor.old.work) }
+{
     expect_eq(rt, make_from(floor, draft, lists)?, 2);
     expect_eq(rt, make(floor, 2, lists)?, 2);
     check_sink(rt, floor.sinks(), wanted);

@@ -6,21 +6,21 @@ use Rattle.csdf_run.proofs.KnownMost.{known_most}
 use Rattle.csdf_run.proofs.RunFaults.{told_ok}
 use Rattle.csdf_run.proofs.alone.outcome_alone.Goals as goal
 
-pub returns-in-Ok-make_all-clause-outcome : goal.returns-in-Ok-make_all-clause-outcome
-returns-in-Ok-make_all-clause-outcome g c =
+pub returns-in-Ok-run_alone-clause-outcome : goal.returns-in-Ok-run_alone-clause-outcome
+returns-in-Ok-run_alone-clause-outcome g c =
     told_ok (IsOutcome c.args.request.work) c.into_settled.result.outcome c.told_of.result.outcome _ c.told_of.ensures.told c.told_of.ensures.memory
-    (subst (λ (w : Work). IfOk c.into_settled.result.outcome (IsOutcome w)) (c.make_all.ensures.work ∙ c.in-Ok-into_floor.ensures.work) c.into_settled.ensures.outcome)
+    (subst (λ (w : Work). IfOk c.into_settled.result.outcome (IsOutcome w)) (c.run_alone.ensures.work ∙ c.in-Ok-into_floor.ensures.work) c.into_settled.ensures.outcome)
 
-pub returns-in-Ok-make_all-clause-most : goal.returns-in-Ok-make_all-clause-most
-returns-in-Ok-make_all-clause-most g c =
+pub returns-in-Ok-run_alone-clause-most : goal.returns-in-Ok-run_alone-clause-most
+returns-in-Ok-run_alone-clause-most g c =
     known_most (g.G.Told.knows_most c.args.gate.now) c.args.request.work c.in-Ok.prepared.0 c.told_of.result.outcome c.prepared.ensures.accepted
     c.in-Ok.ensures.most c.tell_most.ensures
     (told_ok (IsOutcome c.args.request.work) c.into_settled.result.outcome c.told_of.result.outcome _ c.told_of.ensures.told c.told_of.ensures.memory
-    (subst (λ (w : Work). IfOk c.into_settled.result.outcome (IsOutcome w)) (c.make_all.ensures.work ∙ c.in-Ok-into_floor.ensures.work)
+    (subst (λ (w : Work). IfOk c.into_settled.result.outcome (IsOutcome w)) (c.run_alone.ensures.work ∙ c.in-Ok-into_floor.ensures.work)
     c.into_settled.ensures.outcome))
 
-pub returns-in-Ok-make_all-clause-keeps : goal.returns-in-Ok-make_all-clause-keeps
-returns-in-Ok-make_all-clause-keeps g c =
+pub returns-in-Ok-run_alone-clause-keeps : goal.returns-in-Ok-run_alone-clause-keeps
+returns-in-Ok-run_alone-clause-keeps g c =
     told_ok (λ o. o.journal.keeps ≡ c.args.request.keeps) c.into_settled.result.outcome c.told_of.result.outcome _ c.told_of.ensures.told c.told_of.ensures.memory
-    (subst (λ (b : Bool). IfOk c.into_settled.result.outcome (λ o. o.journal.keeps ≡ b)) (c.make_all.ensures.keeps ∙ c.in-Ok-into_floor.ensures.keeps)
+    (subst (λ (b : Bool). IfOk c.into_settled.result.outcome (λ o. o.journal.keeps ≡ b)) (c.run_alone.ensures.keeps ∙ c.in-Ok-into_floor.ensures.keeps)
     c.into_settled.ensures.keeps)

@@ -25,7 +25,6 @@ invariant_of-self c =
     (let g = rw (← c.self.view_is) at c.gives-gift.ensures.sum in let n = rw (← c.self.view_is) at c.need-need.ensures.value in
     rw (c.saturating_sub.ensures, g, n) refl) in
     record {
-      amounts = c.self.invariant.amounts;
       phases = c.self.invariant.phases;
       sound = sound_begun plan p c.self.inside.peaks.items c.self.inside.sums.items c.self.inside.started c.self.inside.reserved c.self.inside.pool a _ _
           c.self.invariant.sound none refl (ap (λ x. c.self.inside.reserved + x) more);

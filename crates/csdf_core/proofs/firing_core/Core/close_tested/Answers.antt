@@ -13,7 +13,6 @@ invariant_of-self c =
     let p : Present = now_in c.self.inside in
     let none : refusal c.self.inside.plan p (Close c.args.channel) ≡ None = rw (← c.self.view_is) at c.requires in
     record {
-      amounts = c.self.invariant.amounts;
       phases = c.self.invariant.phases;
       sound = sound_closed c.self.inside.plan p c.self.inside.peaks.items c.self.inside.sums.items
           c.self.inside.started c.self.inside.reserved c.self.inside.pool

@@ -36,7 +36,6 @@ invariant_of-self c =
     (let g = rw (← c.self.view_is) at c.gives-written.ensures.sum in let s = c.gives-written.ensures.small in omega (arith, g, s)) in
     record {
       phases = c.advance.ensures.phases;
-      amounts = c.advance.ensures.amounts;
       sound = subst (λ counts. IsSound plan (record {
         counts = counts;
         stages = set c.self.inside.stages.items a Idle;

@@ -137,7 +137,6 @@ invariant_of-self c =
     let now : After-advance = (goal.at.invariant_of-self c).After-advance in
     record {
       phases = c.advance.ensures.phases;
-      amounts = c.advance.ensures.amounts;
       sound = (good_there (plan at) (a at) (few at) (plain at) (n at) (v at) (m at) (done at).0 (good at) (all at) (done at).1 c.requires.some
           c.put_output.new.pool (moved now at _ (needed at)) (c.put_output.ensures.same ∙ c.drop_input.ensures.same)
           (c.put_output.ensures.size ∙ c.drop_input.ensures.size) c.put_output.ensures.partition (counts now at) (tallies now at) (peaks now at)

@@ -138,7 +138,6 @@ invariant_of-self c =
     let now : After-advance = (goal.at.invariant_of-self c).After-advance in
     record {
       phases = c.advance.ensures.phases;
-      amounts = c.advance.ensures.amounts;
       sound = (subst (IsGood c.self.inside.plan) (lands now (four at) (firing at) (whole at) (summed at)) (four at).good4).sound;
     }
 

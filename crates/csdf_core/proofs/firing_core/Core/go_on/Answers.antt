@@ -221,7 +221,7 @@ module _ (c : After-advance) where
 pub invariant_of-self : goal.invariant_of-self
 invariant_of-self c =
     let here : After-advance = (goal.at.invariant_of-self c).After-advance in
-    record { phases = c.advance.ensures.phases; amounts = c.advance.ensures.amounts; sound = (good_now here).sound }
+    record { phases = c.advance.ensures.phases; sound = (good_now here).sound }
 
 pub returns-clause-accepted : goal.returns-clause-accepted
 returns-clause-accepted c =

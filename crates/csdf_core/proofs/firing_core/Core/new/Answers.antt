@@ -14,7 +14,6 @@ lengths_of-requires c =
 pub invariant_of-result : goal.invariant_of-result
 invariant_of-result c = record {
   phases = c.in_ok-nexts.ensures.phases;
-  amounts = c.in_ok-nexts.ensures.amounts;
   sound = sound_opening c.in_ok-plan.plan c.in_ok-pool.pool c.in_ok-nexts.nexts.counts.items c.in_ok-blank.blank.sums.items c.in_ok-peaks.peaks.items
       c.in_ok-blank.blank.stages.items c.in_ok-blank.blank.opens.items c.in_ok-plan.ensures.playable c.in_ok-nexts.ensures.counts
       c.in_ok-blank.ensures.stages c.in_ok-blank.ensures.opens c.in_ok-pool.ensures.tokens c.in_ok-pool.ensures.shared_out c.in_ok-blank.ensures.sums

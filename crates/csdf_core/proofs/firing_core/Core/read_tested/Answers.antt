@@ -79,7 +79,6 @@ pub invariant_of-self : goal.invariant_of-self
 invariant_of-self c =
     let at : After-saturating_sub = (goal.at.invariant_of-self c).After-saturating_sub in
     record {
-      amounts = c.self.invariant.amounts;
       phases = c.self.invariant.phases;
       sound = subst (λ ts. IsSound c.self.inside.plan (record
           { counts = c.self.inside.nexts.counts.items; stages = set c.self.inside.stages.items c.args.actor Fetched; opens = c.self.inside.opens.items; tokens = ts })

@@ -103,7 +103,6 @@ pub invariant_of-self : goal.invariant_of-self
 invariant_of-self c =
     let at : After-raise_peaks = (goal.at.invariant_of-self c).After-raise_peaks in
     record {
-      amounts = c.self.invariant.amounts;
       phases = c.self.invariant.phases;
       sound = subst (λ qs. IsSound c.self.inside.plan (record {
         counts = c.self.inside.nexts.counts.items;

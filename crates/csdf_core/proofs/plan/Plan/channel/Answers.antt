@@ -1,32 +1,19 @@
-use Rattle.std.proofs.Common.{◌<◌, length}
-use Rattle.csdf_model.specs.Graph.{channel_view}
-use Rattle.csdf_model.specs.WellFormed.{IsChannel}
-use Rattle.csdf_core.proofs.PlanLemmas.{in_graph, channel_seen, known_at}
+use Rattle.std.proofs.Common.{◌<◌, length, arith}
+use Rattle.std.proofs.lemmas.List.{length-map}
+use Rattle.csdf_core.specs.PlanInside.{channel_in}
+use Rattle.csdf_core.proofs.PlanLemmas.{got, small_at_item}
 use Rattle.csdf_core.proofs.plan.Plan.channel.Goals as goal
-use Rattle.csdf_core.proofs.plan.Plan.channel.Goals.{After-channels, After-index-channels-channel}
+use Rattle.csdf_core.proofs.plan.Plan.channel.Goals.{After-index}
 
-module _ (c : After-channels) where
-  there : c.args.channel < length c.channels.result.now
-  there = in_graph channel_view c.channels.result.now _ c.self.inside.capacities.items c.args.channel c.channels.ensures.value c.self.invariant.roomy
-      (rw (← c.self.view_is) at c.requires)
-
-module _ (c : After-index-channels-channel) where
-  known : c.args.channel < length c.channels.result.now → IsChannel c.self.inside.graph.actors (channel_view c.index-channels-channel.result)
-  known lt = known_at channel_view (IsChannel c.self.inside.graph.actors) c.channels.result.now _ c.args.channel _ c.channels.ensures.value
-      c.channels.ensures.well_formed.fitting.channels lt c.index-channels-channel.is
-
-pub bounds-channels-channel : goal.bounds-channels-channel
-bounds-channels-channel c = there (goal.at.bounds-channels-channel c).After-channels
+module _ (c : After-index) where
+  there : c.args.channel < length c.self.inside.channels.items
+  there = (let lt = rw (← c.self.view_is) at c.requires in omega (arith, lt, length-map c.self.inside.channels.items channel_in))
 
 pub returns-clause-value : goal.returns-clause-value
 returns-clause-value c =
-    rw (← c.self.view_is) (channel_seen channel_view c.channels.result.now _ c.self.inside.capacities.items c.args.channel c.index-channels-channel.result
-    c.channels.ensures.value c.self.invariant.roomy (there (goal.at.returns-clause-value c).After-channels) c.index-channels-channel.is)
+    rw (← c.self.view_is) (got channel_in c.self.inside.channels.items c.args.channel c.index.result.now (there (goal.at.returns-clause-value c).After-index)
+    c.index.ensures)
 
-pub returns-clause-produce : goal.returns-clause-produce
-returns-clause-produce c =
-    (known (goal.at.returns-clause-produce c).After-index-channels-channel (there (goal.at.returns-clause-produce c).After-channels)).produce.small
-
-pub returns-clause-consume : goal.returns-clause-consume
-returns-clause-consume c =
-    (known (goal.at.returns-clause-consume c).After-index-channels-channel (there (goal.at.returns-clause-consume c).After-channels)).consume.small
+pub returns-clause-small : goal.returns-clause-small
+returns-clause-small c = small_at_item c.self.inside.channels.items c.args.channel c.index.result.now c.self.invariant.channels
+    (there (goal.at.returns-clause-small c).After-index) c.index.ensures

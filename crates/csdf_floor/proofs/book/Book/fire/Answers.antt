@@ -2,33 +2,25 @@ use Rattle.std.proofs.lemmas.Grind.{common_steps}
 use Rattle.std.proofs.Common.{◌≡◌, ◌<◌, ◌++◌, List, [], length, get_or, set, cond, ap, sym, subst, ◌∙◌, arith, Bool}
 use Rattle.std.specs.Prelude.{ℤ}
 use Rattle.std.proofs.lemmas.List.{length-map}
-use Rattle.csdf_core.specs.Blocks.{AreReadEach, needs_of, gifts_of}
 use Rattle.csdf_core.specs.Engine.{CanFire}
 use Rattle.csdf_core.specs.declared.stage.Stage.TheVariants.{Idle}
-use Rattle.csdf_core.specs.Plan.{Plan}
 use Rattle.csdf_core.specs.Step.{count, stage}
 use Rattle.csdf_floor.specs.Inside.{BookView, IsBook}
-use Rattle.csdf_floor.specs.Making.{made_value}
-use Rattle.csdf_floor.specs.Work.{feeds_in, program}
+use Rattle.csdf_floor.specs.Making.{AreKeptValues}
+use Rattle.csdf_floor.specs.Work.{feeds_in}
 use Rattle.csdf_core.proofs.Runs.{on_err}
 use Rattle.csdf_floor.proofs.Books.{floor_of, sinks_each, sinks_after}
-use Rattle.csdf_floor.proofs.Makings.{IsMade, can_idle, book_fired, fired_book, has_made, length_made}
+use Rattle.csdf_floor.proofs.Makings.{IsMade, all_given, can_idle, book_fired, fired_book, has_made, sinks_alike}
 use Rattle.csdf_floor.proofs.Works.{item_at}
 use Rattle.csdf_floor.proofs.book.Book.fire.Goals as goal
-use Rattle.csdf_floor.proofs.book.Book.fire.Goals.{After-append_where, After-fire-arg-1}
-
-module _ (c : After-fire-arg-1) where
-  all : length c.args.tokens.now ≡ gifts_of c.self.inside.core.plan.channels c.args.actor (count c.self.inside.core.now c.args.actor) c.args.n
-  all =
-      let just : c.args.tokens.now ≡ made_value (program c.self.inside.work) c.args.actor (count c.self.inside.core.now c.args.actor) c.args.n
-      (get_or (feeds_in c.self.inside.reads.items) c.args.actor []) = rw (← c.self.view_is) at c.requires.just in
-      ap length just
-      ∙ length_made (program c.self.inside.work) c.args.actor (count c.self.inside.core.now c.args.actor) c.args.n
-      (get_or (feeds_in c.self.inside.reads.items) c.args.actor [])
-      ∙ ap (λ (u : Plan). gifts_of u.channels c.args.actor (count c.self.inside.core.now c.args.actor) c.args.n) (sym c.self.invariant.kept.plan)
+use Rattle.csdf_floor.proofs.book.Book.fire.Goals.{After-append_where}
 
 pub fire-requires-clause-all : goal.fire-requires-clause-all
-fire-requires-clause-all c = all (goal.at.fire-requires-clause-all c).After-fire-arg-1
+fire-requires-clause-all c =
+    let values : AreKeptValues (floor_of c.self.inside.journal.keeps c.self.inside.work c.self.inside.core c.self.inside.journal.moves c.self.inside.sinks.lists)
+    c.args.actor c.args.n (get_or (feeds_in c.self.inside.reads.items) c.args.actor []) c.args.tokens.now = rw (← c.self.view_is) at c.requires.values in
+    all_given (floor_of c.self.inside.journal.keeps c.self.inside.work c.self.inside.core c.self.inside.journal.moves c.self.inside.sinks.lists)
+    c.args.actor c.args.n c.args.tokens.now c.self.invariant.kept.plan values.own
 
 pub append_where-requires-clause-exists : goal.append_where-requires-clause-exists
 append_where-requires-clause-exists c =
@@ -37,8 +29,12 @@ append_where-requires-clause-exists c =
 
 -- where all has come to
 module _ (c : After-append_where) where
-  abbrev tokens : List ℤ
-  tokens = get_or (feeds_in c.self.inside.reads.items) c.args.actor []
+  abbrev buffer : List ℤ
+  buffer = get_or (feeds_in c.self.inside.reads.items) c.args.actor []
+
+  values : AreKeptValues (floor_of c.self.inside.journal.keeps c.self.inside.work c.self.inside.core c.self.inside.journal.moves c.self.inside.sinks.lists)
+      c.args.actor c.args.n buffer c.args.tokens.now
+  values = rw (← c.self.view_is) at c.requires.values
 
   there : c.args.actor < length c.self.inside.core.plan.sources
   there = rw (← c.self.view_is) at c.requires.exists
@@ -48,33 +44,25 @@ module _ (c : After-append_where) where
       let can : CanFire c.self.inside.core.plan c.self.inside.core.now c.args.actor c.args.n = rw (← c.self.view_is) at c.requires.can in
       can_idle c.self.inside.core.plan c.self.inside.core.now c.args.actor c.args.n c.requires.some can
 
-  buffer : length tokens ≡ needs_of c.self.inside.core.plan.channels c.args.actor (count c.self.inside.core.now c.args.actor) c.args.n
-  buffer = rw (← c.self.view_is) at c.requires.buffer
-
-  read : AreReadEach c.self.inside.core.plan c.self.inside.core.now c.args.actor (count c.self.inside.core.now c.args.actor) c.args.n tokens
-  read = rw (← c.self.view_is) at c.requires.read
-
-  just : c.args.tokens.now ≡ made_value (program c.self.inside.work) c.args.actor (count c.self.inside.core.now c.args.actor) c.args.n tokens
-  just = rw (← c.self.view_is) at c.requires.just
-
   within : c.args.actor < length c.self.inside.reads.items
   within =
       omega (arith, there, c.self.invariant.each_actor, length-map c.self.inside.reads.items (λ v. v.items))
 
-  held : c.deref.result.now ≡ tokens
+  held : c.deref.result.now ≡ buffer
   held = c.deref.ensures.value ∙ item_at c.self.inside.reads.items c.args.actor c.index-taken.result.now within c.index-taken.ensures
 
-  took : c.append_where.new.self.lists ≡ sinks_after c.self.inside.work c.self.inside.sinks.lists c.args.actor tokens
+  took : c.append_where.new.self.lists ≡ sinks_after c.self.inside.work c.self.inside.sinks.lists c.args.actor values.own.tokens
   took =
       c.append_where.ensures
       ∙ ap (λ (b : Bool). cond b (set c.self.inside.sinks.lists c.args.actor (get_or c.self.inside.sinks.lists c.args.actor [] ++ c.deref.result.now))
       c.self.inside.sinks.lists) c.is_sink-is_sink.ensures
       ∙ ap (sinks_after c.self.inside.work c.self.inside.sinks.lists c.args.actor) held
+      ∙ sinks_alike c.self.inside.work c.self.inside.sinks.lists c.args.actor buffer values.own.tokens values.kept
 
   made : IsMade c.self.inside.journal.keeps c.self.inside.work c.self.inside.core c.fire.new.self c.self.inside.journal.moves c.self.inside.sinks.lists
-      (feeds_in c.self.inside.reads.items) c.args.actor (count c.self.inside.core.now c.args.actor) c.args.n tokens c.args.tokens.now
+      (feeds_in c.self.inside.reads.items) c.args.actor (count c.self.inside.core.now c.args.actor) c.args.n values.own.tokens c.args.tokens.now
   made = fired_book c.self.inside.journal.keeps c.self.inside.work c.self.inside.core c.fire.new.self c.self.inside.journal.moves
-      c.self.inside.sinks.lists (feeds_in c.self.inside.reads.items) c.args.actor c.args.n c.args.tokens.now c.self.invariant there idle buffer read just
+      c.self.inside.sinks.lists (feeds_in c.self.inside.reads.items) c.args.actor c.args.n c.args.tokens.now c.self.invariant there idle values.own
       c.fire.ensures.plays
 
 pub invariant_of-self-2 : goal.invariant_of-self-2
@@ -84,18 +72,15 @@ invariant_of-self-2 c =
     (feeds_in c.self.inside.reads.items)) (sym c.note_firings.ensures.keeps)
     (book_fired c.self.inside.journal.keeps c.self.inside.journal.keeps c.self.inside.work c.self.inside.core c.fire.new.self c.self.inside.journal.moves
     c.note_firings.new.journal.moves c.self.inside.sinks.lists c.append_where.new.self.lists (feeds_in c.self.inside.reads.items) c.args.actor c.args.n
-    (tokens at) c.args.tokens.now c.self.invariant (made at) c.in_ok-note_firings.ensures.moves (took at))
+    (values at).own.tokens c.args.tokens.now c.self.invariant (made at) c.in_ok-note_firings.ensures.moves (took at))
 
 pub returns-clause-made : goal.returns-clause-made
 returns-clause-made c =
     let at : After-append_where = (goal.at.returns-clause-made c).After-append_where in
     rw (← c.self.view_is) (has_made c.self.inside.journal.keeps c.self.inside.work c.self.inside.core c.fire.new.self c.self.inside.journal
     c.note_firings.new.journal c.self.inside.sinks c.append_where.new.self (feeds_in c.self.inside.reads.items)
-    c.args.actor c.args.n (tokens at) c.args.tokens.now c.self.invariant.kept.plan (made at) c.in_ok-note_firings.ensures.moves
+    c.args.actor c.args.n (values at).own.tokens c.args.tokens.now c.self.invariant.kept.plan (made at) c.in_ok-note_firings.ensures.moves
     c.note_firings.ensures.keeps)
-
-pub append_where-requires-clause-room : goal.append_where-requires-clause-room
-append_where-requires-clause-room c = grind (arith, common_steps)
 
 pub is_sink-is_sink-requires : goal.is_sink-is_sink-requires
 is_sink-is_sink-requires c = grind (arith, common_steps)

@@ -1,27 +1,17 @@
 use Rattle.std.proofs.lemmas.Grind.{common_steps}
-use Rattle.std.proofs.Common.{◌≡◌, ◌+◌, ◌≤◌, ◌++◌, ℕ, List, [], length, get_or, set, cond, ap, sym, subst, ◌∙◌, arith, Bool, false}
-use Rattle.std.specs.Prelude.{ℤ}
-use Rattle.csdf_core.specs.Blocks.{gifts_of}
+use Rattle.std.proofs.Common.{◌≡◌, ◌+◌, ◌≤◌, ◌++◌, ℕ, [], get_or, set, cond, ap, sym, subst, arith, Bool, false}
 use Rattle.csdf_core.specs.Feedback.{CanGoOn}
 use Rattle.csdf_core.specs.Plan.{Plan}
 use Rattle.csdf_core.specs.Step.{count}
-use Rattle.csdf_floor.specs.Floor.{FloorView}
 use Rattle.csdf_floor.specs.Inside.{IsBook}
 use Rattle.csdf_floor.specs.Making.{AreOwnValues}
 use Rattle.csdf_floor.specs.Work.{feeds_in, program, is_sink_kernel}
 use Rattle.csdf_model.specs.declared.parts.Kernel.TheVariants.{Sink}
 use Rattle.csdf_floor.proofs.Books.{floor_of, sinks_after}
-use Rattle.csdf_floor.proofs.LoopMakings.{few_numbers, fired_on_book}
-use Rattle.csdf_floor.proofs.Makings.{IsMade, book_fired, has_made, length_made}
+use Rattle.csdf_floor.proofs.LoopMakings.{few_numbers}
+use Rattle.csdf_floor.proofs.Makings.{IsMade, all_given, book_fired, fired_book, has_made}
 use Rattle.csdf_floor.proofs.book.Book.fire_on.Goals as goal
 use Rattle.csdf_floor.proofs.book.Book.fire_on.Goals.{After-go_on}
-
--- how many tokens they write
-all_given : (f : FloorView) (a n : ℕ) (v : List ℤ) → f.core.plan ≡ (program f.work).plan → AreOwnValues f a n v
-    → length v ≡ gifts_of f.core.plan.channels a (count f.core.now a) n
-all_given f a n v same own =
-    ap length own.just ∙ length_made (program f.work) a (count f.core.now a) n own.tokens
-    ∙ ap (λ (u : Plan). gifts_of u.channels a (count f.core.now a) n) (sym same)
 
 pub note_firings-requires-clause-few : goal.note_firings-requires-clause-few
 note_firings-requires-clause-few c =
@@ -54,7 +44,7 @@ module _ (c : After-go_on) where
   made : IsMade c.self.inside.journal.keeps c.self.inside.work c.self.inside.core c.go_on.new.self c.self.inside.journal.moves c.self.inside.sinks.lists
       (feeds_in c.self.inside.reads.items) c.args.actor (count c.self.inside.core.now c.args.actor) c.args.n own.tokens c.args.tokens.now
   made =
-      fired_on_book c.self.inside.journal.keeps c.self.inside.work c.self.inside.core c.go_on.new.self c.self.inside.journal.moves
+      fired_book c.self.inside.journal.keeps c.self.inside.work c.self.inside.core c.go_on.new.self c.self.inside.journal.moves
       c.self.inside.sinks.lists (feeds_in c.self.inside.reads.items) c.args.actor c.args.n c.args.tokens.now c.self.invariant can.there can.idle own
       c.go_on.ensures.plays
 

@@ -1,6 +1,8 @@
-use Rattle.std.proofs.Common.{arith}
+use Rattle.std.proofs.Common.{◌≡◌, subst, ◌∙◌, arith}
 use Rattle.std.proofs.lemmas.Grind.{common_steps}
-use Rattle.csdf_floor.proofs.Makings.{can_idle}
+use Rattle.csdf_floor.specs.Inside.{BookView}
+use Rattle.csdf_floor.specs.Work.{program}
+use Rattle.csdf_floor.proofs.Makings.{can_idle, kept_values}
 use Rattle.csdf_floor.proofs.book.Book.make.Goals as goal
 
 pub make_room_for-requires-clause-idle : goal.make_room_for-requires-clause-idle
@@ -40,5 +42,17 @@ fire-requires-clause-can c = rw (c.peek.ensures.shown, c.in_ok-make_room_for.ens
 pub fire-requires-clause-sink : goal.fire-requires-clause-sink
 fire-requires-clause-sink c = grind (arith, common_steps, c.requires.block.needed)
 
-pub fire-requires-clause-buffer : goal.fire-requires-clause-buffer
-fire-requires-clause-buffer c = grind (arith, common_steps, c.requires.block.needed)
+pub fire-requires-clause-values : goal.fire-requires-clause-values
+fire-requires-clause-values c =
+    let plan : c.peek.new.self.shown.core.plan ≡ (program c.peek.new.self.shown.work).plan =
+    subst (λ (b : BookView). b.shown.core.plan ≡ (program b.shown.work).plan) c.self.view_is c.self.invariant.kept.plan in
+    kept_values c.peek.new.self.shown c.args.actor c.args.block.firings _ c.as_slice.result.now plan
+    (rw (c.peek.ensures.shown, c.in_ok-make_room_for.ensures.shown)
+    (c.peek.ensures.buffer ∙ c.in_ok-make_room_for.ensures.buffer ∙ c.requires.block.needed))
+    (rw c.peek.ensures.shown c.peek.ensures.read) (c.as_slice.ensures ∙ c.in_ok-block_values_into.ensures)
+
+pub returns-clause-made : goal.returns-clause-made
+returns-clause-made c = rw (← c.in_ok-make_room_for.ensures.shown, ← c.peek.ensures.shown) c.fire.ensures.made
+
+pub returns-clause-rest : goal.returns-clause-rest
+returns-clause-rest c = rw (← c.in_ok-make_room_for.ensures.shown, ← c.peek.ensures.shown) c.fire.ensures.rest

@@ -1,0 +1,8 @@
+use Rattle.std.proofs.Common.{length, arith}
+use Rattle.csdf_core.proofs.CoreLemmas.{producer_within}
+use Rattle.csdf_core.proofs.firing_core.Core.producer.Goals as goal
+
+pub returns-clause-within : goal.returns-clause-within
+returns-clause-within c =
+    rw (← c.self.view_is) (let within = producer_within (length c.self.inside.plan.sources) c.self.inside.plan.channels c.args.channel
+    c.self.invariant.sound.playable.ends (rw (← c.self.view_is) at c.requires) in omega (arith, within, c.producer.ensures))

@@ -1,0 +1,5 @@
+pub mod Asked
+pub mod Causes
+pub mod Hand
+pub mod Looking
+pub mod Workers

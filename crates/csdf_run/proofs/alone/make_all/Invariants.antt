@@ -1,8 +1,0 @@
-use Rattle.std.specs.Prelude.{◌≡◌}
-use Rattle.csdf_run.proofs.alone.make_all.Given as goal
-
-abbrev pub invariant-loop : goal.invariant-loop
-invariant-loop g l = record {
-  keeps : l.floor.keeps ≡ l.fn.floor.keeps;
-  work : l.floor.work ≡ l.fn.floor.work;
-}

@@ -1,9 +1,0 @@
-use Rattle.std.proofs.Common.{arith}
-use Rattle.std.proofs.lemmas.Grind.{common_steps}
-use Rattle.csdf_run.proofs.ready_set.ReadySet.new.Goals as goal
-
-pub returns-clause-producers : goal.returns-clause-producers
-returns-clause-producers c = grind (arith, common_steps)
-
-pub returns-clause-consumers : goal.returns-clause-consumers
-returns-clause-consumers c = grind (arith, common_steps)

@@ -1,5 +1,0 @@
-use Rattle.std.proofs.Common.{rules}
-use Rattle.csdf_run.proofs.running.all_started.Goals as goal
-
-pub returns-then-threads-places : goal.returns-then-threads-places
-returns-then-threads-places c = search rules

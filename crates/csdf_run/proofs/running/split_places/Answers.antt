@@ -1,8 +1,0 @@
-use Rattle.std.proofs.Common.{rules}
-use Rattle.csdf_run.proofs.running.split_places.Goals as goal
-
-pub loop-other-init : goal.loop-other-init
-loop-other-init c = search rules
-
-pub returns-clause-count : goal.returns-clause-count
-returns-clause-count c = search rules
