@@ -1,5 +1,5 @@
-//! Jobs, claims, floors and runs tried out: worked examples, on their public calls alone. They are a
-//! crate of their own, since a crate with tests is proved twice, and apart from the other tests, so
+//! Jobs, claims, floors, runs and streams tried out: worked examples, on their public calls alone. They
+//! are a crate of their own, since a crate with tests is proved twice, and apart from the other tests, so
 //! that the two are proved side by side.
 #![tactic(auto)]
 
@@ -12,6 +12,8 @@ mod claim_tests;
 #[cfg(test)]
 mod draft_tests;
 #[cfg(test)]
+mod flow_tests;
+#[cfg(test)]
 mod gate_tests;
 #[cfg(test)]
 mod job_tests;
@@ -19,6 +21,8 @@ mod job_tests;
 mod kernel_tests;
 #[cfg(test)]
 mod length_tests;
+#[cfg(test)]
+mod limits;
 #[cfg(test)]
 mod memory_tests;
 #[cfg(test)]

@@ -1,5 +1,5 @@
-//! The graph, the analysis, the pool, the core, the journal and the answers tried out: worked examples,
-//! on their public calls alone. They are a crate of their own, since a crate with tests is proved twice.
+//! Token files and samples, the graph, the analysis, the pool, the core, the journal and the answers tried
+//! out: worked examples, on their public calls alone. They are a crate of their own, since a crate with tests is proved twice.
 #![tactic(auto)]
 
 #[cfg(test)]
@@ -27,13 +27,19 @@ mod note_tests;
 #[cfg(test)]
 mod period_tests;
 #[cfg(test)]
+mod piece_tests;
+#[cfg(test)]
 mod pool_tests;
 #[cfg(test)]
 mod question_tests;
 #[cfg(test)]
 mod room_tests;
 #[cfg(test)]
+mod sample_tests;
+#[cfg(test)]
 mod script_tests;
+#[cfg(test)]
+mod searches;
 #[cfg(test)]
 mod shared;
 #[cfg(test)]
