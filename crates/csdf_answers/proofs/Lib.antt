@@ -2,10 +2,5 @@ pub mod TurnLemmas
 pub mod SessionLemmas
 pub mod AnswerLemmas
 pub mod DotLemmas
-pub mod CircleLemmas
-pub mod ExplainLemmas
 pub mod ToldLemmas
-pub mod TokenNoteLemmas
 pub mod ObjectLemmas
-pub mod DistanceLemmas
-pub mod WayLemmas

@@ -1,15 +1,9 @@
-pub mod Circle
 pub mod Described
-pub mod Distances
 pub mod Drawing
-pub mod Explained
 pub mod FaultParts
 pub mod Faults
 pub mod Lines
 pub mod Objects
 pub mod Printed
 pub mod Session
-pub mod Stalled
-pub mod TokenNotes
 pub mod Turns
-pub mod Ways

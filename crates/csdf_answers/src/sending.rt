@@ -6,8 +6,10 @@ ghost use Rattle.std.specs.Io.KnownBytes.{Appends};
 use crate::fault::{DeviceName, ToolFault};
 use csdf_bytes::{Outlet, write_bytes};
 
-/// Writes an answer. The error is [`ToolFault::Device`]: the writer failed.
-pub(crate) fn send<O: Outlet>(writer: &mut O, text: &[u8]) -> Result<(), ToolFault>
+/// Writes an answer whole.
+///
+/// The error is [`ToolFault::Device`] of the standard output: the writer failed.
+pub fn send<O: Outlet>(writer: &mut O, text: &[u8]) -> Result<(), ToolFault>
     ensures written { OnOk result (Appends (O.written writer.old) (O.written writer.new) text.now) }
     ensures unmarked { OnOk result (O.failed writer.new ≡ O.failed writer.old) }
     ensures refused { IfErr result (λ fault. fault ≡ ToolFault.Device DeviceName.Output) }

@@ -6,7 +6,7 @@ use Rattle.std.specs.declared.alloc.AllocError.{AllocError}
 use Rattle.clap.specs.Words.{Text}
 use Rattle.csdf_bytes.specs.declared.intake.InputFault.{InputFault}
 use Rattle.csdf_answers.specs.declared.fault.ToolFault.{ToolFault}
-use Rattle.csdf_answers.specs.declared.token_note.TokenFile.{TokenFile}
+use Rattle.csdf_answers.specs.declared.token_file.TokenFile.{TokenFile}
 use Rattle.csdf_disk.specs.declared.place.FilePlace.{FilePlace}
 use Rattle.csdf_disk.specs.declared.put_fault.PutFault.{PutFault}
 

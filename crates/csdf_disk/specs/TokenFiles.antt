@@ -11,8 +11,8 @@ use Rattle.std.specs.declared.io.ErrorKind.TheVariants as kind
 use Rattle.csdf_disk.specs.SystemCalls.{Call, Called, Follow, Open}
 use Rattle.csdf_answers.specs.declared.fault.ToolFault.{ToolFault}
 use Rattle.csdf_answers.specs.declared.fault.ToolFault.TheVariants as fault
-use Rattle.csdf_answers.specs.declared.token_note.TokenFile.{TokenFile}
-use Rattle.csdf_answers.specs.declared.token_note.TokenFile.TheVariants.{Missing, Folder, Special, Forbidden, Unread, TooLong, Bytes}
+use Rattle.csdf_answers.specs.declared.token_file.TokenFile.{TokenFile}
+use Rattle.csdf_answers.specs.declared.token_file.TokenFile.TheVariants.{Missing, Folder, Special, Forbidden, Unread, TooLong, Bytes}
 
 -- what an error says of the file: want of memory says nothing of it
 abbrev pub unopened : ErrorKind → Result TokenFile ToolFault

@@ -6,11 +6,11 @@ use Rattle.clap.specs.Words.{Text}
 use Rattle.csdf_model.specs.Graph.{Actor, actor_view}
 use Rattle.csdf_model.specs.declared.parts.Actor.{Actor as ActorCode}
 use Rattle.csdf_core.specs.Planned.{is_source_kernel}
-use Rattle.csdf_answers.specs.Explained.{IsExplained}
+use Rattle.csdf_explain.specs.Explained.{IsExplained}
 use Rattle.csdf_answers.specs.declared.fault.ToolFault.{ToolFault}
 use Rattle.csdf_answers.specs.declared.fault.ToolFault.TheVariants as fault
 use Rattle.csdf_answers.specs.declared.fault.DeviceName.TheVariants.{Input, Output, File}
-use Rattle.csdf_answers.specs.declared.token_note.TokenFile.{TokenFile}
+use Rattle.csdf_answers.specs.declared.token_file.TokenFile.{TokenFile}
 use Rattle.csdf_bytes.specs.declared.intake.InputFault.{InputFault}
 use Rattle.csdf_bytes.specs.declared.intake.InputFault.TheVariants as input
 use Rattle.csdf_disk.specs.Acts.{Act, Asks, Devices, Look, Marks, Read, devices}

@@ -9,7 +9,7 @@ use Rattle.csdf_answers.specs.declared.fault.ToolFault.TheVariants.{Device}
 use Rattle.csdf_answers.specs.declared.fault.DeviceName.TheVariants.{File, Output}
 use Rattle.csdf_words.specs.CommandLine.{Asked, Input, Moves, Ask, Explain, Run, Flow}
 use Rattle.csdf_disk.specs.Acts.{Act, Asks, Devices, Marks}
-use Rattle.csdf_answers.specs.declared.token_note.TokenFile.{TokenFile}
+use Rattle.csdf_answers.specs.declared.token_file.TokenFile.{TokenFile}
 use Rattle.csdf_tool.specs.Explaining.{Explains, IsExplanation, IsUnreadAs, is_of_file}
 use Rattle.csdf_tool.specs.GraphFiles.{IsGivenBy, IsNamed, IsNotGiven, graph_reads, is_input}
 use Rattle.csdf_tool.specs.Flows.{Standard, StopsStream, Streams, Through, reads_graph}

@@ -8,15 +8,15 @@ use Rattle.csdf_graph.specs.GraphText.{IsGraphOf}
 use Rattle.csdf_graph.specs.declared.fault.GraphFault.{GraphFault}
 use Rattle.csdf_core.specs.Planned.{is_source_kernel}
 use Rattle.csdf_bytes.specs.declared.intake.InputFault.TheVariants as input
-use Rattle.csdf_answers.specs.Explained.{IsExplained}
+use Rattle.csdf_explain.specs.Explained.{IsExplained}
 use Rattle.csdf_answers.specs.Faults.{fault_text}
 use Rattle.csdf_answers.specs.Printed.{newline}
-use Rattle.csdf_answers.specs.TokenNotes.{token_note}
+use Rattle.csdf_explain.specs.TokenNotes.{token_note}
 use Rattle.csdf_answers.specs.declared.fault.DeviceName.TheVariants.{File, Output}
 use Rattle.csdf_answers.specs.declared.fault.ToolFault.{ToolFault}
 use Rattle.csdf_answers.specs.declared.fault.ToolFault.TheVariants.{Device}
-use Rattle.csdf_answers.specs.declared.token_note.TokenFile.{TokenFile}
-use Rattle.csdf_answers.specs.declared.token_note.TokenFile.TheVariants as found
+use Rattle.csdf_answers.specs.declared.token_file.TokenFile.{TokenFile}
+use Rattle.csdf_answers.specs.declared.token_file.TokenFile.TheVariants as found
 use Rattle.std.specs.Io.KnownBytes.{Appends}
 use Rattle.csdf_disk.specs.Acts.{Act, Asks, Devices, Look, Read}
 use Rattle.csdf_tool.specs.GraphFiles.{IsNamed, graph_reads, is_input}

@@ -10,9 +10,10 @@ ghost use Rattle.csdf_tool.specs.GraphFiles.{is_input};
 
 use crate::files::{graph_bytes, token_path};
 use crate::unread_file::{explain_unread, is_of_file};
-use csdf_answers::{DeviceName, ToolFault, explain, explain_with, push_token_note};
+use csdf_answers::{DeviceName, ToolFault};
 use csdf_bytes::{Intake, Outlet};
 use csdf_disk::Disk;
+use csdf_explain::{explain, explain_with, push_token_note};
 use csdf_graph::{GraphFault, read_graph};
 use csdf_model::Actor;
 use std::alloc::Global;

@@ -4,9 +4,10 @@ ghost use Rattle.std.specs.Prelude.{◌≡◌, ◌≢◌, ◌⊎◌, true, strin
 ghost use Rattle.std.specs.Io.KnownBytes.{Appends};
 ghost use Rattle.csdf_tool.specs.Explaining.{FindsThen, LacksWhy, is_of_file, unread_text, why_unread};
 
-use csdf_answers::{DeviceName, Name, TokenFile, ToolFault, push_token_note};
+use csdf_answers::{DeviceName, Name, TokenFile, ToolFault};
 use csdf_bytes::{Outlet, write_bytes};
 use csdf_disk::Disk;
+use csdf_explain::push_token_note;
 use std::alloc::{AllocError, Global};
 
 /// Whether a fault is that a file cannot be read.

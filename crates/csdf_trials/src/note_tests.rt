@@ -1,8 +1,9 @@
 //! Worked examples of the lines on token files in an explanation.
 
 use crate::shared::{CHAIN, expect_eq, expect_eq_of};
-use csdf_answers::{TokenFile, explain_with, push_token_note};
+use csdf_answers::TokenFile;
 use csdf_bytes::ToWriter;
+use csdf_explain::{explain_with, push_token_note};
 use std::process::Abort;
 use std::test::Fail;
 

@@ -1,6 +1,6 @@
 use Rattle.std.proofs.Common.{◌≡◌, List, [], ◌∷◌, None, Ok, Some, refl, subst}
 use Rattle.std.specs.declared.fs.attrs.FileType.{FileType}
-use Rattle.csdf_answers.specs.declared.token_note.TokenFile.{TokenFile}
+use Rattle.csdf_answers.specs.declared.token_file.TokenFile.{TokenFile}
 use Rattle.csdf_disk.specs.SystemCalls.{Call, Follow, Open, unopened_as}
 use Rattle.csdf_disk.specs.TokenFiles.{IsFoundOf}
 use Rattle.csdf_disk.proofs.PutLemmas.{called_more}

@@ -1,7 +1,0 @@
-use Rattle.csdf_answers.proofs.CircleLemmas.{consumer-found}
-use Rattle.csdf_answers.proofs.circle.consumer_at.Goals as goal
-
-pub returns-in-Some : goal.returns-in-Some
-returns-in-Some c =
-    let found = c.in-Some.ensures.lookup in
-    consumer-found c.args.channels.now c.args.number c.in-Some.channel.now found.3.0 found.1

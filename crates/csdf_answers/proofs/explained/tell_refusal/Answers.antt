@@ -1,5 +1,0 @@
-use Rattle.std.proofs.Common.{rules}
-use Rattle.csdf_answers.proofs.explained.tell_refusal.Goals as goal
-
-pub returns-in-Deadlock-clause-told : goal.returns-in-Deadlock-clause-told
-returns-in-Deadlock-clause-told c = search rules

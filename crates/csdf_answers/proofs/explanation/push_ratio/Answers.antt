@@ -1,4 +1,0 @@
-use Rattle.csdf_answers.proofs.explanation.push_ratio.Goals as goal
-
-pub returns : goal.returns
-returns c = c.write.ensures.bytes

@@ -1,4 +1,0 @@
-use Rattle.csdf_answers.proofs.stalled.push_tokens_line.Goals as goal
-
-pub returns : goal.returns
-returns c = c.write.ensures.bytes

@@ -1,5 +1,0 @@
-use Rattle.std.proofs.Common.{rules}
-use Rattle.csdf_answers.proofs.way.reach.Goals as goal
-
-pub returns-then-is_new-clause-new : goal.returns-then-is_new-clause-new
-returns-then-is_new-clause-new c = search rules

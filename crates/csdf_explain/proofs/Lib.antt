@@ -1,0 +1,5 @@
+pub mod CircleLemmas
+pub mod ExplainLemmas
+pub mod TokenNoteLemmas
+pub mod DistanceLemmas
+pub mod WayLemmas
