@@ -17,9 +17,11 @@ use Rattle.csdf_disk.specs.Acts.{Act, Asks, Devices, Look, Marks, Read, devices}
 use Rattle.csdf_tool.specs.Carried.{LacksExplanation}
 use Rattle.csdf_answers.specs.Faults.{unread}
 use Rattle.csdf_answers.specs.declared.fault.DeviceName.{DeviceName}
-use Rattle.csdf_tool.specs.GraphFiles.{IsNamed, IsNotGiven, graph_misses, graph_reads, is_input, stream_of}
-use Rattle.csdf_tool.specs.Explaining.{Explains, FindsThen, LacksWhy, Looked, AreNotes, AreNotesOf, IsExplanation, IsNotedAfter, IsUnreadAs, is_of_file, look_of, note_of, source_names, token_path, unread_text}
-use Rattle.csdf_tool.proofs.DiskLemmas.{asks_more, asks_none}
+use Rattle.csdf_files.specs.GraphFiles.{IsNamed, IsNotGiven, graph_misses, graph_reads, is_input, stream_of}
+use Rattle.csdf_tool.specs.Explaining.{Explains, Looked, AreNotes, AreNotesOf, IsExplanation, IsNotedAfter, IsUnreadAs, look_of, note_of, source_names}
+use Rattle.csdf_files.specs.Unread.{FindsThen, LacksWhy, is_of_file, unread_text}
+use Rattle.csdf_files.specs.Files.{token_path}
+use Rattle.csdf_files.proofs.DiskLemmas.{asks_more, asks_none}
 use Rattle.std.proofs.lemmas.List.{append-nil, drop_all, map-append}
 
 -- ---- lines

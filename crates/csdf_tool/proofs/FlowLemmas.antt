@@ -31,15 +31,16 @@ use Rattle.csdf_run.specs.declared.no_outcome.NoOutcome.TheVariants as run
 use Rattle.csdf_disk.specs.Acts.{Act, Asks, Keep}
 use Rattle.csdf_tool.specs.Flows.{IsFlow, IsStoppedBy, IsUnkept, IsUnkeptAt, IsUnmade, IsUnopened, Placed, count_of, flow_file_view, keep_of, keeps, leave_of, make_of, miss_of, one_for, open_of, placed, sinks_at, sources_at}
 use Rattle.csdf_tool.specs.Flows.{source_fault, stream_fault, unmade_of}
-use Rattle.csdf_tool.specs.Places.{in_file, out_file}
-use Rattle.csdf_tool.specs.Reports.{TellsStream, clipped_items, flow_items}
-use Rattle.csdf_tool.specs.Running.{put_fault, run_fault}
+use Rattle.csdf_files.specs.Places.{in_file, out_file}
+use Rattle.csdf_told.specs.Reports.{TellsStream, clipped_items, flow_items}
+use Rattle.csdf_files.specs.Files.{put_fault}
+use Rattle.csdf_tool.specs.Running.{run_fault}
 use Rattle.csdf_tool.specs.declared.flow_fault.Medium.{Medium}
 use Rattle.csdf_tool.specs.declared.flow_fault.Medium.TheVariants as medium
 use Rattle.csdf_tool.specs.declared.flow_files.FlowFile.{FlowFile}
 use Rattle.csdf_tool.specs.declared.flow_files.Unkept.{Unkept}
 use Rattle.csdf_disk.specs.declared.put_fault.PutFault.{PutFault}
-use Rattle.csdf_tool.proofs.DiskLemmas.{asks_more}
+use Rattle.csdf_files.proofs.DiskLemmas.{asks_more}
 
 -- ---- one file after another
 

@@ -1,14 +1,10 @@
-pub mod ApartLemmas
 pub mod CauseLemmas
-pub mod CrewLemmas
-pub mod DiskLemmas
 pub mod EndLemmas
 pub mod ExplainingLemmas
-pub mod FaultLemmas
 pub mod FeedLemmas
 pub mod FlowLemmas
 pub mod InputExamples
-pub mod ReportLemmas
+pub mod ReadLemmas
 pub mod RunLemmas
 pub mod StreamLemmas
 pub mod TokenLemmas

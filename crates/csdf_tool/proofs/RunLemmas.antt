@@ -30,7 +30,7 @@ use Rattle.csdf_run.specs.Texts.{IsHandedBack, MayGraphGoOn, text_at}
 use Rattle.csdf_run.specs.Tokens.{IsGraphRun, IsSequentialGraphRun}
 use Rattle.csdf_words.specs.CommandLine.{Order}
 use Rattle.csdf_words.specs.HowLong.{MayBeAsked}
-use Rattle.csdf_tool.specs.GraphFiles.{IsNamed}
+use Rattle.csdf_files.specs.GraphFiles.{IsNamed, graph_reads}
 use Rattle.csdf_json.specs.Lines.{IsLineOf}
 use Rattle.csdf_answers.specs.declared.question.Form.{Form}
 use Rattle.csdf_answers.specs.declared.question.Form.TheVariants as forms
@@ -38,18 +38,19 @@ use Rattle.csdf_answers.specs.Described.{actor_names}
 use Rattle.csdf_answers.specs.Faults.{accept_fault, fault_of}
 use Rattle.csdf_answers.specs.Printed.{name_at, names_of}
 use Rattle.csdf_disk.specs.Acts.{Act, Asks, Marks, OnlyReads, devices}
-use Rattle.csdf_tool.specs.Reports.{TellsReport, report_object}
-use Rattle.csdf_tool.specs.Running.{AreNamedAlike, EndsBeforeFiles, EndsOnFiles, IsCutShort, IsKeptFrom, IsUnput, LacksFeed, RefusesGraphRun, RefusesRun, RunsOn, StopsOnPlaces, StopsOnTexts, StopsRun, Written}
-use Rattle.csdf_tool.specs.GraphFiles.{graph_reads}
-use Rattle.csdf_tool.specs.Running.{feed_fault, feed_paths, feed_reads, files_of, journal_files, out_file, put_fault, put_whole, run_asks, run_reads, sink_files_from, tokens_fault, token_fault}
+use Rattle.csdf_told.specs.Reports.{TellsReport, report_object}
+use Rattle.csdf_tool.specs.Running.{AreNamedAlike, EndsBeforeFiles, EndsOnFiles, IsCutShort, IsKeptFrom, LacksFeed, RefusesGraphRun, RefusesRun, RunsOn, StopsOnPlaces, StopsOnTexts, StopsRun}
+use Rattle.csdf_files.specs.Files.{IsUnput, Written, feed_fault, put_fault}
+use Rattle.csdf_tool.specs.Running.{feed_paths, feed_reads, files_of, journal_files, put_whole, run_asks, run_reads, sink_files_from, tokens_fault, token_fault}
+use Rattle.csdf_files.specs.Places.{Apart, IsInUse, Listed, listed_files, out_file}
 use Rattle.csdf_tool.specs.declared.run_files.RunOfGraph.{RunOfGraph}
 use Rattle.csdf_disk.specs.declared.put_fault.PutFault.{PutFault}
 use Rattle.csdf_disk.specs.declared.put_fault.PutFault.TheVariants as put
 use Rattle.csdf_tool.proofs.CauseLemmas.{memory_or_not}
 use Rattle.csdf_tool.proofs.FeedLemmas.{no_stream}
-use Rattle.csdf_tool.specs.Places.{Apart, IsInUse, Listed, listed_files}
-use Rattle.csdf_tool.proofs.ApartLemmas.{apart_reads}
-use Rattle.csdf_tool.proofs.DiskLemmas.{asks_more, both_read, only_feeds, only_graph, only_more, run_read}
+use Rattle.csdf_files.proofs.ApartLemmas.{apart_reads}
+use Rattle.csdf_files.proofs.DiskLemmas.{asks_more, both_read, only_more}
+use Rattle.csdf_tool.proofs.ReadLemmas.{only_feeds, only_graph, run_read}
 
 -- ---- how long
 

@@ -30,9 +30,9 @@ use Rattle.csdf_words.specs.CommandLine.{FolderNames, StreamOrder}
 use Rattle.csdf_disk.specs.Acts.{Act, Asks, Devices, Marks, devices}
 use Rattle.csdf_tool.specs.Flows.{AreReady, FlowsOverFiles, IsAcceptedOf, IsFlow, IsStoppedBy, IsUnkept, IsUnmade, Placed, RefusesStream, StopsFiles, StopsMade}
 use Rattle.csdf_tool.specs.Flows.{Through, StopsOverFiles, StopsOverStandard, flow_file_view, keeps, lack_by, lack_of, leave_of, make_of, one_for, open_of, sinks_at, sources_at, standard_flow}
-use Rattle.csdf_tool.specs.GraphFiles.{IsGivenBy}
-use Rattle.csdf_tool.specs.Places.{Apart, sink_places}
-use Rattle.csdf_tool.specs.Reports.{TellsStream}
+use Rattle.csdf_files.specs.GraphFiles.{IsGivenBy}
+use Rattle.csdf_files.specs.Places.{Apart, sink_places}
+use Rattle.csdf_told.specs.Reports.{TellsStream}
 use Rattle.csdf_tool.specs.declared.flow_fault.Medium.TheVariants as medium
 use Rattle.csdf_tool.specs.declared.flow_files.FlowFile.{FlowFile}
 use Rattle.csdf_tool.proofs.FlowLemmas.{as_many_sinks, as_many_sources, report_alike}

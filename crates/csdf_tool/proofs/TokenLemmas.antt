@@ -13,8 +13,10 @@ use Rattle.csdf_run.specs.Texts.{◌>>=◌, feed_in, feeds_from, source_count}
 use Rattle.csdf_run.specs.Tokens.{AreReadOf, read_in, told_at, with_last}
 use Rattle.csdf_run.proofs.TokenRuns.{feeds_push, sources_among}
 use Rattle.csdf_disk.specs.Acts.{Act, OnlyReads}
-use Rattle.csdf_tool.specs.Running.{IsFeedOf, IsReadAll, feed_paths, in_file}
-use Rattle.csdf_tool.proofs.DiskLemmas.{IsReadTo, none_read, only_none, only_read, read_next, skip_next}
+use Rattle.csdf_tool.specs.Running.{IsFeedOf, IsReadAll, feed_paths}
+use Rattle.csdf_files.specs.Places.{in_file}
+use Rattle.csdf_tool.proofs.ReadLemmas.{IsReadTo, none_read, read_next, skip_next}
+use Rattle.csdf_files.proofs.DiskLemmas.{only_none, only_read}
 
 -- one path for each source
 paths_each : (folder : List ℕ) (actors : List Actor) → length (feed_paths folder actors) ≡ length (sources_among actors)

@@ -33,8 +33,9 @@ use Rattle.csdf_disk.specs.Acts.{Act, Devices, Marks}
 use Rattle.csdf_tool.specs.Carried.{IsCauseOf, IsUnanswered, LacksAnswer, LacksExplanation, asks_files, asks_stream}
 use Rattle.csdf_tool.specs.Ends.{EndsAs, EndsInUse, EndsLacking}
 use Rattle.csdf_tool.specs.Flows.{Through}
-use Rattle.csdf_tool.specs.GraphFiles.{IsNotGiven}
-use Rattle.csdf_tool.specs.Running.{EndsOnFiles, IsUnput, StopsOnGraph, StopsRun, Written, feed_fault, files_of, put_fault, run_fault, token_fault, tokens_fault}
+use Rattle.csdf_files.specs.GraphFiles.{IsNotGiven}
+use Rattle.csdf_tool.specs.Running.{EndsOnFiles, StopsOnGraph, StopsRun, files_of, run_fault, token_fault, tokens_fault}
+use Rattle.csdf_files.specs.Files.{IsUnput, Written, feed_fault, put_fault}
 use Rattle.csdf_disk.specs.declared.put_fault.PutFault.{PutFault}
 use Rattle.csdf_disk.specs.declared.put_fault.PutFault.TheVariants as put
 use Rattle.csdf_tool.proofs.EndLemmas.{IsOfWords}

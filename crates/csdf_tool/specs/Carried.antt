@@ -10,8 +10,9 @@ use Rattle.csdf_answers.specs.declared.fault.DeviceName.TheVariants.{File, Outpu
 use Rattle.csdf_words.specs.CommandLine.{Asked, Input, Moves, Ask, Explain, Run, Flow}
 use Rattle.csdf_disk.specs.Acts.{Act, Asks, Devices, Marks}
 use Rattle.csdf_answers.specs.declared.token_file.TokenFile.{TokenFile}
-use Rattle.csdf_tool.specs.Explaining.{Explains, IsExplanation, IsUnreadAs, is_of_file}
-use Rattle.csdf_tool.specs.GraphFiles.{IsGivenBy, IsNamed, IsNotGiven, graph_reads, is_input}
+use Rattle.csdf_tool.specs.Explaining.{Explains, IsExplanation, IsUnreadAs}
+use Rattle.csdf_files.specs.Unread.{is_of_file}
+use Rattle.csdf_files.specs.GraphFiles.{IsGivenBy, IsNamed, IsNotGiven, graph_reads, is_input}
 use Rattle.csdf_tool.specs.Flows.{Standard, StopsStream, Streams, Through, reads_graph}
 use Rattle.csdf_tool.specs.Running.{EndsOnFiles, RunsOnFiles}
 

@@ -13,7 +13,7 @@ use Rattle.csdf_answers.specs.declared.question.Form.TheVariants as forms
 use Rattle.csdf_answers.specs.Faults.{status_of}
 use Rattle.csdf_answers.specs.Objects.{TellsFault}
 use Rattle.csdf_words.specs.CommandLine.{program, IsUnread}
-use Rattle.csdf_tool.specs.Refused.{lengths_refusal, out_refusal, room_refusal, workers_refusal}
+use Rattle.csdf_told.specs.Refused.{lengths_refusal, out_refusal, room_refusal, workers_refusal}
 use Rattle.csdf_words.specs.declared.command.Unread.{Unread}
 use Rattle.csdf_words.specs.declared.command.Unread.TheVariants as unread
 

@@ -1,7 +1,6 @@
 -- An explanation of a graph file, and with a folder of the token files of its sources.
-use Rattle.std.specs.Prelude.{◌≡◌, ◌⊎◌, ℕ, List, [], ◌∷◌, ◌++◌, Bool, true, false, Option, Some, None, Result, Ok, Err, MatchResult, codes, if◌then◌else◌, map}
+use Rattle.std.specs.Prelude.{◌≡◌, ◌⊎◌, ℕ, List, [], ◌∷◌, ◌++◌, true, false, Option, Some, None, Result, Ok, Err, MatchResult, if◌then◌else◌, map}
 use Rattle.std.specs.List.{flat_map}
-use Rattle.std.specs.Path.{path_join}
 use Rattle.clap.specs.Words.{Text}
 use Rattle.csdf_model.specs.Graph.{Actor, Graph}
 use Rattle.csdf_graph.specs.GraphText.{IsGraphOf}
@@ -9,24 +8,15 @@ use Rattle.csdf_graph.specs.declared.fault.GraphFault.{GraphFault}
 use Rattle.csdf_core.specs.Planned.{is_source_kernel}
 use Rattle.csdf_bytes.specs.declared.intake.InputFault.TheVariants as input
 use Rattle.csdf_explain.specs.Explained.{IsExplained}
-use Rattle.csdf_answers.specs.Faults.{fault_text}
-use Rattle.csdf_answers.specs.Printed.{newline}
 use Rattle.csdf_explain.specs.TokenNotes.{token_note}
-use Rattle.csdf_answers.specs.declared.fault.DeviceName.TheVariants.{File, Output}
-use Rattle.csdf_answers.specs.declared.fault.ToolFault.{ToolFault}
-use Rattle.csdf_answers.specs.declared.fault.ToolFault.TheVariants.{Device}
 use Rattle.csdf_answers.specs.declared.token_file.TokenFile.{TokenFile}
-use Rattle.csdf_answers.specs.declared.token_file.TokenFile.TheVariants as found
 use Rattle.std.specs.Io.KnownBytes.{Appends}
 use Rattle.csdf_disk.specs.Acts.{Act, Asks, Devices, Look, Read}
-use Rattle.csdf_tool.specs.GraphFiles.{IsNamed, graph_reads, is_input}
-use Rattle.csdf_tool.specs.Running.{in_file}
+use Rattle.csdf_files.specs.Files.{token_path}
+use Rattle.csdf_files.specs.GraphFiles.{IsNamed, graph_reads, is_input}
+use Rattle.csdf_files.specs.Unread.{unread_text, why_unread}
 
 -- ---- token files
-
--- the path of the token file of a source, by its name
-abbrev pub token_path : Text → List ℕ → List ℕ
-token_path folder source = path_join folder (in_file source)
 
 -- a source by its name, and what was found of its token file
 pub record Looked : Type 0 where
@@ -83,35 +73,6 @@ pub record ExplainsFiles (word : Text) (folder : Option Text) (d : Devices) (bef
   pub written : Appends before after text
 
 -- ---- a graph file that cannot be read
-
--- whether a fault is that a file cannot be read
-abbrev pub is_of_file : ToolFault → Bool
-is_of_file (Device (File name)) = true
-is_of_file _ = false
-
--- what is told of a file that was not read, by what was found of it then; nothing of one that can be read by then
-abbrev pub why_unread : TokenFile → Option TokenFile
-why_unread found.Missing = Some found.Missing
-why_unread found.Folder = Some found.Folder
-why_unread found.Forbidden = Some found.Forbidden
-why_unread found.Special = Some found.Unread
-why_unread found.Unread = Some found.Unread
-why_unread found.TooLong = None
-why_unread (found.Bytes bytes) = None
-
--- the line of the fault that a file cannot be read, and behind it why, as of a token file
-abbrev pub unread_text : Text → TokenFile → List ℕ
-unread_text path why = fault_text (Device (File path)) ++ newline ++ token_note (codes "csdf") path why
-
--- a path was looked at, and what was found tells this
-abbrev pub FindsThen : Text → Option (List Act) → Option (List Act) → Option TokenFile → Type 0
-FindsThen path before after why = (file : TokenFile) × Asks before after (Look path (Some file) ∷ []) × (why_unread file ≡ why)
-
--- why nothing was told of a file that has this fault: what was found tells nothing, and the fault stays; or standard output failed
-abbrev pub LacksWhy : Text → Option (List Act) → Option (List Act) → ToolFault → Bool → ToolFault → Type 0
-LacksWhy path before after fault failed told =
-    (FindsThen path before after None × (told ≡ fault))
-    ⊎ ((why : TokenFile) × FindsThen path before after (Some why) × (told ≡ Device Output) × (failed ≡ true))
 
 -- the file that a word names was asked for and could not be read; then it was looked at, and what was found tells this
 pub record IsUnreadAs (word : Text) (d : Devices) (why : Option TokenFile) : Type 0 where

@@ -31,10 +31,11 @@ use Rattle.csdf_answers.specs.Printed.{name_at, names_of}
 use Rattle.csdf_words.specs.CommandLine.{FolderNames, StreamOrder}
 use Rattle.csdf_words.specs.Workers.{most_workers}
 use Rattle.csdf_disk.specs.Acts.{Act, Asks, Devices, Keep, Leave, Make, Marks, Open, devices}
-use Rattle.csdf_tool.specs.GraphFiles.{IsGivenBy, IsNotGiven, is_input}
-use Rattle.csdf_tool.specs.Places.{Apart, IsInUse, in_file, out_file, sink_places}
-use Rattle.csdf_tool.specs.Reports.{TellsStream}
-use Rattle.csdf_tool.specs.Running.{put_fault, run_fault}
+use Rattle.csdf_files.specs.GraphFiles.{IsGivenBy, IsNotGiven, is_input}
+use Rattle.csdf_files.specs.Places.{Apart, IsInUse, in_file, out_file, sink_places}
+use Rattle.csdf_told.specs.Reports.{TellsStream}
+use Rattle.csdf_files.specs.Files.{put_fault}
+use Rattle.csdf_tool.specs.Running.{run_fault}
 use Rattle.csdf_tool.specs.declared.flow_fault.Medium.{Medium}
 use Rattle.csdf_tool.specs.declared.flow_fault.Medium.TheVariants as medium
 use Rattle.csdf_tool.specs.declared.flow_files.FlowFile.{FlowFile}

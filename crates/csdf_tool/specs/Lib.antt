@@ -1,12 +1,5 @@
 pub mod Carried
-pub mod Crews
 pub mod Ends
 pub mod Explaining
 pub mod Flows
-pub mod GraphFiles
-pub mod Places
-pub mod Refused
-pub mod Reports
 pub mod Running
-pub mod Telling
-pub mod Waiting

@@ -5,7 +5,6 @@ use Rattle.std.specs.Path.{path_join}
 use Rattle.std.specs.List.{zip}
 use Rattle.csdf_graph.specs.declared.fault.GraphFault.{GraphFault}
 use Rattle.csdf_bytes.specs.declared.intake.InputFault.{InputFault}
-use Rattle.csdf_bytes.specs.declared.intake.InputFault.TheVariants as input
 use Rattle.csdf_bytes.specs.declared.tokens.TokenFault.{TokenFault}
 use Rattle.csdf_bytes.specs.declared.tokens.TokenFault.TheVariants as token
 use Rattle.csdf_model.specs.Graph.{Actor, Graph}
@@ -27,26 +26,18 @@ use Rattle.csdf_answers.specs.declared.fault.DeviceName.TheVariants.{File, Outpu
 use Rattle.csdf_answers.specs.declared.fault.ToolFault.{ToolFault}
 use Rattle.csdf_answers.specs.declared.fault.ToolFault.TheVariants.{TokenSyntax, TokenRange, TooManyTokens, Worker, Device, Memory}
 use Rattle.csdf_tool.specs.declared.run_files.SinkFile.{SinkFile}
-use Rattle.csdf_disk.specs.declared.put_fault.PutFault.{PutFault}
-use Rattle.csdf_disk.specs.declared.put_fault.PutFault.TheVariants as put
-use Rattle.csdf_disk.specs.Acts.{Act, Asks, Devices, Marks, OnlyReads, Put, Read}
+use Rattle.csdf_disk.specs.Acts.{Act, Asks, Devices, Marks, OnlyReads, Read}
 use Rattle.csdf_words.specs.CommandLine.{Order}
 use Rattle.csdf_disk.specs.Contents.{content_text}
-use Rattle.csdf_tool.specs.GraphFiles.{IsNamed, IsNotGiven, graph_reads}
-use Rattle.csdf_tool.specs.Reports.{TellsReport}
-pub use Rattle.csdf_tool.specs.Places.{in_file, out_file}
-use Rattle.csdf_tool.specs.Places.{Apart, IsInUse, listed_files}
+use Rattle.csdf_files.specs.GraphFiles.{IsNamed, IsNotGiven, graph_reads}
+use Rattle.csdf_told.specs.Reports.{TellsReport}
+use Rattle.csdf_files.specs.Files.{IsUnput, Written, feed_fault, put_as}
+use Rattle.csdf_files.specs.Places.{Apart, IsInUse, in_file, listed_files, out_file}
 use Rattle.csdf_answers.specs.Described.{actor_names}
 use Rattle.csdf_answers.specs.Faults.{accept_fault, fault_of}
 use Rattle.csdf_answers.specs.Printed.{name_at, names_of}
 
 -- ---- files
-
--- a file that is written: its folder, its name there and its text
-pub record Written : Type 0 where
-  pub folder : List ℕ
-  pub name : List ℕ
-  pub text : List ℕ
 
 abbrev pub file_view : SinkFile → Written
 file_view file = record { folder = file.folder.now; name = file.name; text = content_text file.content }
@@ -66,12 +57,6 @@ journal_files (Some path) None = []
 journal_files (Some path) (Some text) = record { folder = []; name = path; text = text } ∷ []
 
 -- ---- faults
-
--- why the token file of a source was not read, as the program tells it
-abbrev pub feed_fault : List ℕ → InputFault → ToolFault
-feed_fault name input.Read = Device (File (in_file name))
-feed_fault name input.TooLong = TooManyTokens name
-feed_fault name input.Memory = Memory
 
 -- why the tokens of a source are refused, as the program tells it
 abbrev pub token_fault : List ℕ → TokenFault → ToolFault
@@ -154,12 +139,6 @@ pub record IsReadAll (folder : List ℕ) (actors : List Actor) (before after : O
   pub asked : Asks before after (feed_reads folder actors texts)
   pub each : length (feed_paths folder actors) ≡ length texts
 
--- the token file of a source was asked for, and this came of it in place of its bytes
-pub record IsFeedMissing (folder name : List ℕ) (before after : Option (List Act)) (fault : ToolFault) : Type 0 where
-  pub why : InputFault
-  pub files : Asks before after (Read (path_join folder (in_file name)) (Err why) ∷ [])
-  pub told : fault ≡ feed_fault name why
-
 -- the token files of the sources before one were read, and that one's was not
 pub record LacksFeed (folder : List ℕ) (actors : List Actor) (acts : List Act) (fault : ToolFault) : Type 0 where
   pub place : ℕ
@@ -172,10 +151,6 @@ pub record LacksFeed (folder : List ℕ) (actors : List Actor) (acts : List Act)
   pub each : length (feed_paths folder (take place actors)) ≡ length texts
   pub acts_are : acts ≡ feed_reads folder (take place actors) texts ++ Read (path_join folder (in_file actor.name)) (Err why) ∷ []
   pub told : fault ≡ feed_fault actor.name why
-
--- a file is put in its place, or this comes of it
-abbrev pub put_as : Result (Unit {0}) PutFault → Written → Act
-put_as came file = Put (path_join file.folder file.name) file.text came
 
 abbrev pub put_whole : Written → Act
 put_whole file = put_as (Ok tt) file
@@ -203,16 +178,6 @@ pub record RunsOnFiles (order : Order) (d : Devices) (before after : Option (Lis
   pub report : List ℕ
   pub tells : TellsReport order.form graph outcome report
   pub written : Appends before after report
-
--- why a file was not put in its place, as the program tells it
-abbrev pub put_fault : List ℕ → PutFault → ToolFault
-put_fault file put.Device = Device (File file)
-put_fault file put.Memory = Memory
-
--- a file was not put: this came of it, or memory ran out before it was asked for
-abbrev pub IsUnput : Written → List Act → ToolFault → Type 0
-IsUnput file acts fault =
-    ((acts ≡ []) × (fault ≡ Memory)) ⊎ ((why : PutFault) × (acts ≡ put_as (Err why) file ∷ []) × (fault ≡ put_fault file.name why))
 
 -- of several files those before one were put whole, and that one was not; or memory ran out before the first
 pub record IsCutShort (files : List Written) (acts : List Act) (fault : ToolFault) : Type 0 where

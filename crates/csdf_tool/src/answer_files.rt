@@ -5,12 +5,12 @@ ghost use Rattle.csdf_answers.specs.Objects.{IsDescriptionAs};
 ghost use Rattle.csdf_answers.specs.Session.{IsAnswer};
 ghost use Rattle.csdf_disk.specs.Acts.{devices, marks};
 ghost use Rattle.csdf_tool.specs.Carried.{LacksAnswer, PutsOut};
-ghost use Rattle.csdf_tool.specs.GraphFiles.{is_input};
+ghost use Rattle.csdf_files.specs.GraphFiles.{is_input};
 
-use crate::files::graph_bytes;
 use csdf_answers::{DeviceName, ToolFault, describe_as, play_script};
 use csdf_bytes::{Intake, Outlet};
 use csdf_disk::Disk;
+use csdf_files::graph_bytes;
 use csdf_words::Inquiry;
 use std::alloc::Global;
 

@@ -6,14 +6,13 @@ ghost use Rattle.csdf_model.specs.Graph.{actor_view};
 ghost use Rattle.csdf_disk.specs.Acts.{Act, Asks, devices, marks};
 ghost use Rattle.csdf_tool.specs.Carried.{LacksExplanation};
 ghost use Rattle.csdf_tool.specs.Explaining.{Explains, Looked, AreNotes, AreNotesOf, IsExplanation, IsNotedAfter, look_of, note_of};
-ghost use Rattle.csdf_tool.specs.GraphFiles.{is_input};
+ghost use Rattle.csdf_files.specs.GraphFiles.{is_input};
 
-use crate::files::{graph_bytes, token_path};
-use crate::unread_file::{explain_unread, is_of_file};
 use csdf_answers::{DeviceName, ToolFault};
 use csdf_bytes::{Intake, Outlet};
 use csdf_disk::Disk;
 use csdf_explain::{explain, explain_with, push_token_note};
+use csdf_files::{explain_unread, graph_bytes, is_of_file, token_path};
 use csdf_graph::{GraphFault, read_graph};
 use csdf_model::Actor;
 use std::alloc::Global;

@@ -4,11 +4,11 @@ ghost use Rattle.std.specs.Prelude.{◌≡◌, ◌≤◌, ◌++◌, ◌⊎◌, L
 ghost use Rattle.csdf_model.specs.Graph.{actor_view};
 ghost use Rattle.csdf_disk.specs.Acts.{Act, Asks};
 ghost use Rattle.csdf_tool.specs.Flows.{IsUnkept, IsUnkeptAt, IsUnmade, IsUnopened, flow_file_view, keeps, leave_of, make_of, miss_of, open_of, placed, sink_at, sinks_at, source_at, sources_at, unmade_of};
-ghost use Rattle.csdf_tool.specs.Running.{put_fault};
+ghost use Rattle.csdf_files.specs.Files.{put_fault};
 
-use crate::files::path_in;
 use csdf_answers::{DeviceName, Name, ToolFault};
 use csdf_disk::{Disk, PutFault};
+use csdf_files::path_in;
 use csdf_model::Actor;
 use std::alloc::{AllocError, Global};
 use std::path::PathBuf;

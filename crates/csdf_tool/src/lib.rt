@@ -3,22 +3,12 @@
 #![tactic(auto)]
 
 mod answer_files;
-mod apart;
-mod crew;
 mod explain_files;
-mod files;
 mod flow_fault;
 mod flow_files;
-mod flow_report;
 mod program;
-mod progress;
-mod refused;
-mod report;
 mod run_files;
 mod stream_files;
-mod telling;
-mod unread_file;
-mod waiting;
 
+pub use csdf_told::tell_waiting;
 pub use program::run_words;
-pub use waiting::tell_waiting;

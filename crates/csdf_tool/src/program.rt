@@ -11,7 +11,6 @@ ghost use Rattle.csdf_disk.specs.Acts.{devices, marks};
 
 use crate::answer_files::{ask_file, play_file};
 use crate::explain_files::explain_files;
-use crate::refused::{refuse_lengths, refuse_out, refuse_room, refuse_workers};
 use crate::run_files::run_files;
 use crate::stream_files::stream_files;
 use clap::Error;
@@ -19,6 +18,7 @@ use clap::error::ErrorKind;
 use csdf_answers::{DeviceName, Form, ToolFault, fault_line, memory_line};
 use csdf_bytes::{Intake, Outlet, write_bytes};
 use csdf_disk::Disk;
+use csdf_told::{refuse_lengths, refuse_out, refuse_room, refuse_workers};
 use csdf_words::{Request, Unread, form_of, request_of};
 use std::alloc::Global;
 use std::fmt;

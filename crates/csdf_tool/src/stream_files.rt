@@ -13,24 +13,21 @@ ghost use Rattle.csdf_words.specs.CommandLine.{folders_view, stream_view};
 ghost use Rattle.csdf_disk.specs.Acts.{Asks, devices, marks};
 ghost use Rattle.csdf_tool.specs.Flows.{FlowsOverFiles, IsAcceptedOf, IsFlow, IsStoppedBy, RefusesStream, StopsFiles, StopsMade, StopsOnGraph, StopsOverFiles, StopsStandard};
 ghost use Rattle.csdf_tool.specs.Flows.{StopsStream, Streams, StreamsFiles, StreamsStandard, count_of, flow_file_view, keeps, lack_by, lack_of, one_for, reads_graph, standard, standard_flow, through};
-ghost use Rattle.csdf_tool.specs.GraphFiles.{IsGivenBy, IsNotGiven, is_input};
+ghost use Rattle.csdf_files.specs.GraphFiles.{IsGivenBy, IsNotGiven, is_input};
 
-use crate::apart::keep_sinks_apart;
-use crate::crew::{chosen, workers_of};
-use crate::files::graph_bytes;
 use crate::flow_fault::{Medium, stream_fault};
 use crate::flow_files::{
     FlowFile, give_up, keep_all, make_all, open_all, sink_files, source_files,
 };
-use crate::flow_report::stream_report;
-use crate::progress::FlowProgress;
 use csdf_analysis::{Accepted, accept_or_hand_back};
 use csdf_answers::{DeviceName, Lack, ToolFault, accept_fault};
 use csdf_bytes::{Intake, Outlet, write_bytes};
 use csdf_disk::Disk;
+use csdf_files::{graph_bytes, keep_sinks_apart};
 use csdf_graph::read_graph;
 use csdf_model::Graph;
 use csdf_stream::{StreamOptions, StreamRun, run_stream, sinks_of, sources_of};
+use csdf_told::{FlowProgress, chosen, stream_report, workers_of};
 use csdf_words::{Folders, StreamWords};
 use std::alloc::{AllocError, Global};
 use std::sync::Wait;

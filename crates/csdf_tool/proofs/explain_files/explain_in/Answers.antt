@@ -1,6 +1,6 @@
 use Rattle.std.proofs.Common.{ap}
 use Rattle.std.specs.Prelude.{option_map}
-use Rattle.csdf_tool.proofs.DiskLemmas.{asks_none}
+use Rattle.csdf_files.proofs.DiskLemmas.{asks_none}
 use Rattle.csdf_tool.proofs.ExplainingLemmas.{explained_alone, unwritten_alone, unwritten_with}
 use Rattle.csdf_tool.proofs.explain_files.explain_in.Goals as goal
 

@@ -1,5 +1,5 @@
 use Rattle.std.proofs.Common.{List, [], Ok, rules, subst}
-use Rattle.csdf_tool.proofs.DiskLemmas.{asks_none}
+use Rattle.csdf_files.proofs.DiskLemmas.{asks_none}
 use Rattle.std.specs.Prelude.{string_bytes}
 use Rattle.std.proofs.lemmas.Result.{IfOk-weaker}
 use Rattle.csdf_model.specs.Graph.{Actor}

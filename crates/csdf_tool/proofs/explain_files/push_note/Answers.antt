@@ -1,7 +1,7 @@
 use Rattle.std.proofs.Common.{◌≡◌, ◌++◌, ap, refl, ◌∙◌}
 use Rattle.std.specs.Prelude.{string_bytes}
 use Rattle.csdf_explain.specs.TokenNotes.{token_note}
-use Rattle.csdf_tool.specs.Explaining.{token_path}
+use Rattle.csdf_files.specs.Files.{token_path}
 use Rattle.csdf_tool.proofs.ExplainingLemmas.{look_there}
 use Rattle.csdf_tool.proofs.explain_files.push_note.Goals as goal
 

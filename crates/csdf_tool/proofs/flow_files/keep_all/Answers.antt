@@ -4,7 +4,7 @@ use Rattle.csdf_answers.specs.declared.fault.ToolFault.TheVariants.{Memory}
 use Rattle.csdf_answers.proofs.ToldLemmas.{if_err_fault}
 use Rattle.csdf_disk.specs.Acts.{Asks}
 use Rattle.csdf_tool.specs.Flows.{flow_file_view}
-use Rattle.csdf_tool.specs.Running.{put_fault}
+use Rattle.csdf_files.specs.Files.{put_fault}
 use Rattle.csdf_tool.specs.declared.flow_files.FlowFile.{FlowFile}
 use Rattle.csdf_tool.proofs.FlowLemmas.{behind, unkept_all}
 use Rattle.csdf_tool.proofs.flow_files.keep_all.Goals as goal

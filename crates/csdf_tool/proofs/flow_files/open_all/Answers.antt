@@ -2,7 +2,7 @@ use Rattle.std.proofs.Common.{◌≡◌, ◌<◌, ap, arith, get_or, length, map
 use Rattle.std.proofs.lemmas.List.{get_or-map, length-map, length_push, take_all}
 use Rattle.csdf_answers.proofs.ToldLemmas.{if_err_fault}
 use Rattle.csdf_tool.specs.Flows.{flow_file_view, open_of}
-use Rattle.csdf_tool.proofs.DiskLemmas.{asks_none}
+use Rattle.csdf_files.proofs.DiskLemmas.{asks_none}
 use Rattle.csdf_tool.proofs.FlowLemmas.{opened_not, well_all, well_next}
 use Rattle.csdf_tool.proofs.flow_files.open_all.Goals as goal
 

@@ -1,5 +1,5 @@
 use Rattle.std.proofs.Common.{[], inl, refl}
-use Rattle.csdf_tool.proofs.DiskLemmas.{asks_none}
+use Rattle.csdf_files.proofs.DiskLemmas.{asks_none}
 use Rattle.csdf_tool.proofs.run_files.put_listed.Goals as goal
 
 pub returns-in-Err-clause-cut : goal.returns-in-Err-clause-cut

@@ -2,9 +2,9 @@ use Rattle.std.proofs.Common.{map}
 use Rattle.std.proofs.lemmas.Result.{IfErr-weaker}
 use Rattle.csdf_model.specs.Graph.{actor_view}
 use Rattle.csdf_words.specs.CommandLine.{order_view}
-use Rattle.csdf_tool.specs.Places.{listed_files}
-use Rattle.csdf_tool.proofs.DiskLemmas.{on_err}
-use Rattle.csdf_tool.proofs.FaultLemmas.{gives_none}
+use Rattle.csdf_files.specs.Places.{listed_files}
+use Rattle.csdf_files.proofs.DiskLemmas.{on_err}
+use Rattle.csdf_files.proofs.FaultLemmas.{gives_none}
 use Rattle.csdf_tool.proofs.RunLemmas.{apart_as, kept_by_place, kept_by_texts, on_ok, only_apart_looks}
 use Rattle.csdf_answers.proofs.ToldLemmas.{if_err_fault}
 use Rattle.csdf_tool.proofs.run_files.ran_apart.Goals as goal

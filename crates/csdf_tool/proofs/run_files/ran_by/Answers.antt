@@ -2,12 +2,12 @@ use Rattle.std.proofs.Common.{map, refl, sym, subst, inl}
 use Rattle.std.proofs.lemmas.Result.{IfErr-weaker}
 use Rattle.csdf_model.specs.Graph.{actor_view}
 use Rattle.csdf_words.specs.CommandLine.{order_view}
-use Rattle.csdf_tool.specs.GraphFiles.{IsNamed}
+use Rattle.csdf_files.specs.GraphFiles.{IsNamed}
 use Rattle.csdf_answers.specs.Faults.{fault_of}
 use Rattle.csdf_answers.specs.declared.fault.DeviceName.TheVariants.{Input}
 use Rattle.csdf_answers.specs.declared.fault.ToolFault.TheVariants.{Device}
 use Rattle.csdf_tool.proofs.CauseLemmas.{err_as}
-use Rattle.csdf_tool.proofs.FaultLemmas.{gives_none, no_fault}
+use Rattle.csdf_files.proofs.FaultLemmas.{gives_none, no_fault}
 use Rattle.csdf_tool.proofs.RunLemmas.{both_errs, graph_ends, is_some-map, lacks_ends, kept_ends, ran_of_file, reads_asked, stops_by_feed, stops_by_graph, stops_by_run}
 use Rattle.csdf_tool.proofs.TokenLemmas.{read_as}
 use Rattle.csdf_answers.proofs.ToldLemmas.{if_err_fault}

@@ -5,7 +5,8 @@ use Rattle.std.proofs.lemmas.List.{get_or-map, length-map, take_all}
 use Rattle.csdf_model.specs.Graph.{actor_view}
 use Rattle.csdf_run.specs.Tokens.{read_in}
 use Rattle.csdf_disk.specs.Contents.{told_tokens}
-use Rattle.csdf_tool.proofs.DiskLemmas.{missing_next, on_err, only_more, only_read_to}
+use Rattle.csdf_tool.proofs.ReadLemmas.{missing_next, only_read_to}
+use Rattle.csdf_files.proofs.DiskLemmas.{on_err, only_more}
 use Rattle.csdf_tool.proofs.TokenLemmas.{IsFedTo, actor_next, all_fed, none_fed, only_feed}
 use Rattle.csdf_answers.proofs.ToldLemmas.{if_err_fault}
 use Rattle.csdf_tool.proofs.run_files.read_feeds.Goals as goal

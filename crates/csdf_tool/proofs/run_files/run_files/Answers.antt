@@ -2,9 +2,10 @@ use Rattle.std.proofs.Common.{List, subst, refl, ◌≡◌, inl, inr}
 use Rattle.csdf_answers.specs.declared.fault.ToolFault.TheVariants as fault
 use Rattle.csdf_answers.specs.declared.fault.DeviceName.TheVariants.{Output}
 use Rattle.std.specs.Io.KnownBytes.{Appends}
-use Rattle.csdf_tool.proofs.DiskLemmas.{asks_more}
+use Rattle.csdf_files.proofs.DiskLemmas.{asks_more}
 use Rattle.csdf_words.specs.CommandLine.{order_view}
-use Rattle.csdf_tool.specs.Running.{IsCutShort, Written}
+use Rattle.csdf_tool.specs.Running.{IsCutShort}
+use Rattle.csdf_files.specs.Files.{Written}
 use Rattle.csdf_tool.proofs.RunLemmas.{cut_ends, ends_for_memory, files_alike, only_asks, puts_alike, report_alike}
 use Rattle.csdf_answers.proofs.ToldLemmas.{if_err_fault}
 use Rattle.csdf_tool.proofs.run_files.run_files.Goals as goal

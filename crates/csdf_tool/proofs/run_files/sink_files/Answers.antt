@@ -4,7 +4,7 @@ use Rattle.std.proofs.lemmas.List.{append-nil, drop_all}
 use Rattle.csdf_model.specs.Graph.{actor_view}
 use Rattle.csdf_floor.specs.Work.{feeds_in}
 use Rattle.csdf_tool.specs.Running.{file_view, sink_files_from}
-use Rattle.csdf_tool.proofs.FaultLemmas.{gives_none}
+use Rattle.csdf_files.proofs.FaultLemmas.{gives_none}
 use Rattle.csdf_tool.proofs.run_files.sink_files.Goals as goal
 
 pub loop-number-init : goal.loop-number-init

@@ -1,0 +1,4 @@
+pub mod ApartLemmas
+pub mod DiskLemmas
+pub mod FaultLemmas
+pub mod InputLemmas

@@ -1,0 +1,4 @@
+pub mod Files
+pub mod GraphFiles
+pub mod Places
+pub mod Unread

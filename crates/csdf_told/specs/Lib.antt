@@ -1,0 +1,5 @@
+pub mod Crews
+pub mod Refused
+pub mod Reports
+pub mod Telling
+pub mod Waiting

@@ -1,5 +1,0 @@
-use Rattle.std.proofs.Common.{rules}
-use Rattle.csdf_tool.proofs.apart.files_of_sinks.Goals as goal
-
-pub returns : goal.returns
-returns c = search rules

@@ -1,5 +1,0 @@
-use Rattle.std.proofs.Common.{rules}
-use Rattle.csdf_tool.proofs.apart.sink_file.Goals as goal
-
-pub returns : goal.returns
-returns c = search rules

@@ -1,5 +1,0 @@
-use Rattle.std.proofs.Common.{rules}
-use Rattle.csdf_tool.proofs.refused.refuse_out.Goals as goal
-
-pub returns-clause-told : goal.returns-clause-told
-returns-clause-told g c = search rules
