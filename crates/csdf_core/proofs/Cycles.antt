@@ -92,7 +92,7 @@ takes_sums : (cs : List Channel) (k n c : ℕ) → takes_at cs k n c ≡ sums (�
 takes_sums cs k zero c = refl
 takes_sums cs k (suc n) c = ap (λ x. take_at cs k c + x) (takes_sums cs (suc k) n c)
 
-gives_sums : (cs : List Channel) (k n c : ℕ) → gives_at cs k n c ≡ sums (λ j. give_at cs j c) k n
+pub gives_sums : (cs : List Channel) (k n c : ℕ) → gives_at cs k n c ≡ sums (λ j. give_at cs j c) k n
 gives_sums cs k zero c = refl
 gives_sums cs k (suc n) c = ap (λ x. give_at cs k c + x) (gives_sums cs (suc k) n c)
 

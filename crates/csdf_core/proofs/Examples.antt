@@ -4,7 +4,8 @@ use Rattle.std.specs.Prelude.{pos, Ok, Err}
 use Rattle.csdf_core.specs.declared.refusal.Refusal.TheVariants.{Unknown, Busy, Closed, Full, Stopped, Short, NoCells}
 use Rattle.csdf_core.specs.Moves.{Move}
 use Rattle.csdf_core.specs.Moves.{Begin, Read, Write, Finish, Close}
-use Rattle.csdf_core.specs.Plan.{Plan}
+use Rattle.csdf_core.specs.Passing.{after_block}
+use Rattle.csdf_core.specs.Plan.{Channel, Plan}
 use Rattle.csdf_core.specs.State.{opening}
 use Rattle.csdf_core.specs.Step.{given, Reply, replies_of}
 use Rattle.csdf_core.specs.Streams.{tokens_taken, written_to, peak_of}
@@ -76,3 +77,14 @@ crowding = Begin 0 ∷ Read 0 ∷ Write 0 (pos 1 ∷ pos 2 ∷ []) ∷ Finish 0 
 crowds : replies_of chain (opening chain) crowding ≡ none ∷ none ∷ none ∷ none ∷ Err NoCells ∷ []
 unfolding chain none crowding given
 crowds = refl
+
+-- ---- a block: two firings that each take the one token of a channel to their actor and one of another, and give one back and one to a third
+own_channel : List Channel
+own_channel = record { from = 0; to = 0; produce = 1 ∷ []; consume = 1 ∷ []; initial = pos 7 ∷ []; capacity = 1 } ∷ record
+    { from = 1; to = 0; produce = 1 ∷ []; consume = 1 ∷ []; initial = []; capacity = 3 } ∷ record
+    { from = 0; to = 2; produce = 1 ∷ []; consume = 1 ∷ []; initial = []; capacity = 2 } ∷ []
+
+last_state_stays : after_block own_channel 0 0 2 (pos 5 ∷ pos 50 ∷ pos 6 ∷ pos 60 ∷ []) ((pos 7 ∷ []) ∷ (pos 1 ∷ pos 2 ∷ pos 3 ∷ []) ∷ [] ∷ [])
+    ≡ (pos 6 ∷ []) ∷ (pos 3 ∷ []) ∷ (pos 50 ∷ pos 60 ∷ []) ∷ []
+unfolding own_channel
+last_state_stays = refl

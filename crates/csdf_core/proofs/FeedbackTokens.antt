@@ -85,6 +85,11 @@ before_is a k (x ∷ cs) i (suc c) amount same lt is =
     g
 
 -- ---- the same, added up output by output
+pub before_given : (cs : List Channel) (a k c : ℕ) → c < length cs → from_at cs c ≡ a → before_of (give_at cs k) (outputs_at cs a) c ≡ given_before cs a k c
+before_given cs a k c lt from =
+    ap (before_of (give_at cs k) (outputs_at cs a)) (let z : c ≡ 0 + c = omega arith in z)
+    ∙ before_is a k cs 0 c (give_at cs k) (λ j lt'. ap (give_at cs k) (let z : 0 + j ≡ j = omega arith in z)) lt from
+
 pub before_step : (f : ℕ → ℕ) (xs : List ℕ) (i own s total : ℕ) → i < length xs → (get_or xs i 0 ≡ own → ⊥) → s + before_of f (drop i xs) own ≡ total
     → s + f (get_or xs i 0) + before_of f (drop (i + 1) xs) own ≡ total
 before_step f [] i own s total lt ne e = absurd (omega arith)
@@ -143,9 +148,7 @@ module _ (plan : Plan) (a own : ℕ) (keeps : KeepsState plan a own) where
 
   -- what the firing gives to others before it
   pub state_before : (k : ℕ) → before_of (give_at cs k) outs own ≡ given_before cs a k own
-  state_before k =
-      ap (before_of (give_at cs k) outs) (let z : own ≡ 0 + own = omega arith in z)
-      ∙ before_is a k cs 0 own (give_at cs k) (λ j lt. ap (give_at cs k) (let z : 0 + j ≡ j = omega arith in z)) keeps.there keeps.from_it
+  state_before k = before_given cs a k own keeps.there keeps.from_it
 
   pub ins_all : AllByRecursion (λ c. (c < length cs) × (to_at cs c ≡ a)) ins
   ins_all = both ins (λ c (lt : c < length cs) (e : to_at cs c ≡ a). (lt, e)) (ins_there cs a) (ins_own cs a)

@@ -1,5 +1,5 @@
 -- What accepted firings of an actor read, and what that they are accepted says of its limit and of its inputs.
-use Rattle.std.proofs.Common.{◌≡◌, ◌≢◌, ℕ, zero, suc, ◌+◌, ◌<◌, ◌≤◌, List, [], ◌∷◌, ◌++◌, length, get_or, take, drop, refl, ap, ap₂, subst, ◌∙◌, sym, arith, ◌&&◌, nat_lt, Bool, true, false, None}
+use Rattle.std.proofs.Common.{◌≡◌, ◌≢◌, ℕ, zero, suc, ◌+◌, ◌<◌, ◌≤◌, List, ◌∷◌, ◌++◌, length, get_or, take, drop, refl, ap, ap₂, subst, ◌∙◌, sym, arith, ◌&&◌, nat_lt, Bool, true, false, None}
 use Rattle.std.proofs.lemmas.Bool.Decides.{nat_tests}
 use Rattle.std.proofs.Common.{append_assoc}
 use Rattle.std.specs.Prelude.{ℤ}
@@ -8,9 +8,9 @@ use Rattle.std.proofs.Math.Seq.{take-append_seam, drop-append_seam}
 use Rattle.std.proofs.lemmas.List.{take_all, take-append-le, drop-append-le, length-take-le, length-drop}
 use Rattle.csdf_core.specs.Blocks.{gifts_of, takes_at, firings_of, AreAccepted, answers_to, handed_by, reads_among, parts_of, fronts, reads_over, HoldAll, HasNoLoop}
 use Rattle.csdf_core.specs.Engine.{gives_to, reads_of, filled, there_of}
-use Rattle.csdf_core.specs.Plan.{Plan, Channel, from_at, to_at, gives_of}
+use Rattle.csdf_core.specs.Plan.{Plan, Channel, from_at, to_at}
 use Rattle.csdf_core.specs.Ports.{inputs_at, take_at, own_take_at, tokens_at}
-use Rattle.csdf_core.specs.Rows.{need, gift, left, joined, shares}
+use Rattle.csdf_core.specs.Rows.{need, gift, left, shares}
 use Rattle.csdf_core.specs.Moves.{Begin}
 use Rattle.csdf_core.specs.Step.{count, is_source, given, refusal}
 use Rattle.csdf_core.proofs.BlockMachines.{Machine, IsGood}
@@ -19,20 +19,12 @@ use Rattle.csdf_core.proofs.BlockTokens.{left_at, length-left, taken_fronts, fro
 use Rattle.csdf_core.proofs.FilledUp.{filled_enough}
 use Rattle.csdf_core.proofs.Finds.{took, fired_length}
 use Rattle.csdf_core.proofs.FiringMoves.{IsFired, fired1, fired4, is_fired}
-use Rattle.csdf_core.proofs.Lanes.{own_give_none}
-use Rattle.csdf_core.proofs.InOne.{there_at}
+use Rattle.csdf_core.proofs.Lanes.{own_give_none, shares_at, there_at}
 use Rattle.csdf_core.proofs.Kept.{begins, reads}
 use Rattle.csdf_core.proofs.OwnChannels.{ins_there, ins_own}
 use Rattle.csdf_core.proofs.PortLemmas.{need_is, own_take}
 use Rattle.csdf_core.proofs.Ready.{are_there}
-
--- a channel after a firing: what it held, without what was taken, and its share of what was written
-shares_at : (a k : ℕ) (cs : List Channel) (ts : List (List ℤ)) (v : List ℤ) (c : ℕ) → length ts ≡ length cs → c < length cs
-    → tokens_at (joined ts (shares a k cs v)) c ≡ tokens_at ts c ++ tokens_at (shares a k cs v) c
-shares_at a k [] ts v c e lt = absurd (omega arith)
-shares_at a k (x ∷ cs) [] v c e lt = absurd (omega arith)
-shares_at a k (x ∷ cs) (t ∷ ts) v zero e lt = refl
-shares_at a k (x ∷ cs) (t ∷ ts) v (suc c) e lt = shares_at a k cs ts (drop (gives_of a k x) v) c (omega arith) (omega arith)
+use Rattle.csdf_core.proofs.Shares.{takes_took}
 
 -- a source that is not dry has the tokens of one firing more, and so of the last one of n
 fed_one : (b : Bool) (x y : ℕ) → (b && nat_lt x y) ≡ false → b ≡ true → y ≤ x
@@ -146,17 +138,13 @@ module _ (plan : Plan) (a : ℕ) (few : (k : ℕ) → gift a k plan.channels ≤
       known_step n v m good acc.0 s len1 (subst (λ (x : ℕ). IsKnown plan a x n (drop g v) n4) s.number
       (known n (drop g v) n4 s.good4 (subst (λ (x : ℕ). AreAccepted plan n4.now (firings_of cs a x n (drop g v))) (sym s.number) acc.1.1.1.1) lenw))
 
-  takes_took : (c : ℕ) → c < length cs → to_at cs c ≡ a → (k n : ℕ) → takes_at cs k n c ≡ took cs a k n c
-  takes_took c lt to k zero = refl
-  takes_took c lt to k (suc n) = omega (arith, own_take a k cs c to lt, takes_took c lt to (suc k) n)
-
   -- without a channel to itself its inputs hold all
   pub hold_apart : (n : ℕ) (v : List ℤ) (m : Machine) → IsKnown plan a (count m.now a) n v m → HasNoLoop cs a
       → HoldAll m.now.tokens (takes_at cs (count m.now a) n) ins
   hold_apart n v m b apart =
       both ins
       (λ c (x : (c < length cs) × (to_at cs c ≡ a)) (other : from_at cs c ≢ a).
-      (let o = b.others c x.0 other in let t = takes_took c x.0 x.1 (count m.now a) n in
+      (let o = b.others c x.0 other in let t = takes_took cs a c x.0 x.1 (count m.now a) n in
       let z : takes_at cs (count m.now a) n c ≤ length (tokens_at m.now.tokens c) = omega (arith, o, t) in z))
       (both ins (λ c (lt : c < length cs) (to : to_at cs c ≡ a). (lt, to)) (ins_there cs a) (ins_own cs a)) apart
 

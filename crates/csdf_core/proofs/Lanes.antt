@@ -1,8 +1,8 @@
 -- Each channel after a firing: what it held, without what was taken, and behind it its share; and the peaks.
 use Rattle.csdf_core.proofs.BlockTokens.{drop_sum, left_at, length-left}
-use Rattle.csdf_core.specs.Plan.{Channel, from_at, gives_of}
+use Rattle.csdf_core.specs.Plan.{Channel, from_at, gives_of, takes_of}
 use Rattle.csdf_core.specs.Ports.{give_at, own_take_at, tokens_at}
-use Rattle.csdf_core.specs.Rows.{joined, left, shares}
+use Rattle.csdf_core.specs.Rows.{Row, joined, left, shares}
 use Rattle.csdf_core.specs.Shows.{raised}
 use Rattle.csdf_model.specs.Rates.{rate}
 use Rattle.std.proofs.Common.{Bool, List, [], ap, ap₂, arith, cond, drop, false, get_or, length, map, max, refl, suc, sym, take, true, zero, ℕ, ◌++◌, ◌+◌, ◌<◌, ◌==◌, ◌∙◌, ◌∷◌, ◌≡◌, ◌≢◌, ◌≤◌}
@@ -18,15 +18,34 @@ own_give_at cs a k c = get_or (map (gives_of a k) cs) c 0
 abbrev pub given_before : List Channel → ℕ → ℕ → ℕ → ℕ
 given_before cs a k c = sum_by (gives_of a k) (take c cs)
 
+-- each channel has what the firing takes
+pub there_at : (a k : ℕ) (cs : List Channel) (ts : List (List ℤ)) (c : ℕ) → length ts ≡ length cs → c < length cs
+    → AllByRecursion (λ (row : Row). takes_of a k row.0 ≤ length row.1) (zip cs ts) → own_take_at cs a k c ≤ length (tokens_at ts c)
+there_at a k [] ts c e lt all = absurd (omega arith)
+there_at a k (x ∷ cs) [] c e lt all = absurd (omega arith)
+there_at a k (x ∷ cs) (t ∷ ts) zero e lt all = all.0
+there_at a k (x ∷ cs) (t ∷ ts) (suc c) e lt all = there_at a k cs ts c (omega arith) (omega arith) all.1
+
+-- its share is put behind what it holds, and is a part of what is written
+pub shares_at : (a k : ℕ) (cs : List Channel) (ts : List (List ℤ)) (v : List ℤ) (c : ℕ) → length ts ≡ length cs → c < length cs
+    → tokens_at (joined ts (shares a k cs v)) c ≡ tokens_at ts c ++ tokens_at (shares a k cs v) c
+shares_at a k [] ts v c e lt = absurd (omega arith)
+shares_at a k (x ∷ cs) [] v c e lt = absurd (omega arith)
+shares_at a k (x ∷ cs) (t ∷ ts) v zero e lt = refl
+shares_at a k (x ∷ cs) (t ∷ ts) v (suc c) e lt = shares_at a k cs ts (drop (gives_of a k x) v) c (omega arith) (omega arith)
+
+pub share_at : (a k : ℕ) (cs : List Channel) (v : List ℤ) (c : ℕ) → c < length cs
+    → tokens_at (shares a k cs v) c ≡ take (own_give_at cs a k c) (drop (given_before cs a k c) v)
+share_at a k [] v c lt = absurd (omega arith)
+share_at a k (x ∷ cs) v zero lt = refl
+share_at a k (x ∷ cs) v (suc c) lt =
+    share_at a k cs (drop (gives_of a k x) v) c (omega arith)
+    ∙ ap (take (own_give_at cs a k c))
+    (sym (drop_sum (gives_of a k x) (given_before cs a k c) v) ∙ ap (λ (n : ℕ). drop n v) (sym (sum_by-cons (gives_of a k) x (take c cs))))
+
 pub joined_part : (a k : ℕ) (cs : List Channel) (ts : List (List ℤ)) (v : List ℤ) (c : ℕ) → length ts ≡ length cs → c < length cs
     → tokens_at (joined ts (shares a k cs v)) c ≡ tokens_at ts c ++ take (own_give_at cs a k c) (drop (given_before cs a k c) v)
-joined_part a k [] ts v c e lt = absurd (omega arith)
-joined_part a k (x ∷ cs) [] v c e lt = absurd (omega arith)
-joined_part a k (x ∷ cs) (t ∷ ts) v zero e lt = refl
-joined_part a k (x ∷ cs) (t ∷ ts) v (suc c) e lt =
-    joined_part a k cs ts (drop (gives_of a k x) v) c (omega arith) (omega arith)
-    ∙ ap (λ (u : List ℤ). tokens_at ts c ++ take (own_give_at cs a k c) u)
-    (sym (drop_sum (gives_of a k x) (given_before cs a k c) v) ∙ ap (λ (n : ℕ). drop n v) (sym (sum_by-cons (gives_of a k) x (take c cs))))
+joined_part a k cs ts v c e lt = shares_at a k cs ts v c e lt ∙ ap (λ (u : List ℤ). tokens_at ts c ++ u) (share_at a k cs v c lt)
 
 -- one channel's amount and those before it are within the sum of all
 pub part_within : (f : Channel → ℕ) (cs : List Channel) (c : ℕ) → c < length cs → sum_by f (take c cs) + get_or (map f cs) c 0 ≤ sum_by f cs

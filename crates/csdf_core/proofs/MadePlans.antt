@@ -1,5 +1,5 @@
 -- What a core keeps of an accepted graph can be played.
-use Rattle.std.proofs.Common.{◌≡◌, ℕ, suc, ◌*◌, ◌==◌, ◌<◌, ◌≤◌, List, [], ◌∷◌, length, map, refl, ◌∙◌, sym, arith, Option, Some, None}
+use Rattle.std.proofs.Common.{◌≡◌, ℕ, zero, suc, ◌*◌, ◌==◌, ◌<◌, ◌≤◌, List, [], ◌∷◌, length, get_or, map, refl, ap, ap₂, ◌∙◌, sym, arith, Option, Some, None}
 use Rattle.std.specs.Prelude.{All, sum, sum_by, unwrap_or, IfSome}
 use Rattle.std.specs.List.{zip, AllByRecursion}
 use Rattle.std.proofs.lemmas.List.{length-map}
@@ -8,10 +8,15 @@ use Rattle.std.proofs.lemmas.List.Elements.{All-from_recursion, recursion_from_A
 use Rattle.csdf_model.specs.Graph as graph
 use Rattle.csdf_model.specs.Graph.{Graph, phases_of}
 use Rattle.csdf_model.specs.Kernels.{is_source_kernel}
+use Rattle.csdf_model.specs.Rates.{rate, total}
 use Rattle.csdf_model.specs.WellFormed.{IsChannel, IsCells, initial_total}
+use Rattle.csdf_analysis.proofs.DivisorLemmas.{cancel_left}
 use Rattle.csdf_analysis.specs.Period.{HoldInitial}
 use Rattle.csdf_analysis.specs.Acceptance.{Accepted, IsAccepted, cells_of}
-use Rattle.csdf_core.specs.Plan.{Channel}
+use Rattle.csdf_analysis.specs.Repetition.{IsBalanced, IsVector}
+use Rattle.csdf_core.specs.Phases.{HasPhases}
+use Rattle.csdf_core.specs.Plan.{Channel, from_at, to_at}
+use Rattle.csdf_core.specs.Ports.{take_at, give_at}
 use Rattle.csdf_core.specs.Playable.{IsPlayable}
 use Rattle.csdf_core.specs.PlanInside.{AreOf, HasSmallRates}
 use Rattle.csdf_core.specs.Planned.{channels_of, with_capacity, plan_for}
@@ -103,6 +108,33 @@ small_rates actors (g ∷ gs) [] all = tt
 small_rates actors (g ∷ gs) (b ∷ caps) all =
     (record { produce = all.0.produce.small; consume = all.0.consume.small }, small_rates actors gs caps all.1)
 
+-- one from an actor of one phase to itself gives what it takes
+module _ (actors : List graph.Actor) (r : List ℕ) (some : IsVector actors r) where
+  even_rates : (gs : List graph.Channel) (caps : List ℕ) (a c : ℕ) → length caps ≡ length gs → AllByRecursion (IsChannel actors) gs
+      → AllByRecursion (IsBalanced actors r) gs → HasPhases (map with_capacity (zip gs caps)) a 1 → c < length (map with_capacity (zip gs caps))
+      → from_at (map with_capacity (zip gs caps)) c ≡ a → to_at (map with_capacity (zip gs caps)) c ≡ a
+      → take_at (map with_capacity (zip gs caps)) 0 c ≡ give_at (map with_capacity (zip gs caps)) 0 c
+  even_rates [] caps a c len all balanced has lt from to = absurd (omega arith)
+  even_rates (g ∷ gs) [] a c len all balanced has lt from to = absurd (omega arith)
+  even_rates (g ∷ gs) (b ∷ caps) a zero len all balanced has lt from to =
+      let gives : length g.produce ≡ 1 = has.gives 0 (omega arith) from in
+      let takes : length g.consume ≡ 1 = has.takes 0 (omega arith) to in
+      let puts : phases_of actors g.from ≡ 1 = sym all.0.produce.each_phase ∙ gives in
+      let gets : phases_of actors g.to ≡ 1 = sym all.0.consume.each_phase ∙ takes in
+      let n : ℕ = get_or r g.from 0 in
+      let each = some.each_actor in
+      let within = all.0.from in
+      let positive : 0 < n = some.positive g.from 0 (omega (arith, each, within)) in
+      let one : (rates : List ℕ) → total rates 1 ≡ rate rates 0 = λ rates. omega arith in
+      let same : n * rate g.produce 0 ≡ n * rate g.consume 0 =
+      ap (λ m. n * m) (sym (one g.produce)) ∙ ap (λ m. n * total g.produce m) (sym puts) ∙ balanced.0
+      ∙ ap₂ (λ (i m : ℕ). get_or r i 0 * total g.consume m) (to ∙ sym from) gets ∙ ap (λ m. n * m) (one g.consume) in
+      sym (cancel_left n (rate g.produce 0) (rate g.consume 0) positive same)
+  even_rates (g ∷ gs) (b ∷ caps) a (suc c) len all balanced has lt from to =
+      even_rates gs caps a c (omega arith) all.1 balanced.1
+      (record { takes = λ d less e. has.takes (suc d) (omega (arith, less)) e; gives = λ d less e. has.gives (suc d) (omega (arith, less)) e })
+      (omega (arith, lt)) from to
+
 -- the channels of an accepted graph with their capacities
 pub made_of : (a : Accepted) → IsAccepted a → AreOf a.graph (channels_of a)
 made_of a h =
@@ -114,6 +146,8 @@ made_of a h =
         small = All-from_recursion HasSmallRates (channels_of a) (small_rates g.actors g.channels a.capacities all);
         first = λ b. first_in_phase g.actors g.channels a.capacities b len all;
         few = λ b k. omega (arith, few_gifts g.actors b k g.channels a.capacities all, h.well_formed.fitting.few_channels);
+        even = λ b c. even_rates g.actors a.r h.repetition.least.vector g.channels a.capacities b c len all
+            (recursion_from_All (IsBalanced g.actors a.r) g.channels h.repetition.least.balances);
       };
       inputs = λ b. sym (numbers-capacities (λ ch. ch.to == b) (λ ch. ch.to == b) (λ _ _. refl) 0 g.channels a.capacities len);
       outputs = λ b. sym (numbers-capacities (λ ch. ch.from == b) (λ ch. ch.from == b) (λ _ _. refl) 0 g.channels a.capacities len);

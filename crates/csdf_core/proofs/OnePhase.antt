@@ -5,9 +5,9 @@ use Rattle.std.proofs.Math.Nat.{mod-one, suc-mul}
 use Rattle.csdf_model.specs.Rates.{rate}
 use Rattle.csdf_core.specs.declared.side.Side.{Side}
 use Rattle.csdf_core.specs.declared.side.Side.TheVariants.{Input, Output}
-use Rattle.csdf_core.specs.Blocks.{needs_of, gifts_of, takes_at}
+use Rattle.csdf_core.specs.Blocks.{needs_of, gifts_of, takes_at, gives_at}
 use Rattle.csdf_core.specs.Phases.{HasPhases}
-use Rattle.csdf_core.specs.Plan.{Channel, to_at, consume_at}
+use Rattle.csdf_core.specs.Plan.{Channel, from_at, to_at, consume_at, produce_at}
 use Rattle.csdf_core.specs.Ports.{inputs_at, outputs_at, take_at, give_at}
 use Rattle.csdf_core.specs.Rows.{need, gift}
 use Rattle.csdf_core.specs.Sides.{owner_at, rates_at}
@@ -56,4 +56,13 @@ module _ (cs : List Channel) (a : ℕ) (has : HasPhases cs a 1) where
       take_is cs (suc k) c lt ∙ rate_one (consume_at cs c) (suc k) k (has.takes c lt own) ∙ sym (take_is cs k c lt) in
       let rest : takes_at cs (suc k) n c ≡ n * take_at cs k c = takes_times c lt own (suc k) n ∙ ap (λ x. n * x) same in
       let t = suc-mul n (take_at cs k c) in
+      omega (arith, rest, t)
+
+  pub gives_times : (c : ℕ) → c < length cs → from_at cs c ≡ a → (k n : ℕ) → gives_at cs k n c ≡ n * give_at cs k c
+  gives_times c lt own k zero = omega arith
+  gives_times c lt own k (suc n) =
+      let same : give_at cs (suc k) c ≡ give_at cs k c =
+      give_is cs (suc k) c lt ∙ rate_one (produce_at cs c) (suc k) k (has.gives c lt own) ∙ sym (give_is cs k c lt) in
+      let rest : gives_at cs (suc k) n c ≡ n * give_at cs k c = gives_times c lt own (suc k) n ∙ ap (λ x. n * x) same in
+      let t = suc-mul n (give_at cs k c) in
       omega (arith, rest, t)

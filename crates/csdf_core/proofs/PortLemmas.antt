@@ -12,7 +12,6 @@ use Rattle.csdf_model.specs.Graph.{numbers_from}
 use Rattle.csdf_model.specs.Rates.{rate}
 use Rattle.csdf_model.proofs.PortLemmas as graph
 use Rattle.csdf_core.specs.Blocks.{fronts}
-use Rattle.csdf_core.specs.Feedback.{rows_over}
 use Rattle.csdf_core.specs.Plan.{Channel, takes_of}
 use Rattle.csdf_core.specs.Rows.{Row, is_closed, is_short, is_full, first, cut, joined, need, gift}
 use Rattle.csdf_core.specs.Shows.{raised}
@@ -242,46 +241,6 @@ module _ (own : Channel → Bool) (rate_of : Channel → ℕ) (amount : ℕ → 
         ∙ ap (λ u. done ++ u ∷ joined ts (cut moved cs v)) (sym (append-nil t))
         ∙ ap (λ k. done ++ (t ++ take k v) ∷ joined ts (cut moved cs (drop k v))) (sym m)
   ]
-
-  -- each own channel with its row at its end
-  abbrev pub with_rows : (ℕ → ℕ → List ℤ) → ℕ → ℕ → List Channel → List (List ℤ) → List (List ℤ)
-  with_rows row i before [] ts = []
-  with_rows row i before (c ∷ cs) [] = []
-  with_rows row i before (c ∷ cs) (t ∷ ts) = (t ++ cond (own c) (row i before) []) ∷ with_rows row (suc i) (before + moved c) cs ts
-
-  pub rows_all : (row : ℕ → ℕ → List ℤ) (i before : ℕ) (done : List (List ℤ)) (cs : List Channel) (ts : List (List ℤ)) → length done ≡ i
-      → length ts ≡ length cs → AreRates i cs → rows_over row amount (numbers_from i own cs) before (done ++ ts) ≡ done ++ with_rows row i before cs ts
-  rows_all row i before done [] [] e len h = refl
-  rows_all row i before done [] (t ∷ ts) e len h = absurd (omega arith)
-  rows_all row i before done (c ∷ cs) [] e len h = absurd (omega arith)
-  rows_all row i before done (c ∷ cs) (t ∷ ts) e len h =
-      let later : List (List ℤ) = with_rows row (suc i) (before + moved c) cs ts in
-      elim (cases_Bool (own c)) [
-        | inl o ↦
-            let m : moved c ≡ amount i = ap (λ b. cond b (rate_of c) 0) o ∙ sym (first_rate i c cs h) in
-            let n : numbers_from i own (c ∷ cs) ≡ i ∷ numbers_from (suc i) own cs =
-            ap (λ b. cond b (i ∷ numbers_from (suc i) own cs) (numbers_from (suc i) own cs)) o in
-            let u : List ℤ = t ++ row i before in
-            let x : set (done ++ t ∷ ts) i (tokens_at (done ++ t ∷ ts) i ++ row i before) ≡ (done ++ u ∷ []) ++ ts =
-            ap (λ s. set (done ++ t ∷ ts) i (s ++ row i before)) (at_place done i t [] ts e) ∙ set_place done i t u ts e in
-            ap (λ ns. rows_over row amount ns before (done ++ t ∷ ts)) n
-            ∙ ap (rows_over row amount (numbers_from (suc i) own cs) (before + amount i)) x
-            ∙ ap (λ k. rows_over row amount (numbers_from (suc i) own cs) (before + k) ((done ++ u ∷ []) ++ ts)) (sym m)
-            ∙ rows_all row (suc i) (before + moved c) (done ++ u ∷ []) cs ts (one_done done i u e) (omega arith) (more_rates i c cs h)
-            ∙ step_seam done u later
-            ∙ ap (λ b. done ++ (t ++ cond b (row i before) []) ∷ later) (sym o)
-        | inr o ↦
-            let m : moved c ≡ 0 = ap (λ b. cond b (rate_of c) 0) o in
-            let n : numbers_from i own (c ∷ cs) ≡ numbers_from (suc i) own cs =
-            ap (λ b. cond b (i ∷ numbers_from (suc i) own cs) (numbers_from (suc i) own cs)) o in
-            ap (λ ns. rows_over row amount ns before (done ++ t ∷ ts)) n
-            ∙ ap (rows_over row amount (numbers_from (suc i) own cs) before) (sym (step_seam done t ts))
-            ∙ rows_all row (suc i) before (done ++ t ∷ []) cs ts (one_done done i t e) (omega arith) (more_rates i c cs h)
-            ∙ step_seam done t (with_rows row (suc i) before cs ts)
-            ∙ ap (λ k. done ++ t ∷ with_rows row (suc i) k cs ts) (let z : before ≡ before + moved c = omega (arith, m) in z)
-            ∙ ap (λ u. done ++ u ∷ later) (sym (append-nil t))
-            ∙ ap (λ b. done ++ (t ++ cond b (row i before) []) ∷ later) (sym o)
-      ]
 
 -- ---- peaks
 pub raise_all : (own : Channel → Bool) (i : ℕ) (done : List ℕ) (front : List (List ℤ)) (cs : List Channel) (ts : List (List ℤ)) (ps : List ℕ) → length done ≡ i

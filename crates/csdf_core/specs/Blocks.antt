@@ -5,7 +5,7 @@ use Rattle.csdf_core.specs.Moves.{Move}
 use Rattle.csdf_core.specs.Moves.{Begin, Read, Write, Finish, Close}
 use Rattle.csdf_core.specs.Next.{next}
 use Rattle.csdf_core.specs.Plan.{Channel, Plan, from_at}
-use Rattle.csdf_core.specs.Ports.{inputs_at, outputs_at, take_at, give_at, tokens_at}
+use Rattle.csdf_core.specs.Ports.{inputs_at, outputs_at, take_at, give_at, own_take_at, tokens_at}
 use Rattle.csdf_core.specs.Rows.{need, gift}
 use Rattle.csdf_core.specs.State.{Present}
 use Rattle.csdf_core.specs.Step.{Reply, refusal, answer}
@@ -54,11 +54,9 @@ gives_at channels k (suc n) c = give_at channels k c + gives_at channels (suc k)
 abbrev pub HasNoLoop : List Channel → ℕ → Type 0
 HasNoLoop channels a = AllByRecursion (λ c. from_at channels c ≢ a) (inputs_at channels a)
 
--- the actor has at most one input and at most one output, and none is both
-pub record IsPlain (channels : List Channel) (a : ℕ) : Type 0 where
-  pub one_in : length (inputs_at channels a) ≤ 1
-  pub one_out : length (outputs_at channels a) ≤ 1
-  pub apart : HasNoLoop channels a
+-- no firing takes more of an output than it gives to it
+abbrev pub GivesBack : List Channel → ℕ → Type 0
+GivesBack channels a = (k : ℕ) → AllByRecursion (λ c. own_take_at channels a k c ≤ give_at channels k c) (outputs_at channels a)
 
 -- the capacity of a channel, by its number
 abbrev pub capacity_at : List Channel → ℕ → ℕ

@@ -1,5 +1,5 @@
 -- One engine: several firings of one actor, one after another with no other's move between.
-use Rattle.std.specs.Prelude.{ℕ, zero, suc, ◌≡◌, ◌≢◌, ◌*◌, ◌-◌, ◌<◌, ◌≤◌, List, [], ◌∷◌, ◌++◌, ℤ, take, drop, slice_set, length, pos, slice_index_or, ◌+◌, true, slice_index}
+use Rattle.std.specs.Prelude.{ℕ, zero, suc, ◌≡◌, ◌≢◌, ◌*◌, ◌-◌, ◌<◌, ◌≤◌, List, [], ◌∷◌, ◌++◌, ℤ, take, drop, length, pos, slice_index_or, ◌+◌, true, slice_index}
 use Rattle.csdf_core.specs.Blocks.{needs_of, gifts_of, firings_of, AreAccepted, answers_to, takes_at, gives_at, capacity_at, reads_over, reads_among, parts_of}
 use Rattle.csdf_core.specs.Moves.{Move}
 use Rattle.csdf_core.specs.Moves.{Begin, Read, Write, Finish}
@@ -61,15 +61,6 @@ pub record HasFired (old new : View) (a : ℕ) (v : List ℤ) : Type 0 where
   pub number : count new.now a ≡ suc (count old.now a)
   pub before : (last : View) (moves : List Move) → Plays new last moves (answers_to old.plan new.now moves)
       → Plays old last (Begin a ∷ Read a ∷ Write a v ∷ Finish a ∷ moves) (answers_to old.plan old.now (Begin a ∷ Read a ∷ Write a v ∷ Finish a ∷ moves))
-
--- the first of the channels, where there is one, without its n oldest tokens, and with these at its end
-abbrev pub drops_in : List ℕ → ℕ → List (List ℤ) → List (List ℤ)
-drops_in [] n tokens = tokens
-drops_in (c ∷ numbers) n tokens = slice_set tokens c (drop n (tokens_at tokens c))
-
-abbrev pub joins_in : List ℕ → List (List ℤ) → List ℤ → List (List ℤ)
-joins_in [] tokens v = tokens
-joins_in (c ∷ numbers) tokens v = slice_set tokens c (tokens_at tokens c ++ v)
 
 -- the first m tokens of a list, 0 where there is none
 abbrev pub filled : ℕ → List ℤ → List ℤ

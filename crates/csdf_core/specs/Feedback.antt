@@ -1,13 +1,13 @@
 -- Several firings of an actor that keeps its state in a channel to itself, one after another with no other's move between.
 use Rattle.std.specs.Prelude.{ℕ, zero, suc, ◌≡◌, ◌≢◌, ◌+◌, ◌-◌, ◌*◌, ◌<◌, ◌≤◌, ◌==◌, if◌then◌else◌, Bool, true, false, List, [], ◌∷◌, ◌++◌, ℤ}
-use Rattle.std.specs.Prelude.{Option, Some, None, IfSome, length, take, drop, slice_index, slice_set, sum_by}
+use Rattle.std.specs.Prelude.{Option, Some, None, IfSome, length, take, drop, slice_index, sum_by}
 use Rattle.std.specs.List.{AllByRecursion}
 use Rattle.csdf_core.specs.declared.stage.Stage.TheVariants.{Idle}
 use Rattle.csdf_core.specs.declared.feedback.Feedback.{Feedback}
 use Rattle.csdf_core.specs.Blocks.{takes_at, gives_at, capacity_at, HoldAll}
 use Rattle.csdf_core.specs.Phases.{HasPhases}
 use Rattle.csdf_core.specs.Plan.{Channel, Plan, from_at, to_at}
-use Rattle.csdf_core.specs.Ports.{inputs_at, outputs_at, take_at, give_at, tokens_at, takes_over}
+use Rattle.csdf_core.specs.Ports.{inputs_at, outputs_at, take_at, give_at, tokens_at}
 use Rattle.csdf_core.specs.Rows.{first, gift, is_closed}
 use Rattle.csdf_core.specs.State.{Present}
 use Rattle.csdf_core.specs.Step.{begun_count, count, held, is_source, reserved, stage}
@@ -92,37 +92,3 @@ pub record GoesOn (plan : Plan) (p : Present) (a own k n : ℕ) : Type 0 where
 -- the actor can make n firings one after the other
 abbrev pub CanGoOn : Plan → Present → ℕ → ℕ → ℕ → Type 0
 CanGoOn plan p a own n = GoesOn plan p a own (count p a) n
-
--- ---- what stays in the channels after n firings, of which each takes all that the channel to itself holds
-
--- of how many of them the tokens stay in an output: in the channel to itself those of the last alone
-abbrev pub stays_at : ℕ → ℕ → ℕ → ℕ
-stays_at own n c = if c == own then 1 else n
-
--- how many tokens stay in an output
-abbrev pub lasts_at : List Channel → ℕ → ℕ → ℕ → ℕ → ℕ
-lasts_at channels own k n c = stays_at own n c * give_at channels k c
-
--- of what n firings write, one firing's `gift` tokens after another's, so many behind the first few of each firing's
-abbrev pub shares_of : ℕ → ℕ → ℕ → ℕ → List ℤ → List ℤ
-shares_of before each gift zero v = []
-shares_of before each gift (suc n) v = take each (drop before (take gift v)) ++ shares_of before each gift n (drop gift v)
-
--- what stays in channel c of n firings that write v
-abbrev pub lasting : List Channel → ℕ → ℕ → ℕ → ℕ → List ℤ → ℕ → ℕ → List ℤ
-lasting channels own k n gift v c before =
-    shares_of before (give_at channels k c) gift (stays_at own n c) (drop ((n - stays_at own n c) * gift) v)
-
--- each of the channels gets its row at its end: that of the channel's number and of the amounts before it
-abbrev pub rows_over : (ℕ → ℕ → List ℤ) → (ℕ → ℕ) → List ℕ → ℕ → List (List ℤ) → List (List ℤ)
-rows_over row amount [] before tokens = tokens
-rows_over row amount (c ∷ numbers) before tokens =
-    rows_over row amount numbers (before + amount c) (slice_set tokens c (tokens_at tokens c ++ row c before))
-
--- the channels after n firings that write v: so many tokens of the channel to itself and those of the other input are gone, and each output
--- has got what stays in it
-abbrev pub gone_on : Plan → ℕ → Feedback → ℕ → ℕ → List (List ℤ) → List ℤ → List (List ℤ)
-gone_on plan a f k n tokens v =
-    rows_over (lasting plan.channels f.channel k n (gift a k plan.channels) v) (give_at plan.channels k) (outputs_at plan.channels a) 0
-    (takes_over (λ c. n * take_at plan.channels k c) (others_of f.other)
-    (slice_set tokens f.channel (drop f.taken (tokens_at tokens f.channel))))

@@ -20,5 +20,6 @@ pub mod Inside
 pub mod Blocks
 pub mod Engine
 pub mod Feedback
+pub mod Passing
 pub mod Sides
 pub mod PlanInside

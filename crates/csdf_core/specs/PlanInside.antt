@@ -12,7 +12,7 @@ use Rattle.csdf_model.specs.Graph.{Graph, inputs_of, outputs_of, phases_of}
 use Rattle.csdf_core.specs.Phases.{HasPhases, IsInPhase}
 use Rattle.csdf_core.specs.Plan.{Channel, Plan, from_at, to_at}
 use Rattle.csdf_core.specs.Playable.{IsPlayable}
-use Rattle.csdf_core.specs.Ports.{inputs_at, outputs_at}
+use Rattle.csdf_core.specs.Ports.{inputs_at, outputs_at, take_at, give_at}
 use Rattle.csdf_core.specs.Rows.{gift}
 use Rattle.csdf_core.specs.Sides.{ends_at, moved}
 
@@ -68,11 +68,13 @@ pub record HasSmallRates (c : Channel) : Type 0 where
   pub produce : All (λ n. n ≤ MAX_TOKENS_PER_FIRING) c.produce
   pub consume : All (λ n. n ≤ MAX_TOKENS_PER_FIRING) c.consume
 
--- the facts of a plan's channels
+-- the facts of a plan's channels; one from an actor of one phase to itself gives what it takes
 pub record AreChannels (channels : List Channel) : Type 0 where
   pub small : All HasSmallRates channels
   pub first : (a : ℕ) → IsInPhase channels a 0 0
   pub few : (a k : ℕ) → gift a k channels ≤ MAX_TOTAL_PER_FIRING
+  pub even : (a c : ℕ) → HasPhases channels a 1 → c < length channels → from_at channels c ≡ a → to_at channels c ≡ a
+      → take_at channels 0 c ≡ give_at channels 0 c
 
 -- the channels are those of this graph, each with a capacity
 pub record AreOf (g : Graph) (channels : List Channel) : Type 0 where

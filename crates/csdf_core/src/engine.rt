@@ -1,23 +1,23 @@
 //! The engine: how many firings an actor can make one after another, and those firings in one call.
 
 ghost use Rattle.std.specs.Prelude.{ℕ, ◌≡◌, ◌+◌, ◌-◌, ◌*◌, ◌<◌, ◌≤◌, ◌↔◌, ℤ, List, IsTrue, true, None, IfSome, length, slice_index};
-ghost use Rattle.csdf_core.specs.Blocks.{HoldAll, IsPlain};
-ghost use Rattle.csdf_core.specs.Engine.{FindsIn, FindsOut, GoesRound, IsHeld, HasRoom, drops_in, joins_in};
-ghost use Rattle.csdf_pool.specs.Pool.{IsPartition};
+ghost use Rattle.csdf_core.specs.Blocks.{HoldAll};
+ghost use Rattle.csdf_core.specs.Engine.{FindsIn, FindsOut, GoesRound, IsHeld, HasRoom};
 ghost use Rattle.csdf_core.specs.Plan.{to_at, from_at};
 ghost use Rattle.csdf_core.specs.Phases.{HasPhases};
-ghost use Rattle.csdf_core.specs.Ports.{inputs_at, outputs_at, tokens_in};
+ghost use Rattle.csdf_core.specs.Ports.{inputs_at, tokens_in};
 ghost use Rattle.csdf_core.specs.Sides.{ends_at, Finds, LetsThrough};
 
+use crate::block_moves::move_block;
 use crate::firing_core::Core;
 use crate::first_refusal::is_at;
 use crate::gathering::copy_reads;
 use crate::plan::Plan;
 use crate::readiness::first_closed;
-use crate::several::{drop_tokens, fire_once, hold_each};
+use crate::several::{fire_once, hold_each};
 use crate::side::Side;
 use crate::stage::Stage;
-use crate::transfer::{put_tokens, raise_peaks};
+use crate::transfer::raise_peaks;
 use csdf_model::MAX_FIRINGS_PER_ACTOR;
 use csdf_pool::Pool;
 
@@ -34,7 +34,7 @@ pub struct Block {
 }
 
 /// How many times over so many tokens can be moved where this many can be, of at most so many.
-fn times_over(tokens: u64, each: u64, most: u32) -> u32
+pub(crate) fn times_over(tokens: u64, each: u64, most: u32) -> u32
     ensures most { result ≤ most }
     ensures fits { result * each ≤ tokens }
 {
@@ -198,60 +198,6 @@ fn ends_find(plan: &Plan, pool: &Pool, side: Side, actor: u32, k: u32, i: u32) -
     true
 }
 
-/// Whether the actor has at most one input and at most one output, and none is both.
-fn is_plain(plan: &Plan, actor: u32) -> bool
-    requires { actor < length plan.now.sources }
-    ensures { IsTrue result ↔ IsPlain plan.now.channels actor }
-{
-    if plan.inputs(actor).len() > 1 {
-        return false;
-    }
-    if plan.outputs(actor).len() > 1 {
-        return false;
-    }
-    plan.has_no_loop(actor)
-}
-
-/// Takes so many of the oldest tokens out of the actor's input, where it has one.
-fn drop_input(plan: &Plan, pool: &mut Pool, actor: u32, n: u64)
-    requires actor { actor < length plan.now.sources }
-    requires same { length pool.old.chains ≡ length plan.now.channels }
-    requires enough { HoldAll (tokens_in pool.old) (λ _. n) (inputs_at plan.now.channels actor) }
-    requires none { length (inputs_at plan.now.channels actor) ≡ 0 → n ≡ 0 }
-    requires partition { IsPartition pool.old }
-    ensures left { tokens_in pool.new ≡ drops_in (inputs_at plan.now.channels actor) n (tokens_in pool.old) }
-    ensures free { length pool.new.free ≡ length pool.old.free + n }
-    ensures partition { IsPartition pool.new }
-    ensures size { pool.new.size ≡ pool.old.size }
-    ensures same { length pool.new.chains ≡ length pool.old.chains }
-{
-    let inputs = plan.inputs(actor);
-    if inputs.is_empty() {
-        return;
-    }
-    let input = inputs[0];
-    prove!(n <= u64::from(pool.len(input)));
-    drop_tokens(pool, input, n as u32);
-}
-
-/// Puts the tokens into the actor's output, where it has one.
-fn put_output(plan: &Plan, pool: &mut Pool, actor: u32, tokens: &[i32])
-    requires actor { actor < length plan.now.sources }
-    requires same { length pool.old.chains ≡ length plan.now.channels }
-    requires room { length tokens.now ≤ length pool.old.free }
-    requires partition { IsPartition pool.old }
-    ensures put { tokens_in pool.new ≡ joins_in (outputs_at plan.now.channels actor) (tokens_in pool.old) tokens.now }
-    ensures partition { IsPartition pool.new }
-    ensures size { pool.new.size ≡ pool.old.size }
-    ensures same { length pool.new.chains ≡ length pool.old.chains }
-{
-    let outputs = plan.outputs(actor);
-    if outputs.is_empty() {
-        return;
-    }
-    put_tokens(pool, outputs[0], tokens);
-}
-
 impl Core {
     ghost use Rattle.csdf_core.specs.declared.stage.Stage.TheVariants.{Idle};
     ghost use Rattle.csdf_core.specs.Engine.{CanFire};
@@ -264,6 +210,7 @@ impl Core {
     ghost use Rattle.csdf_core.specs.Engine.{FindsNext, HasFired, reads_of, there_of};
     ghost use Rattle.csdf_core.specs.Shows.{Plays};
     ghost use Rattle.csdf_core.specs.Rows.{gift};
+    ghost use Rattle.csdf_core.specs.Blocks.{GivesBack};
 
     /// How many firings, of at most so many, keep within the limits on the actor's own and on all.
     fn within_limits(&self, actor: u32, most: u32) -> u32
@@ -523,24 +470,23 @@ impl Core {
         }
     }
 
-    /// Makes the actor's next n firings, where it has at most one input and at most one output and none is
-    /// both: the tokens move in one piece.
-    fn fire_in_one(&mut self, actor: u32, n: u32, tokens: &[i32])
+    /// Makes the actor's next n firings, of which none takes more of a channel to itself than it gives back: the
+    /// tokens move channel by channel.
+    fn fire_at_once(&mut self, actor: u32, n: u32, tokens: &[i32])
         requires actor { actor < length self.old.plan.sources }
         requires some { 0 < n }
         requires few { count self.old.now actor + n ≤ MAX_FIRINGS_PER_ACTOR }
-        requires plain { IsPlain self.old.plan.channels actor }
+        requires back { GivesBack self.old.plan.channels actor }
         requires accepted { AreAccepted self.old.plan self.old.now
             (firings_of self.old.plan.channels actor (count self.old.now actor) n tokens.now) }
         requires all { length tokens.now ≡ gifts_of self.old.plan.channels actor (count self.old.now actor) n }
         ensures plays { Plays self.old self.new (firings_of self.old.plan.channels actor (count self.old.now actor) n tokens.now)
             (answers_to self.old.plan self.old.now (firings_of self.old.plan.channels actor (count self.old.now actor) n tokens.now)) }
     {
+        let turn = self.turn(actor);
         self.plan.gives_few();
-        let needed = self.needed_ahead(actor, n);
         let plan = &self.plan;
-        drop_input(plan, &mut self.pool, actor, needed);
-        put_output(plan, &mut self.pool, actor, tokens);
+        move_block(plan, &mut self.pool, actor, turn, n, tokens);
         raise_peaks(plan, &self.pool, &mut self.peaks, actor);
         self.started += u64::from(n);
         self.sums[actor as usize] += tokens.len() as u64;
@@ -565,8 +511,8 @@ impl Core {
         if n > 0 {
             let _limit = self.plan.limit(actor);
             self.plan.gives_few();
-            if is_plain(&self.plan, actor) {
-                self.fire_in_one(actor, n, tokens);
+            if self.plan.gives_back(actor) {
+                self.fire_at_once(actor, n, tokens);
                 return;
             }
         }

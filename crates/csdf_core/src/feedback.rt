@@ -2,31 +2,25 @@
 //!
 //! What such a firing reads is what the firing before it wrote, so that its values come one after the other: whoever
 //! computes them has the state and the other tokens at once ([`Core::peek_on`]), and then makes all moves in one
-//! call ([`Core::go_on`]).
+//! call ([`Core::fire`]).
 
-ghost use Rattle.std.specs.Prelude.{ℕ, ◌≡◌, ◌≢◌, ◌+◌, ◌-◌, ◌*◌, ◌<◌, ◌≤◌, ◌↔◌, IsTrue, IfSome, IfNone, length, drop, slice_set, List, ℤ, sum_by};
-ghost use Rattle.csdf_pool.specs.Pool.{IsPartition};
+ghost use Rattle.std.specs.Prelude.{ℕ, ◌≡◌, ◌≢◌, ◌+◌, ◌-◌, ◌*◌, ◌<◌, ◌≤◌, ◌↔◌, IsTrue, IfSome, IfNone, length, List, ℤ, sum_by};
 ghost use Rattle.std.specs.List.{AllByRecursion};
-ghost use Rattle.csdf_core.specs.Blocks.{takes_at, gives_at, gifts_of, HoldAll, AreAccepted, answers_to, firings_of, from_front};
+ghost use Rattle.csdf_core.specs.Blocks.{takes_at, gives_at, gifts_of, HoldAll, from_front};
 ghost use Rattle.csdf_core.specs.Engine.{AreReadWith};
 ghost use Rattle.csdf_core.specs.declared.feedback.Feedback.{Feedback as FeedbackModel};
 ghost use Rattle.csdf_core.specs.Feedback.{KeepsState, IsFeedback, CanGoOn, HaveRoomFor, asks_at, fills_at, before_of, in_order, loop_reads, others_of, AreNotInOrder};
-ghost use Rattle.csdf_core.specs.Feedback.{lasts_at, gone_on};
 ghost use Rattle.csdf_core.specs.Phases.{HasPhases, IsInPhase};
 ghost use Rattle.csdf_core.specs.Plan.{from_at, to_at};
-ghost use Rattle.csdf_core.specs.Ports.{inputs_at, outputs_at, take_at, give_at, tokens_at, tokens_in, takes_over};
+ghost use Rattle.csdf_core.specs.Ports.{inputs_at, outputs_at, take_at, give_at, tokens_at, tokens_in};
 ghost use Rattle.csdf_core.specs.Rows.{gift};
-ghost use Rattle.csdf_core.specs.Shows.{Plays};
 ghost use Rattle.csdf_core.specs.Step.{begun_count, count, held, reserved, stage};
 
 use crate::firing_core::Core;
 use crate::first_refusal::is_at;
-use crate::going::put_lasting;
 use crate::plan::Plan;
 use crate::readiness::first_closed;
-use crate::several::drop_tokens;
 use crate::stage::Stage;
-use crate::transfer::raise_peaks;
 use crate::turn::Turn;
 use csdf_model::{MAX_FIRINGS_PER_ACTOR, MAX_TOKENS_PER_FIRING, MAX_TOTAL_PER_FIRING};
 use csdf_pool::Pool;
@@ -80,7 +74,7 @@ fn order_of(plan: &Plan, actor: u32, own: u32) -> Option<(Option<u32>, bool)>
 }
 
 /// How many tokens a firing gives to the outputs that come before this one.
-fn given_before(plan: &Plan, actor: u32, own: u32, turn: Turn) -> u32
+pub(crate) fn given_before(plan: &Plan, actor: u32, own: u32, turn: Turn) -> u32
     requires actor { actor < length plan.now.sources }
     requires in_phase { IsInPhase plan.now.channels actor turn.firing turn.phase }
     ensures value { result ≡ before_of (give_at plan.now.channels turn.firing) (outputs_at plan.now.channels actor) own }
@@ -183,67 +177,6 @@ fn copy_other(pool: &Pool, other: Option<u32>, into: &mut [i32])
         Some(channel) => pool.copy_front(channel, into),
         None => {}
     }
-}
-
-/// Takes what n firings read of the input, where there is one, out of it and drops it.
-fn drop_other(plan: &Plan, pool: &mut Pool, actor: u32, other: Option<u32>, turn: Turn, n: u32)
-    requires same { length pool.old.chains ≡ length plan.now.channels }
-    requires in_phase { IsInPhase plan.now.channels actor turn.firing turn.phase }
-    requires few { n ≤ MAX_FIRINGS_PER_ACTOR }
-    requires other { IfSome other (λ c. (c < length plan.now.channels) × (to_at plan.now.channels c ≡ actor)) }
-    requires enough { IfSome other (λ c. n * take_at plan.now.channels turn.firing c ≤ length (tokens_at (tokens_in pool.old) c)) }
-    requires partition { IsPartition pool.old }
-    ensures left { tokens_in pool.new ≡ takes_over (λ c. n * take_at plan.now.channels turn.firing c) (others_of other) (tokens_in pool.old) }
-    ensures free { length pool.old.free ≤ length pool.new.free }
-    ensures partition { IsPartition pool.new }
-    ensures size { pool.new.size ≡ pool.old.size }
-    ensures same { length pool.new.chains ≡ length pool.old.chains }
-{
-    match other {
-        Some(channel) => {
-            let each = plan.takes(channel, turn);
-            drop_tokens(pool, channel, n * each);
-        }
-        None => {}
-    }
-}
-
-/// Moves the tokens of n firings, of which each takes all that the channel to the actor itself holds.
-fn move_on(
-    plan: &Plan,
-    pool: &mut Pool,
-    actor: u32,
-    feedback: Feedback,
-    turn: Turn,
-    n: u32,
-    tokens: &[i32],
-)
-    requires actor { actor < length plan.now.sources }
-    requires in_phase { IsInPhase plan.now.channels actor turn.firing turn.phase }
-    requires same { length pool.old.chains ≡ length plan.now.channels }
-    requires few { n ≤ MAX_FIRINGS_PER_ACTOR }
-    requires own { feedback.channel < length plan.now.channels }
-    requires state { feedback.taken ≤ length (tokens_at (tokens_in pool.old) feedback.channel) }
-    requires other { IfSome feedback.other (λ c. (c < length plan.now.channels) × (to_at plan.now.channels c ≡ actor)) }
-    requires enough { IfSome feedback.other (λ c. n * take_at plan.now.channels turn.firing c
-        ≤ length (tokens_at (slice_set (tokens_in pool.old) feedback.channel (drop feedback.taken (tokens_at (tokens_in pool.old) feedback.channel))) c)) }
-    requires all { length tokens.now ≡ n * gift actor turn.firing plan.now.channels }
-    requires room { 0 < n → sum_by (lasts_at plan.now.channels feedback.channel turn.firing n) (outputs_at plan.now.channels actor)
-        ≤ length pool.old.free + feedback.taken }
-    requires partition { IsPartition pool.old }
-    ensures none { n ≡ 0 → pool.new ≡ pool.old }
-    ensures moved { 0 < n → tokens_in pool.new ≡ gone_on plan.now actor feedback turn.firing n (tokens_in pool.old) tokens.now }
-    ensures partition { IsPartition pool.new }
-    ensures size { pool.new.size ≡ pool.old.size }
-    ensures same { length pool.new.chains ≡ length pool.old.chains }
-{
-    if n == 0 {
-        return;
-    }
-    let own = feedback.channel;
-    drop_tokens(pool, own, feedback.taken);
-    drop_other(plan, pool, actor, feedback.other, turn, n);
-    put_lasting(plan, pool, actor, own, turn, n, tokens);
 }
 
 impl Core {
@@ -358,26 +291,5 @@ impl Core {
         self.plan.gives_few();
         self.pool.copy_front(feedback.channel, state);
         copy_other(&self.pool, feedback.other, others);
-    }
-
-    /// Makes the actor's next n firings, which write these tokens, one firing's after another's:
-    /// their 4n moves, in order.
-    pub fn go_on(&mut self, actor: u32, feedback: Feedback, n: u32, tokens: &[i32])
-        requires feedback { IsFeedback self.old.plan actor feedback }
-        requires can { CanGoOn self.old.plan self.old.now actor feedback.channel n }
-        requires all { length tokens.now ≡ gifts_of self.old.plan.channels actor (count self.old.now actor) n }
-        ensures accepted { AreAccepted self.old.plan self.old.now
-            (firings_of self.old.plan.channels actor (count self.old.now actor) n tokens.now) }
-        ensures plays { Plays self.old self.new (firings_of self.old.plan.channels actor (count self.old.now actor) n tokens.now)
-            (answers_to self.old.plan self.old.now (firings_of self.old.plan.channels actor (count self.old.now actor) n tokens.now)) }
-    {
-        let turn = self.turn(actor);
-        self.plan.gives_few();
-        let plan = &self.plan;
-        move_on(plan, &mut self.pool, actor, feedback, turn, n, tokens);
-        raise_peaks(plan, &self.pool, &mut self.peaks, actor);
-        self.started += u64::from(n);
-        self.sums[actor as usize] += tokens.len() as u64;
-        self.nexts.advance(&self.plan, actor, n);
     }
 }

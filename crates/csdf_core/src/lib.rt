@@ -2,13 +2,13 @@
 #![tactic(auto)]
 
 mod ahead;
+mod block_moves;
 mod engine;
 mod feedback;
 mod filling;
 mod firing_core;
 mod first_refusal;
 mod gathering;
-mod going;
 mod laws;
 mod moves;
 mod nexts;

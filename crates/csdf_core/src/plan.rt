@@ -8,7 +8,7 @@ ghost use Rattle.csdf_core.specs.Plan.{Channel as ChannelModel, consume_at, from
 ghost use Rattle.csdf_core.specs.PlanInside.{channel_in, AreEnds, HasSmallRates, IsActor, IsFirstLoop};
 ghost use Rattle.csdf_core.specs.Planned.{plan_for};
 ghost use Rattle.csdf_model.specs.Rates.{total};
-ghost use Rattle.csdf_core.specs.Blocks.{takes_at, gives_at, HasNoLoop};
+ghost use Rattle.csdf_core.specs.Blocks.{takes_at, gives_at, GivesBack, HasNoLoop};
 ghost use Rattle.csdf_core.specs.Playable.{IsPlayable};
 ghost use Rattle.csdf_core.specs.Rows.{gift};
 ghost use Rattle.csdf_core.specs.Streams.{part};
@@ -389,6 +389,20 @@ impl Plan {
             Some(_) => false,
             None => true,
         }
+    }
+
+    /// Whether the actor has one phase or no channel to itself: then no firing takes more of an output than it
+    /// gives to it.
+    #[inline(always)]
+    pub(crate) fn gives_back(&self, actor: u32) -> bool
+        requires { actor < length self.now.sources }
+        ensures { IsTrue result → GivesBack self.now.channels actor }
+    {
+        let _channels = &self.channels;
+        if self.has_no_loop(actor) {
+            return true;
+        }
+        self.phases(actor) == 1
     }
 
     /// The greatest number of firings of all actors, where there is one.

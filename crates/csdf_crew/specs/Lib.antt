@@ -1,5 +1,6 @@
 pub mod Asked
 pub mod Causes
 pub mod Hand
+pub mod Heavy
 pub mod Looking
 pub mod Workers

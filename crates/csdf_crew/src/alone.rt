@@ -61,14 +61,13 @@ pub fn run_alone<R: Wait, G: Told>(
     rt: &R,
     alloc: Global,
     floor: &mut Floor,
-    ready: ReadySet,
     gate: &G,
 ) -> Result<(), AllocError>
     ensures keeps { floor.new.keeps ≡ floor.old.keeps }
     ensures work { floor.new.work ≡ floor.old.work }
     ensures quiet { OnOk result (IsQuiet floor.new.core.plan floor.new.core.now) }
 {
-    let mut ready = ready;
+    let mut ready = ReadySet::new(alloc, floor.accepted())?;
     let mut bench = Bench {
         counts: Counts::new(alloc),
         outputs: Outputs::new(alloc),

@@ -7,6 +7,7 @@ mod claims;
 mod gate;
 mod gave_up;
 mod hand;
+mod heavy;
 mod monitor;
 mod policy;
 mod ready_set;
@@ -17,7 +18,7 @@ mod worker;
 
 pub use alone::run_alone;
 pub use gate::{Gate, Open};
+pub use heavy::has_heavy;
 pub use policy::Crew;
-pub use ready_set::ReadySet;
-pub use threads::{CrewEnd, run_crew};
+pub use threads::run_crew;
 pub use told::Told;

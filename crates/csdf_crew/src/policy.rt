@@ -7,10 +7,6 @@ use csdf_model::Kernel;
 /// How many products, or tokens, make a firing heavy: it takes about as long as to wake a worker.
 const HEAVY: usize = 16_384;
 
-/// How many products make a block of firings heavy, so that it is evaluated without the lock: some 45
-/// microseconds.
-pub(crate) const HEAVY_BLOCK: u64 = 98_304;
-
 /// So many blocks of a run are all looked at, whether they are heavy.
 const LOOKED_AT: u32 = 256;
 

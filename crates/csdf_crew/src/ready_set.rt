@@ -17,7 +17,7 @@ use std::marker::Model;
 /// A bit for each actor that may be able to begin, one for each whose last start was not refused, and whom
 /// the moves of each may enable.
 #[derive(Drop)]
-pub struct ReadySet {
+pub(crate) struct ReadySet {
     ready: u64,
     apt: u64,
     producers: Vec<u64>,
@@ -115,7 +115,7 @@ fn able_among(core: &Core, mask: u64) -> u64
 
 impl ReadySet {
     /// Of a graph; none is told yet.
-    pub fn new(alloc: Global, accepted: &Accepted) -> Result<ReadySet, AllocError>
+    pub(crate) fn new(alloc: Global, accepted: &Accepted) -> Result<ReadySet, AllocError>
         ensures producers { IfOk result (λ r. AreProducers accepted.now.graph.channels (length accepted.now.graph.actors) r.producers) }
         ensures consumers { IfOk result (λ r. AreConsumers accepted.now.graph.channels (length accepted.now.graph.actors) r.consumers) }
     {

@@ -2,6 +2,8 @@
 
 ghost use Rattle.std.specs.Prelude.{◌≡◌, ◌≢◌, ◌≤◌, ◌<◌, ◌++◌, All, Err, IfErr, IfOk, IfSome, Ok, if◌then◌else◌, length, nat_lt, option_to_list, vec_capacity, vec_len};
 ghost use Rattle.csdf_floor.specs.declared.fault.RunFault.TheVariants.{Worker};
+ghost use Rattle.csdf_floor.specs.Outcome.{IsOutcome};
+ghost use Rattle.csdf_floor.specs.Work.{feeds_in};
 ghost use Rattle.csdf_crew.specs.Causes.{IsCauseAmong};
 ghost use Rattle.csdf_crew.specs.Workers.{AnswersForAll, HoldsNothing, IsEndAt, TakesIn, both};
 
@@ -13,7 +15,7 @@ use crate::run_end::{EndCause, RunEnd, Unstarted};
 use crate::told::Told;
 use crate::worker::{Ended, Site, work};
 use csdf_claims::{Board, Place};
-use csdf_floor::{Floor, RunFault};
+use csdf_floor::{Floor, RunFault, Settled, settle_and_hand_back};
 use csdf_model::MAX_ACTORS;
 use std::alloc::{AllocError, Global};
 use std::marker::Brand;
@@ -24,11 +26,9 @@ use std::thread::{Promise, PromisedHandle, Threads};
 /// What a crew has come to: the floor as it was left, and how many firings of each actor were finished, or
 /// why the run was given up.
 #[derive(Drop)]
-pub struct CrewEnd {
-    /// The floor.
-    pub floor: Floor,
-    /// How many firings of each actor, or the fault.
-    pub totals: Result<Vec<u32>, RunFault>,
+struct CrewEnd {
+    floor: Floor,
+    totals: Result<Vec<u32>, RunFault>,
 }
 
 /// The place that a worker hands back is one of this board, and holds nothing where the worker did not give up.
@@ -257,12 +257,12 @@ fn finished_by<K: Asked + Send + Sync, R: Threads + Wait + Sync, G: Told>(
     totals_of(alloc, board, place)
 }
 
-/// What [`run_crew`] answers, where the type `K` says what is asked.
+/// Runs the floor by a crew, where the type `K` says what is asked: each firing is computed by one worker,
+/// without the lock. The floor comes back, whether they made the run or not.
 fn run_as<K: Asked + Send + Sync, R: Threads + Wait + Sync, G: Told>(
     rt: &R,
     alloc: Global,
     floor: Floor,
-    ready: ReadySet,
     crew: Crew,
     gate: &G,
 ) -> CrewEnd
@@ -272,6 +272,15 @@ fn run_as<K: Asked + Send + Sync, R: Threads + Wait + Sync, G: Told>(
     ensures count { IfOk result.totals (λ totals. length totals.items ≡ crew.actors) }
     ensures cause { IfErr result.totals (IsCauseAmong crew.workers) }
 {
+    let ready = match ReadySet::new(alloc, floor.accepted()) {
+        Ok(ready) => ready,
+        Err(_error) => {
+            return CrewEnd {
+                floor,
+                totals: Err(RunFault::Memory),
+            };
+        }
+    };
     let monitor: Monitor<K> = Monitor::new(floor, ready, crew);
     let totals = finished_by(rt, alloc, &monitor, crew, gate);
     CrewEnd {
@@ -280,24 +289,32 @@ fn run_as<K: Asked + Send + Sync, R: Threads + Wait + Sync, G: Told>(
     }
 }
 
-/// Runs the floor by a crew: each firing is computed by one worker, without the lock. The floor comes back,
-/// whether they made the run or not.
+/// Runs the floor by a crew, to its end, and settles it: what it was made over comes back, whether there is an
+/// outcome or not.
 ///
 /// [`RunFault::Memory`] says that memory ran out, here or in a worker, [`RunFault::Worker`] that a thread
-/// could not be started, and [`RunFault::Mixed`] that the floor did not stand where a claim says.
+/// could not be started, and [`RunFault::Mixed`] that the floor did not stand where a claim says, or that an
+/// actor can go on where the workers have ended.
 pub fn run_crew<R: Threads + Wait + Sync, G: Told>(
     rt: &R,
     alloc: Global,
     floor: Floor,
-    ready: ReadySet,
     crew: Crew,
     gate: &G,
-) -> CrewEnd
+) -> Settled
     requires { crew.actors ≤ MAX_ACTORS }
-    ensures keeps { result.floor.keeps ≡ floor.keeps }
-    ensures work { result.floor.work ≡ floor.work }
-    ensures count { IfOk result.totals (λ totals. length totals.items ≡ crew.actors) }
-    ensures cause { IfErr result.totals (IsCauseAmong crew.workers) }
+    ensures accepted { result.fed.accepted ≡ floor.work.accepted }
+    ensures feeds { feeds_in result.fed.feeds.items ≡ floor.work.feeds }
+    ensures outcome { IfOk result.outcome (IsOutcome floor.work) }
+    ensures keeps { IfOk result.outcome (λ o. o.journal.keeps ≡ floor.keeps) }
+    ensures cause { IfErr result.outcome (IsCauseAmong crew.workers) }
 {
-    run_as::<Brand, R, G>(rt, alloc, floor, ready, crew, gate)
+    let CrewEnd { floor, totals } = run_as::<Brand, R, G>(rt, alloc, floor, crew, gate);
+    match totals {
+        Ok(totals) => settle_and_hand_back(alloc, floor, totals.as_slice()),
+        Err(fault) => Settled {
+            fed: floor.into_fed(),
+            outcome: Err(fault),
+        },
+    }
 }

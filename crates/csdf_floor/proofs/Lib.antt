@@ -30,6 +30,7 @@ pub mod PhaseValues
 pub mod MostPeriods
 pub mod MadeFloors
 pub mod MoreFirings
+pub mod Again
 pub mod Drafted
 pub mod Notings
 pub mod Standings

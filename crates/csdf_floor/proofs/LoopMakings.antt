@@ -1,5 +1,5 @@
 -- Firings that keep a state, as a floor makes them.
-use Rattle.std.proofs.Common.{◌≡◌, ℕ, zero, suc, ◌+◌, ◌*◌, ◌≤◌, Bool, true, false, List, [], ◌∷◌, ◌++◌, length, get_or, take, drop}
+use Rattle.std.proofs.Common.{◌≡◌, ℕ, zero, suc, ◌+◌, ◌-◌, ◌*◌, ◌≤◌, Bool, true, false, List, [], ◌∷◌, ◌++◌, length, get_or, take, drop}
 use Rattle.std.proofs.Common.{cond, refl, ap, ap₂, sym, subst, ◌∙◌, arith, suc-mul}
 use Rattle.std.specs.Prelude.{ℤ, sum, sum_by, slice_range}
 use Rattle.std.proofs.Math.Seq.{take-append_seam, drop-append_seam}
@@ -173,6 +173,26 @@ own_values keeps w core journal sinks reads a n f state others v b told0 state_l
           ∙ ap (λ (u : Plan). needs_of u.channels a k n) (sym same);
       read = read_as v v_long;
       just = v_made;
+    }
+
+-- what a firing reads and writes has place for the state
+pub record HasPlace (needed before taken each : ℕ) (counts : List ℕ) : Type 0 where
+  pub window : taken ≤ needed
+  pub part : before + taken ≤ sum counts
+  pub rest : needed - taken ≡ each
+
+pub has_place : (w : Program) (core : View) (a : ℕ) (f : Feedback) (needed : ℕ) (counts : List ℕ) → core.plan ≡ w.plan → IsFeedback core.plan a f
+    → needed ≡ need a (count core.now a) core.plan.channels → counts ≡ output_counts w a (count core.now a) → HasPlace needed f.before f.taken f.each counts
+has_place w core a f needed counts same told0 needs is =
+    let k : ℕ = count core.now a in
+    let told : IsFeedback w.plan a f = subst (λ (u : Plan). IsFeedback u a f) same told0 in
+    let both = needs_two core.plan a f told0 k in
+    let part = part_of_gift w a f told k in
+    let all = ap (λ (ns : List ℕ). sum ns) is ∙ sum_counts w a f told k in
+    record {
+      window = omega (arith, needs, both);
+      part = omega (arith, part, all);
+      rest = omega (arith, needs, both);
     }
 
 -- the firings have small numbers

@@ -1,78 +1,96 @@
 -- Firings that are evaluated before they are made.
-use Rattle.std.specs.Prelude.{ℕ, ◌≡◌, ◌*◌, ◌≤◌, Bool, false, List, ℤ, All, length, slice_index_or}
+use Rattle.std.specs.Prelude.{ℕ, ◌≡◌, ◌+◌, ◌-◌, ◌*◌, ◌≤◌, Bool, false, List, ℤ, All, length, slice_index_or, sum}
 use Rattle.csdf_model.specs.declared.limits.TheConstants.{MAX_CHANNELS, MAX_TOKENS_PER_FIRING, MAX_TOTAL_PER_FIRING}
 use Rattle.csdf_model.specs.declared.parts.Kernel.{Kernel}
 use Rattle.csdf_model.specs.declared.parts.Kernel.TheVariants.{Source, Sink, Copy, Sum, Fir}
+use Rattle.csdf_kernel.specs.Loop.{loop_values}
 use Rattle.csdf_kernel.specs.Value.{HasFilterInRange}
 use Rattle.csdf_core.specs.declared.stage.Stage.TheVariants.{Idle}
-use Rattle.csdf_core.specs.Blocks.{AreReadEach, HoldAll, needs_of, reads_over, takes_at}
-use Rattle.csdf_core.specs.Engine.{CanFire}
+use Rattle.csdf_core.specs.Blocks.{AreReadEach, HoldAll, needs_of, takes_at}
+use Rattle.csdf_core.specs.Engine.{AreReadWith, CanFire}
 use Rattle.csdf_core.specs.Moves.{Move}
-use Rattle.csdf_core.specs.Phases.{HasPhases}
-use Rattle.csdf_core.specs.Ports.{inputs_at, tokens_at}
+use Rattle.csdf_core.specs.Ports.{inputs_at}
 use Rattle.csdf_core.specs.Rows.{need}
 use Rattle.csdf_core.specs.State.{present}
-use Rattle.csdf_core.specs.Step.{count, is_source, stage}
+use Rattle.csdf_core.specs.Step.{count, stage}
 use Rattle.csdf_floor.specs.Floor.{FloorView}
 use Rattle.csdf_floor.specs.Journal.{IsHonest, Program, output_counts, state_of}
+use Rattle.csdf_floor.specs.Making.{AreOwnValues, made_value}
 use Rattle.csdf_floor.specs.Work.{is_sink_kernel, program}
 
--- so many firings of an actor, from this number on: their kernel, each with these counts and so many of the inputs, and whether their values are there: all
--- else determines them
+-- so many firings of an actor, from this number on: their kernel, each with these counts, and how many tokens it reads: a state, which is empty where the actor
+-- keeps none, before or after the next of the inputs, and then as many tokens behind the first few that the firing before wrote; and whether their values are
+-- there: all else determines them
 pub record DraftView : Type 0 where
   pub actor : ℕ
   pub firing : ℕ
   pub kernel : Kernel
   pub counts : List ℕ
   pub need : ℕ
+  pub is_first : Bool
+  pub before : ℕ
   pub firings : ℕ
+  pub state : List ℤ
   pub inputs : List ℤ
   pub is_made : Bool
 
+-- the values of its firings, end to end
+abbrev pub values_in : DraftView → List ℤ
+values_in d = loop_values d.kernel d.counts d.is_first (d.need - length d.state) d.before d.firings d.state d.inputs
+
+-- the same firings, whether they were evaluated or not
+abbrev pub IsSameDraft : DraftView → DraftView → Type 0
+IsSameDraft d e =
+    e ≡ record { actor = d.actor; firing = d.firing; kernel = d.kernel; counts = d.counts; need = d.need; is_first = d.is_first; before = d.before; firings = d.firings; state = d.state; inputs = d.inputs; is_made = e.is_made }
+
 -- the firings can be evaluated
-pub record IsSound (kernel : Kernel) (counts : List ℕ) (need firings : ℕ) (inputs : List ℤ) : Type 0 where
+pub record IsSound (kernel : Kernel) (counts : List ℕ) (need before firings : ℕ) (state inputs : List ℤ) : Type 0 where
   pub few_counts : length counts ≤ MAX_CHANNELS
   pub small_counts : All (λ n. n ≤ MAX_TOKENS_PER_FIRING) counts
   pub few_inputs : need ≤ MAX_TOTAL_PER_FIRING
   pub filter_in_range : HasFilterInRange kernel
-  pub whole : firings * need ≤ length inputs
+  pub window : length state ≤ need
+  pub part : before + length state ≤ sum counts
+  pub whole : firings * (need - length state) ≤ length inputs
 
--- in some honest journal the actor stood idle at firing number k and found all that n firings read, which are these tokens
-pub record AreReadIn (w : Program) (a k n : ℕ) (tokens : List ℤ) : Type 0 where
+-- after some honest journal, in which the actor stands idle at firing number k and can make n firings, v are the kernel's own values of these
+pub record AreOwnIn (w : Program) (a k n : ℕ) (v : List ℤ) : Type 0 where
   pub journal : List Move
   pub honest : IsHonest w journal
   pub idle : stage (present (state_of w journal)) a ≡ Idle
   pub number : count (present (state_of w journal)) a ≡ k
-  pub held : HoldAll (present (state_of w journal)).tokens (takes_at w.plan.channels k n) (inputs_at w.plan.channels a)
-  pub read : tokens ≡ reads_over w.plan.channels (inputs_at w.plan.channels a) k n (tokens_at (present (state_of w journal)).tokens)
+  pub can : CanFire w.plan (present (state_of w journal)) a n
+  pub tokens : List ℤ
+  pub long : length tokens ≡ needs_of w.plan.channels a k n
+  pub read : AreReadWith w.plan (present (state_of w journal)) a k n v tokens
+  pub just : v ≡ made_value w a k n tokens
 
--- the draft has what the actor's firings from number k on compute from. The actor is no source and no sink, and has one phase
+-- the draft is of the actor's firings from number k on. The actor is no sink
 pub record IsDraftedAt (w : Program) (a k : ℕ) (d : DraftView) : Type 0 where
-  pub phases : HasPhases w.plan.channels a 1
-  pub no_source : is_source w.plan a ≡ false
   pub no_sink : is_sink_kernel (slice_index_or w.kernels a Sink) ≡ false
   pub kernel : d.kernel ≡ slice_index_or w.kernels a Sink
   pub counts : d.counts ≡ output_counts w a k
   pub need : d.need ≡ need a k w.plan.channels
-  pub long : length d.inputs ≡ needs_of w.plan.channels a k d.firings
-  pub read : AreReadIn w a k d.firings d.inputs
+  pub long : length d.inputs ≡ d.firings * (d.need - length d.state)
+  pub own : AreOwnIn w a k d.firings (values_in d)
 
 -- the draft is of this work
 abbrev pub IsDrafted : Program → DraftView → Type 0
 IsDrafted w d = IsDraftedAt w d.actor d.firing d
 
--- the draft's firings are the actor's next ones, which it can make, and which find all that they read
+-- the draft's firings are the actor's next ones, which it can make
 pub record Suits (f : FloorView) (a : ℕ) (d : DraftView) : Type 0 where
   pub actor : d.actor ≡ a
   pub firing : d.firing ≡ count f.core.now a
   pub can : CanFire f.core.plan f.core.now a d.firings
-  pub held : HoldAll f.core.now.tokens (takes_at f.core.plan.channels (count f.core.now a) d.firings) (inputs_at f.core.plan.channels a)
 
--- the draft is one of the actor's next firings: it has the tokens that they read
+-- the draft is one of the actor's next firings: its values are the kernel's own, and where these find all that they read it has those tokens
 pub record IsDraftOf (f : FloorView) (a : ℕ) (d : DraftView) : Type 0 where
   pub suits : Suits f a d
   pub drafted : IsDrafted (program f.work) d
-  pub read : AreReadEach f.core.plan f.core.now a (count f.core.now a) d.firings d.inputs
+  pub own : AreOwnValues f a d.firings (values_in d)
+  pub read : HoldAll f.core.now.tokens (takes_at f.core.plan.channels (count f.core.now a) d.firings) (inputs_at f.core.plan.channels a)
+      → AreReadEach f.core.plan f.core.now a (count f.core.now a) d.firings d.inputs
 
 -- how many taps a filter has; none for another kernel
 abbrev pub taps_of : Kernel → ℕ

@@ -29,6 +29,7 @@ use crate::lists::Lists;
 use crate::outcome::ChannelReport;
 use crate::same::{are_same_tokens, is_same_kernel};
 use crate::work::Work;
+use csdf_analysis::Accepted;
 use csdf_core::{Core, Stage};
 use csdf_journal::Journal;
 use csdf_kernel::{Counts, Inputs, Job};
@@ -108,6 +109,13 @@ impl Book {
         ensures { result.now ≡ self.now.shown.work }
     {
         &self.work
+    }
+
+    /// The accepted graph that is run.
+    pub(crate) fn accepted(&self) -> &Accepted
+        ensures { result.now ≡ self.now.shown.work.accepted }
+    {
+        self.work.accepted()
     }
 
     /// The core.

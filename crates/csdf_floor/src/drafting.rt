@@ -1,26 +1,29 @@
 //! Drafts of an actor's next firings, and how firings are made from them.
 
-ghost use Rattle.std.specs.Prelude.{◌≡◌, ◌<◌, ◌≤◌, ◌*◌, IsTrue, IfOk, IfSome, OnOk, OnErr, None, false, true, length, option_map, slice_index_or};
+ghost use Rattle.std.specs.Prelude.{ℕ, ◌≡◌, ◌<◌, ◌≤◌, ◌*◌, All, IsTrue, IfOk, IfSome, OnOk, OnErr, List, None, ℤ, false, true, length, option_map, slice_index_or};
 ghost use Rattle.csdf_model.specs.declared.parts.Kernel.TheVariants.{Sink};
-ghost use Rattle.csdf_core.specs.Blocks.{AreReadEach, HoldAll, needs_of, reads_over, takes_at};
-ghost use Rattle.csdf_core.specs.Engine.{CanFire};
+ghost use Rattle.csdf_kernel.specs.Value.{HasFilterInRange};
+ghost use Rattle.csdf_core.specs.Blocks.{AreReadEach, HoldAll, gifts_of, needs_of, reads_over, takes_at};
+ghost use Rattle.csdf_core.specs.Engine.{AreReadWith, CanFire};
+ghost use Rattle.csdf_core.specs.Feedback.{CanGoOn, IsFeedback, loop_reads};
 ghost use Rattle.csdf_core.specs.Moves.{Begin};
 ghost use Rattle.csdf_core.specs.Phases.{HasPhases};
 ghost use Rattle.csdf_core.specs.Ports.{inputs_at, outputs_at, tokens_at};
-ghost use Rattle.csdf_core.specs.Rows.{need};
+ghost use Rattle.csdf_core.specs.Rows.{gift, need};
 ghost use Rattle.csdf_core.specs.Step.{count, is_source, refusal};
 ghost use Rattle.csdf_floor.specs.declared.fault.StartFault.TheVariants.{Refused};
 ghost use Rattle.csdf_floor.specs.Floor.{IsStartAnswer};
 ghost use Rattle.csdf_floor.specs.Drafts.{IsDraftOf, IsDrafted, Suits, products_of, taps_of};
+ghost use Rattle.csdf_floor.specs.Journal.{output_counts};
 ghost use Rattle.csdf_floor.specs.Making.{HasMade, IsBlock, made_moves};
 ghost use Rattle.csdf_floor.specs.Work.{is_sink_kernel, program};
 
 use crate::book::Book;
 use crate::draft::Draft;
 use crate::fault::StartFault;
-use csdf_core::{Block, Core};
+use csdf_core::{Block, Core, Feedback};
 use csdf_kernel::{Counts, Outputs};
-use csdf_model::Kernel;
+use csdf_model::{Kernel, MAX_CHANNELS, MAX_TOKENS_PER_FIRING, MAX_TOTAL_PER_FIRING};
 use std::alloc::{AllocError, Global};
 
 /// How many taps a filter has; none for another kernel.
@@ -55,6 +58,36 @@ fn read_ahead(
     Ok(())
 }
 
+/// Puts the state of an actor that makes its next n firings in one go, and the other tokens that they read, in
+/// the place of what the lists hold.
+fn read_on(
+    core: &Core,
+    actor: u32,
+    feedback: Feedback,
+    n: u32,
+    state: &mut Vec<i32>,
+    others: &mut Vec<i32>,
+) -> Result<(), AllocError>
+    requires feedback { IsFeedback core.now.plan actor feedback }
+    requires can { CanGoOn core.now.plan core.now.now actor feedback.channel n }
+    ensures state { OnOk result (length state.new.items ≡ feedback.taken) }
+    ensures others { OnOk result (length others.new.items ≡ n * feedback.each) }
+    ensures read { OnOk result ((v : List ℤ) → length v ≡ gifts_of core.now.plan.channels actor (count core.now.now actor) n
+        → AreReadWith core.now.plan core.now.now actor (count core.now.now actor) n v (loop_reads feedback.is_first feedback.each feedback.before
+        (gift actor (count core.now.now actor) core.now.plan.channels) n state.new.items others.new.items v)) }
+{
+    state.resize(feedback.taken as usize, 0)?;
+    others.resize(n as usize * feedback.each as usize, 0)?;
+    core.peek_on(
+        actor,
+        feedback,
+        n,
+        state.as_mut_slice(),
+        others.as_mut_slice(),
+    );
+    Ok(())
+}
+
 impl Book {
     /// How many tokens n firings of the actor read, which has one phase.
     fn needed(&self, actor: u32, n: u32) -> usize
@@ -66,20 +99,18 @@ impl Book {
         n as usize * self.core.need(actor)
     }
 
-    /// Whether the actor makes its next n firings at once, where so many are asked for.
+    /// Whether the actor can make its next n firings one after another, where so many are asked for.
     fn can_make(&self, actor: u32, n: u32) -> bool
         requires { actor < length self.now.shown.core.plan.sources }
         ensures can { IsTrue result → CanFire self.now.shown.core.plan self.now.shown.core.now actor n }
-        ensures held { IsTrue result → HoldAll self.now.shown.core.now.tokens
-            (takes_at self.now.shown.core.plan.channels (count self.now.shown.core.now actor) n) (inputs_at self.now.shown.core.plan.channels actor) }
     {
         if self.block(actor, n).firings != n {
             return false;
         }
-        self.core.holds(actor, n)
+        true
     }
 
-    /// Whether the draft was evaluated, is of the actor's next firings, and these can be made at once.
+    /// Whether the draft was evaluated, is of the actor's next firings, and these can be made.
     fn suits(&self, actor: u32, draft: &Draft) -> bool
         requires { actor < length self.now.shown.core.plan.sources }
         ensures made { IsTrue result → draft.now.is_made ≡ true }
@@ -106,7 +137,7 @@ impl Book {
         let n = draft.firings;
         let closes = self.output_count(actor);
         self.reserve(4 * n as usize + closes)?;
-        self.core.reads(actor, n);
+        let _ = &self.work;
         self.fire(alloc, actor, n, draft.values())
     }
 
@@ -151,15 +182,13 @@ impl Book {
         each * u64::from(taps_of(self.work.kernel(actor)))
     }
 
-    /// The actor's next firings, as many as can be made at once and at most so many, where they can be
-    /// drafted and take so many products at least.
+    /// The actor's next firings, as many as can be made one after another and at most so many, where they take so
+    /// many products at least and the actor is no source and no sink and has one phase.
     fn draftable(&self, actor: u32, most: u32, heavy: u64) -> Option<Block>
         requires { actor < length self.now.shown.core.plan.sources }
         ensures some { IfSome result (λ block. 0 < block.firings) }
         ensures most { IfSome result (λ block. block.firings ≤ most) }
         ensures block { IfSome result (IsBlock self.now.shown.core actor) }
-        ensures held { IfSome result (λ block. HoldAll self.now.shown.core.now.tokens
-            (takes_at self.now.shown.core.plan.channels (count self.now.shown.core.now actor) block.firings) (inputs_at self.now.shown.core.plan.channels actor)) }
         ensures phases { IfSome result (λ block. HasPhases self.now.shown.core.plan.channels actor 1) }
         ensures no_source { IfSome result (λ block. is_source (program self.now.shown.work).plan actor ≡ false) }
         ensures no_sink { IfSome result (λ block. is_sink_kernel (slice_index_or (program self.now.shown.work).kernels actor Sink) ≡ false) }
@@ -169,7 +198,7 @@ impl Book {
         if self.work.is_source(actor) || self.work.is_sink(actor) {
             return None;
         }
-        if !self.core.has_one_phase(actor) || self.core.has_loop(actor) {
+        if !self.core.has_one_phase(actor) {
             return None;
         }
         if self.products(actor, most) < heavy {
@@ -179,14 +208,108 @@ impl Book {
         if block.firings == 0 || self.products(actor, block.firings) < heavy {
             return None;
         }
-        if !self.core.holds(actor, block.firings) {
-            return None;
-        }
         Some(block)
     }
 
-    /// Puts the actor's next firings into the draft, as many as can be made at once and at most so many,
-    /// where they take so many products at least. Else the draft has none.
+    /// Puts what is the same for each firing of the actor into the draft, which has none: that it is the actor's,
+    /// from its next one on, their kernel and counts, and how many tokens one of them reads.
+    fn head_into(&self, actor: u32, draft: &mut Draft) -> Result<(), AllocError>
+        requires exists { actor < length self.now.shown.core.plan.sources }
+        requires empty { draft.old.firings ≡ 0 }
+        requires open { draft.old.is_made ≡ false }
+        ensures actor { OnOk result (draft.new.actor ≡ actor) }
+        ensures firing { OnOk result (draft.new.firing ≡ count self.now.shown.core.now actor) }
+        ensures kernel { OnOk result (draft.new.kernel ≡ slice_index_or (program self.now.shown.work).kernels actor Sink) }
+        ensures counts { OnOk result (draft.new.counts ≡ output_counts (program self.now.shown.work) actor (count self.now.shown.core.now actor)) }
+        ensures few { OnOk result (length draft.new.counts ≤ MAX_CHANNELS) }
+        ensures small { OnOk result (All (λ n. n ≤ MAX_TOKENS_PER_FIRING) draft.new.counts) }
+        ensures need { OnOk result (draft.new.need ≡ need actor (count self.now.shown.core.now actor) self.now.shown.core.plan.channels) }
+        ensures few_inputs { OnOk result (draft.new.need ≤ MAX_TOTAL_PER_FIRING) }
+        ensures in_range { OnOk result (HasFilterInRange draft.new.kernel) }
+        ensures empty { draft.new.firings ≡ 0 }
+        ensures open { draft.new.is_made ≡ false }
+    {
+        let firing = self.core.fired(actor);
+        self.counts_into(actor, &mut draft.counts)?;
+        draft.actor = actor;
+        draft.firing = firing;
+        draft.kernel = *self.work.kernel(actor);
+        draft.need = self.core.need(actor);
+        Ok(())
+    }
+
+    /// Drafts the actor's next n firings, which find all that they read.
+    fn draft_plain(&self, actor: u32, n: u32, draft: &mut Draft) -> Result<(), AllocError>
+        requires exists { actor < length self.now.shown.core.plan.sources }
+        requires some { 0 < n }
+        requires can { CanFire self.now.shown.core.plan self.now.shown.core.now actor n }
+        requires held { HoldAll self.now.shown.core.now.tokens (takes_at self.now.shown.core.plan.channels (count self.now.shown.core.now actor) n)
+            (inputs_at self.now.shown.core.plan.channels actor) }
+        requires phases { HasPhases self.now.shown.core.plan.channels actor 1 }
+        requires no_source { is_source (program self.now.shown.work).plan actor ≡ false }
+        requires no_sink { is_sink_kernel (slice_index_or (program self.now.shown.work).kernels actor Sink) ≡ false }
+        requires empty { draft.old.firings ≡ 0 }
+        requires open { draft.old.is_made ≡ false }
+        ensures draft { OnOk result (IsDraftOf self.now.shown actor draft.new) }
+        ensures firings { OnOk result (draft.new.firings ≡ n) }
+        ensures products { OnOk result (products_of draft.new ≡ n * need actor (count self.now.shown.core.now actor) self.now.shown.core.plan.channels
+            * taps_of (slice_index_or (program self.now.shown.work).kernels actor Sink)) }
+        ensures open { draft.new.is_made ≡ false }
+        ensures none { OnErr result (draft.new.firings ≡ 0) }
+    {
+        self.head_into(actor, draft)?;
+        let needed = self.needed(actor, n);
+        read_ahead(&self.core, actor, n, needed, &mut draft.inputs)?;
+        draft.state.truncate(0);
+        draft.is_first = true;
+        draft.before = 0;
+        draft.firings = n;
+        Ok(())
+    }
+
+    /// Drafts the actor's next n firings, which keep a state in a channel to itself and can be made in one go.
+    fn draft_on(
+        &self,
+        actor: u32,
+        feedback: Feedback,
+        n: u32,
+        draft: &mut Draft,
+    ) -> Result<(), AllocError>
+        requires exists { actor < length self.now.shown.core.plan.sources }
+        requires some { 0 < n }
+        requires can { CanFire self.now.shown.core.plan self.now.shown.core.now actor n }
+        requires feedback { IsFeedback self.now.shown.core.plan actor feedback }
+        requires goes_on { CanGoOn self.now.shown.core.plan self.now.shown.core.now actor feedback.channel n }
+        requires apart { HoldAll self.now.shown.core.now.tokens (takes_at self.now.shown.core.plan.channels (count self.now.shown.core.now actor) n)
+            (inputs_at self.now.shown.core.plan.channels actor) → ⊥ }
+        requires no_sink { is_sink_kernel (slice_index_or (program self.now.shown.work).kernels actor Sink) ≡ false }
+        requires empty { draft.old.firings ≡ 0 }
+        requires open { draft.old.is_made ≡ false }
+        ensures draft { OnOk result (IsDraftOf self.now.shown actor draft.new) }
+        ensures firings { OnOk result (draft.new.firings ≡ n) }
+        ensures products { OnOk result (products_of draft.new ≡ n * need actor (count self.now.shown.core.now actor) self.now.shown.core.plan.channels
+            * taps_of (slice_index_or (program self.now.shown.work).kernels actor Sink)) }
+        ensures open { draft.new.is_made ≡ false }
+        ensures none { OnErr result (draft.new.firings ≡ 0) }
+    {
+        self.head_into(actor, draft)?;
+        read_on(
+            &self.core,
+            actor,
+            feedback,
+            n,
+            &mut draft.state,
+            &mut draft.inputs,
+        )?;
+        draft.is_first = feedback.is_first;
+        draft.before = feedback.before as usize;
+        draft.firings = n;
+        Ok(())
+    }
+
+    /// Puts the actor's next firings into the draft, as many as can be made one after another and at most so many,
+    /// where they take so many products at least, and either find all that they read or keep a state in a channel to
+    /// itself. Else the draft has none.
     pub(crate) fn draft_into(
         &self,
         actor: u32,
@@ -201,20 +324,17 @@ impl Book {
         ensures open { draft.new.is_made ≡ false }
         ensures none { OnErr result (draft.new.firings ≡ 0) }
     {
-        draft.is_made = false;
-        draft.firings = 0;
+        draft.clear();
         let Some(block) = self.draftable(actor, most, heavy) else {
             return Ok(());
         };
-        let (firing, n) = (self.core.fired(actor), block.firings);
-        self.counts_into(actor, &mut draft.counts)?;
-        let needed = self.needed(actor, n);
-        read_ahead(&self.core, actor, n, needed, &mut draft.inputs)?;
-        draft.actor = actor;
-        draft.firing = firing;
-        draft.kernel = *self.work.kernel(actor);
-        draft.need = self.core.need(actor);
-        draft.firings = n;
+        let n = block.firings;
+        if self.core.holds(actor, n) {
+            return self.draft_plain(actor, n, draft);
+        }
+        if let Some(feedback) = self.goes_on(actor, n) {
+            return self.draft_on(actor, feedback, n, draft);
+        }
         Ok(())
     }
 }

@@ -142,6 +142,13 @@ impl Floor {
         fed
     }
 
+    /// The accepted graph that it was made over.
+    pub fn accepted(&self) -> &Accepted
+        ensures { result.now ≡ self.now.work.accepted }
+    {
+        self.book.accepted()
+    }
+
     /// The core.
     pub fn core(&self) -> &Core
         ensures value { result.now ≡ self.now.core }

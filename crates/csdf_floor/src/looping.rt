@@ -5,6 +5,7 @@
 
 ghost use Rattle.std.specs.Prelude.{◌≡◌, ◌+◌, ◌*◌, ◌<◌, ◌≤◌, [], false, All, IfSome, OnOk, OnErr, length, slice_index_or, sum};
 ghost use Rattle.csdf_model.specs.declared.parts.Kernel.TheVariants.{Sink};
+ghost use Rattle.csdf_core.specs.Engine.{CanFire};
 ghost use Rattle.csdf_core.specs.Feedback.{CanGoOn, IsFeedback};
 ghost use Rattle.csdf_core.specs.Ports.{outputs_at};
 ghost use Rattle.csdf_core.specs.Rows.{need};
@@ -14,11 +15,10 @@ ghost use Rattle.csdf_floor.specs.Making.{HasMade, AreLoopValues, AreOwnValues, 
 ghost use Rattle.csdf_floor.specs.Work.{program, is_sink_kernel};
 
 use crate::book::Book;
-use crate::noting::note_firings;
 use csdf_core::{Core, Feedback};
 use csdf_kernel::{Counts, Outputs, eval_loop};
 use csdf_model::{Kernel, MAX_CHANNELS, MAX_TOKENS_PER_FIRING};
-use std::alloc::{AllocError, Global};
+use std::alloc::AllocError;
 
 /// The kernel's values of the actor's next n firings, in the place of what the outputs hold, worked out in the buffer.
 fn own_values(
@@ -111,30 +111,6 @@ impl Book {
         )
     }
 
-    /// Makes the actor's next n firings, which write these tokens: the kernel's values. Memory runs out only where the
-    /// journal is kept.
-    fn fire_on(
-        &mut self,
-        alloc: Global,
-        actor: u32,
-        feedback: Feedback,
-        n: u32,
-        tokens: &[i32],
-    ) -> Result<(), AllocError>
-        requires feedback { IsFeedback self.old.shown.core.plan actor feedback }
-        requires can { CanGoOn self.old.shown.core.plan self.old.shown.core.now actor feedback.channel n }
-        requires other { is_sink_kernel (slice_index_or (program self.old.shown.work).kernels actor Sink) ≡ false }
-        requires values { AreOwnValues self.old.shown actor n tokens.now }
-        ensures made { OnOk result (HasMade self.old.shown self.new.shown actor n (made_moves self.old.shown actor n)) }
-        ensures room { OnOk result (self.old.room ≤ self.new.room + 4 * n) }
-        ensures unchanged { OnErr result (self.new.shown ≡ self.old.shown) }
-        ensures room_stays { OnErr result (self.old.room ≤ self.new.room) }
-    {
-        note_firings(&self.core, &mut self.journal, alloc, actor, n, tokens)?;
-        self.core.go_on(actor, feedback, n, tokens);
-        Ok(())
-    }
-
     /// Makes the actor's next n firings at once.
     pub(crate) fn make_with_state(
         &mut self,
@@ -144,8 +120,10 @@ impl Book {
         counts: &mut Counts,
         outputs: &mut Outputs,
     ) -> Result<(), AllocError>
+        requires some { 0 < n }
         requires feedback { IsFeedback self.old.shown.core.plan actor feedback }
         requires can { CanGoOn self.old.shown.core.plan self.old.shown.core.now actor feedback.channel n }
+        requires fires { CanFire self.old.shown.core.plan self.old.shown.core.now actor n }
         requires other { is_sink_kernel (slice_index_or (program self.old.shown.work).kernels actor Sink) ≡ false }
         ensures made { OnOk result (HasMade self.old.shown self.new.shown actor n (made_moves self.old.shown actor n)) }
         ensures room { OnOk result (length (outputs_at self.old.shown.core.plan.channels actor) ≤ self.new.room) }
@@ -158,6 +136,6 @@ impl Book {
         let alloc = *outputs.allocator();
         self.make_room_for(alloc, actor, n, long)?;
         self.own_values_into(actor, feedback, n, counts, outputs)?;
-        self.fire_on(alloc, actor, feedback, n, outputs.as_slice())
+        self.fire(alloc, actor, n, outputs.as_slice())
     }
 }

@@ -82,6 +82,13 @@ impl Work {
         Fed { accepted, feeds }
     }
 
+    /// The accepted graph.
+    pub(crate) fn accepted(&self) -> &Accepted
+        ensures { result.now ≡ self.now.accepted }
+    {
+        &self.accepted
+    }
+
     /// The actor's kernel.
     pub(crate) fn kernel(&self, actor: u32) -> &Kernel
         requires { actor < length self.now.accepted.graph.actors }

@@ -2,8 +2,7 @@
 use Rattle.std.proofs.Common.{◌≡◌, ℕ, List, Result, Ok, Err, sym, subst}
 use Rattle.std.specs.Prelude.{IfErr, IfOk, OnOk}
 use Rattle.csdf_floor.specs.declared.fault.RunFault.{RunFault}
-use Rattle.csdf_floor.specs.declared.fault.RunFault.TheVariants.{Memory, Mixed, Worker}
-use Rattle.csdf_floor.specs.Outcome.{IsSettleAnswer}
+use Rattle.csdf_floor.specs.declared.fault.RunFault.TheVariants.{Memory}
 use Rattle.csdf_model.specs.Graph.{Actor}
 use Rattle.csdf_run.specs.declared.texts.TextsFault.{TextsFault}
 use Rattle.csdf_run.specs.declared.texts.TextsFault.TheVariants as fault
@@ -17,13 +16,6 @@ feed_cause actors texts (fault.Feed a why) h n = tt
 feed_cause actors texts (fault.Graph why) h n = tt
 feed_cause actors texts (fault.Accept why) h n = tt
 feed_cause actors texts (fault.Run why) h n = absurd h
-
--- what a settled run answers is no thread's fault
-pub settled_cause : {T : Type 0} → (end : Type 0) (result : Result T RunFault) (n : ℕ) → IsSettleAnswer end result → IfErr result (IsCauseAmong n)
-settled_cause end (Ok o) n h = tt
-settled_cause end (Err Mixed) n h = tt
-settled_cause end (Err Memory) n h = tt
-settled_cause end (Err Worker) n h = absurd h
 
 -- the run has no outcome
 abbrev pub IsRunFault : TextsFault → Type 0

@@ -45,8 +45,8 @@ pub(crate) fn outcome_alone<R: Wait, G: Told>(
     ensures most { IfOk result.outcome (KnowsMost (G.knows_most gate.now) request.work) }
     ensures keeps { IfOk result.outcome (λ o. o.journal.keeps ≡ request.keeps) }
 {
-    let (most, ready) = match request.prepared(alloc) {
-        Ok(prepared) => prepared,
+    let most = match request.most_firings(alloc) {
+        Ok(most) => most,
         Err(_error) => {
             return Ran {
                 fed: request.into_fed(),
@@ -64,7 +64,7 @@ pub(crate) fn outcome_alone<R: Wait, G: Told>(
         }
     };
     gate.tell_most(most);
-    match run_alone(rt, alloc, &mut floor, ready, gate) {
+    match run_alone(rt, alloc, &mut floor, gate) {
         Ok(()) => told_of(floor.into_settled(alloc)),
         Err(_error) => Ran {
             fed: floor.into_fed(),

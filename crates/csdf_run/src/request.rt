@@ -10,7 +10,7 @@ ghost use Rattle.csdf_run.specs.Texts.{GoesOnFor, MayGoOnOver, work_for};
 use crate::options::RunOptions;
 use crate::periods::periods_of;
 use csdf_analysis::most_firings;
-use csdf_crew::ReadySet;
+use csdf_crew::has_heavy;
 use csdf_floor::{Fed, Floor, RunBounds};
 use csdf_model::MAX_ACTORS;
 use std::alloc::{AllocError, Global};
@@ -129,9 +129,14 @@ impl RunRequest {
         self.options.workers
     }
 
+    /// Whether more workers than one can be faster: some actor of its graph is heavy.
+    pub(crate) fn has_heavy(&self) -> bool {
+        has_heavy(&self.fed.accepted)
+    }
+
     /// How many firings it makes at most, by the tokens of the sources, its periods and its limit. An
     /// error says that memory ran out.
-    fn most_firings(&self, alloc: Global) -> Result<u64, AllocError>
+    pub(crate) fn most_firings(&self, alloc: Global) -> Result<u64, AllocError>
         ensures most { IfOk result (IsMostFirings self.now.work) }
         ensures accepted { IsAccepted self.now.work.accepted }
     {
@@ -147,17 +152,6 @@ impl RunRequest {
             Some(most) if u64::from(most) < all => Ok(u64::from(most)),
             _ => Ok(all),
         }
-    }
-
-    /// How many firings it makes at most, and the ready set of its graph, in which there is no actor yet. An
-    /// error says that memory ran out.
-    pub(crate) fn prepared(&self, alloc: Global) -> Result<(u64, ReadySet), AllocError>
-        ensures most { IfOk result (λ made. IsMostFirings self.now.work made.0) }
-        ensures accepted { IsAccepted self.now.work.accepted }
-    {
-        let most = self.most_firings(alloc)?;
-        let ready = ReadySet::new(alloc, &self.fed.accepted)?;
-        Ok((most, ready))
     }
 
     /// What is run, handed back.

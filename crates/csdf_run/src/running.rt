@@ -15,8 +15,8 @@ use crate::request::RunRequest;
 use crate::telling::Telling;
 use crate::watch::{Watch, Watching};
 use csdf_analysis::{Accepted, Length, Room};
-use csdf_crew::{Crew, CrewEnd, Gate, Told, run_crew};
-use csdf_floor::{Fed, Outcome, RunFault, Settled, settle_and_hand_back};
+use csdf_crew::{Crew, Gate, Told, run_crew};
+use csdf_floor::{Fed, Outcome, RunFault, Settled};
 use csdf_journal::Keeping;
 use std::alloc::Global;
 use std::sync::Wait;
@@ -49,8 +49,8 @@ fn outcome_told<R: Threads + Wait + Sync, G: Told>(
         busy: processors(rt),
         may_wait: gate.may_wait(),
     };
-    let (most, ready) = match request.prepared(alloc) {
-        Ok(prepared) => prepared,
+    let most = match request.most_firings(alloc) {
+        Ok(most) => most,
         Err(_error) => {
             return Settled {
                 fed: request.into_fed(),
@@ -68,14 +68,7 @@ fn outcome_told<R: Threads + Wait + Sync, G: Told>(
         }
     };
     gate.tell_most(most);
-    let CrewEnd { floor, totals } = run_crew(rt, alloc, floor, ready, crew, gate);
-    match totals {
-        Ok(totals) => settle_and_hand_back(alloc, floor, totals.as_slice()),
-        Err(fault) => Settled {
-            fed: floor.into_fed(),
-            outcome: Err(fault),
-        },
-    }
+    run_crew(rt, alloc, floor, crew, gate)
 }
 
 /// What [`run`] answers, with a journal that is kept where it is asked for, and what was run, which comes
@@ -95,11 +88,12 @@ pub(crate) fn outcome_of<R: Threads + Wait + Sync, G: Gate>(
     outcome_told(rt, alloc, request, &told)
 }
 
-/// What a request comes to of which a watch is told, and what was run, which comes back.
+/// What a request comes to that is carried out by several workers, of which a watch is told, and what was run, which
+/// comes back.
 ///
-/// One worker needs no lock and no board. Where the floor and the board of several do not fit together, which
-/// is not seen, the calling thread makes the run anew: so this is no fault.
-pub(crate) fn watched_outcome_of<R: Threads + Wait + Sync, W: Watch>(
+/// Where the floor and the board do not fit together, which is not seen, the calling thread makes the run anew: so
+/// this is no fault.
+fn outcome_by_crew<R: Threads + Wait + Sync, W: Watch>(
     rt: &R,
     alloc: Global,
     request: RunRequest,
@@ -112,9 +106,6 @@ pub(crate) fn watched_outcome_of<R: Threads + Wait + Sync, W: Watch>(
 {
     let gate = Watching { watch };
     let told = Telling { gate: &gate };
-    if request.workers() <= 1 {
-        return outcome_alone(rt, alloc, request, &told);
-    }
     let terms = request.terms();
     let Settled { fed, outcome } = outcome_of(rt, alloc, request, &gate);
     match outcome {
@@ -132,6 +123,29 @@ pub(crate) fn watched_outcome_of<R: Threads + Wait + Sync, W: Watch>(
         },
         Err(RunFault::Mixed) => outcome_alone(rt, alloc, RunRequest::on(fed, terms), &told),
     }
+}
+
+/// What a request comes to of which a watch is told, and what was run, which comes back.
+///
+/// One worker needs no lock and no board. A run in which no actor is heavy is made by the calling thread too: others
+/// would only sleep.
+pub(crate) fn watched_outcome_of<R: Threads + Wait + Sync, W: Watch>(
+    rt: &R,
+    alloc: Global,
+    request: RunRequest,
+    watch: &W,
+) -> Ran
+    ensures fed { IsFedOf request.work result.fed }
+    ensures outcome { IfOk result.outcome (IsOutcome request.work) }
+    ensures cause { IfErr result.outcome (IsWantAmong request.workers) }
+    ensures keeps { IfOk result.outcome (λ o. o.journal.keeps ≡ request.keeps) }
+{
+    if request.workers() <= 1 || !request.has_heavy() {
+        let gate = Watching { watch };
+        let told = Telling { gate: &gate };
+        return outcome_alone(rt, alloc, request, &told);
+    }
+    outcome_by_crew(rt, alloc, request, watch)
 }
 
 /// Runs so many periods of an accepted graph over these feeds by worker threads: each firing is computed

@@ -1,4 +1,5 @@
 pub mod Crews
+pub mod NoRun
 pub mod Refused
 pub mod Reports
 pub mod Telling

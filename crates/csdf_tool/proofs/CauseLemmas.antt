@@ -1,6 +1,6 @@
 -- Why there is no answer, by what the devices gave.
-use Rattle.std.proofs.Common.{◌≡◌, ◌≢◌, ◌∙◌, ℕ, List, true, Option, Some, None, Result, Ok, Err, refl, sym, ap, subst, inl, inr}
-use Rattle.std.specs.Prelude.{◌⊎◌, IfErr, IsErrAnd, OnOk}
+use Rattle.std.proofs.Common.{◌≡◌, ◌≢◌, ℕ, List, true, Option, Some, None, Result, Ok, Err, refl, ap, subst, inl, inr}
+use Rattle.std.specs.Prelude.{◌⊎◌, IfErr, OnOk}
 use Rattle.std.specs.Io.KnownBytes.{Appends}
 use Rattle.clap.specs.Words.{Text}
 use Rattle.csdf_answers.specs.declared.fault.DeviceName.TheVariants as stream
@@ -9,55 +9,10 @@ use Rattle.csdf_answers.specs.declared.fault.ToolFault.TheVariants as fault
 use Rattle.csdf_words.specs.CommandLine.{Asked, Input, Moves, Ask, Explain, Run, Flow, FolderNames}
 use Rattle.csdf_disk.specs.Acts.{Act, Asks, Devices, Marks, devices}
 use Rattle.csdf_tool.specs.Carried.{IsCauseOf, LacksAnswer, PutsOut}
-use Rattle.csdf_tool.specs.Flows.{StopsOver, Through}
+use Rattle.csdf_flows.specs.Flows.{StopsOver, Through}
 use Rattle.csdf_files.specs.GraphFiles.{IsGivenBy, IsNamed, graph_reads}
 use Rattle.csdf_files.proofs.DiskLemmas.{only_none}
-
--- ---- faults
-
--- a fault is want of memory, or of standard output, or another
-which : (f : ToolFault) → (f ≡ fault.Memory) ⊎ ((f ≡ fault.Device stream.Output) ⊎ ((f ≢ fault.Memory) × (f ≢ fault.Device stream.Output)))
-which (fault.Graph g) = inr (inr (λ e. cc, λ e. cc))
-which (fault.Line n) = inr (inr (λ e. cc, λ e. cc))
-which (fault.Unbalanced name) = inr (inr (λ e. cc, λ e. cc))
-which (fault.TooLarge name) = inr (inr (λ e. cc, λ e. cc))
-which fault.Deadlock = inr (inr (λ e. cc, λ e. cc))
-which fault.TooTight = inr (inr (λ e. cc, λ e. cc))
-which fault.TooLong = inr (inr (λ e. cc, λ e. cc))
-which (fault.TokenSyntax name line) = inr (inr (λ e. cc, λ e. cc))
-which (fault.TokenRange name line) = inr (inr (λ e. cc, λ e. cc))
-which (fault.TokenCutOff name number) = inr (inr (λ e. cc, λ e. cc))
-which (fault.TooManyTokens name) = inr (inr (λ e. cc, λ e. cc))
-which (fault.InUse name) = inr (inr (λ e. cc, λ e. cc))
-which (fault.Lacks lack) = inr (inr (λ e. cc, λ e. cc))
-which fault.Worker = inr (inr (λ e. cc, λ e. cc))
-which (fault.Device stream.Input) = inr (inr (λ e. cc, λ e. cc))
-which (fault.Device stream.Output) = inr (inl refl)
-which (fault.Device (stream.File name)) = inr (inr (λ e. cc, λ e. cc))
-which fault.Memory = inl refl
-
-pub memory_or_not : (f : ToolFault) → (f ≡ fault.Memory) ⊎ (f ≢ fault.Memory)
-memory_or_not f = by (which f)
-  where
-    by : (f ≡ fault.Memory) ⊎ ((f ≡ fault.Device stream.Output) ⊎ ((f ≢ fault.Memory) × (f ≢ fault.Device stream.Output)))
-        → (f ≡ fault.Memory) ⊎ (f ≢ fault.Memory)
-    by (inl memory) = inl memory
-    by (inr (inl output)) = inr (λ memory. let no : fault.Memory ≡ fault.Device stream.Output = sym memory ∙ output in cc)
-    by (inr (inr none)) = inr none.0
-
-pub output_or_not : (f : ToolFault) → (f ≡ fault.Device stream.Output) ⊎ (f ≢ fault.Device stream.Output)
-output_or_not f = by (which f)
-  where
-    by : (f ≡ fault.Memory) ⊎ ((f ≡ fault.Device stream.Output) ⊎ ((f ≢ fault.Memory) × (f ≢ fault.Device stream.Output)))
-        → (f ≡ fault.Device stream.Output) ⊎ (f ≢ fault.Device stream.Output)
-    by (inl memory) = inr (λ output. let no : fault.Memory ≡ fault.Device stream.Output = sym memory ∙ output in cc)
-    by (inr (inl output)) = inl output
-    by (inr (inr none)) = inr none.1
-
--- the answer is the fault that is passed on
-pub err_as : {X : Type 0} (r : Result X ToolFault) (f g : ToolFault) → IsErrAnd r (λ e. e ≡ f) → f ≡ g → r ≡ Err g
-err_as (Ok x) f g is same = absurd is
-err_as (Err e) f g is same = ap Err (is ∙ same)
+use Rattle.csdf_run_files.proofs.FaultLemmas.{which}
 
 -- ---- bytes that have no answer
 

@@ -2,7 +2,7 @@
 use Rattle.std.proofs.Common.{◌≡◌, ◌≢◌, ℕ, List, [], Bool, true, Option, Some, None, arith, refl, sym, ap, subst, ◌∙◌, inl, inr}
 use Rattle.std.specs.Prelude.{◌⊎◌, Result, Ok, Err, IfErr, OnErr, OnOk}
 use Rattle.csdf_tool.specs.Carried.{IsCarriedOut, IsStreamedOut}
-use Rattle.csdf_tool.specs.Flows.{Standard}
+use Rattle.csdf_flows.specs.Flows.{Standard}
 use Rattle.clap.specs.Words.{Kinds, HasKind, Text, fault_of, kind_of}
 use Rattle.clap.specs.declared.error.Error.{Error}
 use Rattle.clap.specs.declared.error.kind.ErrorKind.{ErrorKind}
@@ -21,7 +21,7 @@ use Rattle.csdf_answers.specs.Faults.{status_of}
 use Rattle.csdf_answers.specs.Objects.{TellsFault}
 use Rattle.csdf_answers.specs.declared.fault.ToolFault.{ToolFault}
 use Rattle.csdf_answers.specs.declared.fault.ToolFault.TheVariants as fault
-use Rattle.csdf_tool.proofs.CauseLemmas.{output_or_not}
+use Rattle.csdf_run_files.proofs.FaultLemmas.{output_or_not}
 
 -- ---- statuses
 

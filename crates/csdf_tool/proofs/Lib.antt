@@ -1,11 +1,5 @@
 pub mod CauseLemmas
 pub mod EndLemmas
 pub mod ExplainingLemmas
-pub mod FeedLemmas
-pub mod FlowLemmas
 pub mod InputExamples
-pub mod ReadLemmas
-pub mod RunLemmas
-pub mod StreamLemmas
-pub mod TokenLemmas
 pub mod UseLemmas

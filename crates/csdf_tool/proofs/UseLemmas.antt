@@ -32,9 +32,10 @@ use Rattle.csdf_run.specs.declared.no_outcome.NoOutcome.TheVariants as run
 use Rattle.csdf_disk.specs.Acts.{Act, Devices, Marks}
 use Rattle.csdf_tool.specs.Carried.{IsCauseOf, IsUnanswered, LacksAnswer, LacksExplanation, asks_files, asks_stream}
 use Rattle.csdf_tool.specs.Ends.{EndsAs, EndsInUse, EndsLacking}
-use Rattle.csdf_tool.specs.Flows.{Through}
+use Rattle.csdf_flows.specs.Flows.{Through}
 use Rattle.csdf_files.specs.GraphFiles.{IsNotGiven}
-use Rattle.csdf_tool.specs.Running.{EndsOnFiles, StopsOnGraph, StopsRun, files_of, run_fault, token_fault, tokens_fault}
+use Rattle.csdf_told.specs.NoRun.{run_fault}
+use Rattle.csdf_run_files.specs.Running.{EndsOnFiles, StopsOnGraph, StopsRun, files_of, token_fault, tokens_fault}
 use Rattle.csdf_files.specs.Files.{IsUnput, Written, feed_fault, put_fault}
 use Rattle.csdf_disk.specs.declared.put_fault.PutFault.{PutFault}
 use Rattle.csdf_disk.specs.declared.put_fault.PutFault.TheVariants as put

@@ -13,8 +13,8 @@ use Rattle.csdf_answers.specs.declared.token_file.TokenFile.{TokenFile}
 use Rattle.csdf_tool.specs.Explaining.{Explains, IsExplanation, IsUnreadAs}
 use Rattle.csdf_files.specs.Unread.{is_of_file}
 use Rattle.csdf_files.specs.GraphFiles.{IsGivenBy, IsNamed, IsNotGiven, graph_reads, is_input}
-use Rattle.csdf_tool.specs.Flows.{Standard, StopsStream, Streams, Through, reads_graph}
-use Rattle.csdf_tool.specs.Running.{EndsOnFiles, RunsOnFiles}
+use Rattle.csdf_flows.specs.Flows.{Standard, StopsStream, Streams, Through, reads_graph}
+use Rattle.csdf_run_files.specs.Running.{EndsOnFiles, RunsOnFiles}
 
 -- bytes that a word names have an answer by a command, and it was put at the end of what a device has taken, where that is known
 abbrev pub PutsOut : (List ℕ → Result (List ℕ) ToolFault → Type 0) → Text → Devices → Option (List ℕ) → Option (List ℕ) → Type 0

@@ -1,5 +1,3 @@
 pub mod Carried
 pub mod Ends
 pub mod Explaining
-pub mod Flows
-pub mod Running

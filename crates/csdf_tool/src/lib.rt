@@ -4,11 +4,7 @@
 
 mod answer_files;
 mod explain_files;
-mod flow_fault;
-mod flow_files;
 mod program;
-mod run_files;
-mod stream_files;
 
 pub use csdf_told::tell_waiting;
 pub use program::run_words;

@@ -91,6 +91,21 @@ quiet false
 actor 64: needs 0
 "#;
 
+/// And after the two firings as a block: first both free their cells, then channel 2 takes two and channel 3 two.
+const JOIN_BLOCK_STATE: &str = r#"actor 0: 4 fired, Idle, needs 0, gives 1
+actor 1: 2 fired, Idle, needs 0, gives 1
+actor 2: 2 fired, Idle, needs 3, gives 2
+actor 3: 0 fired, Idle, needs 1, gives 0
+actor 4: 0 fired, Idle, needs 1, gives 0
+channel 0: holds 0, peak 4, open true, cells
+channel 1: holds 0, peak 2, open true, cells
+channel 2: holds 2, peak 2, open true, cells 6 7
+channel 3: holds 2, peak 2, open true, cells 8 9
+free cells 0 1 2 3 4 5
+quiet false
+actor 64: needs 0
+"#;
+
 /// A source, a sum with two delay lines, of which a firing takes three tokens and one, and a sink.
 const DELAYS: &str = r#"actor = [
   { name = "a", kernel = "source" },
@@ -124,6 +139,20 @@ channel 1: holds 8, peak 8, open true, cells 1 2 3 4 5 6 7 14
 channel 2: holds 2, peak 2, open true, cells 9 17
 channel 3: holds 4, peak 4, open true, cells 10 11 12 13
 free cells 15 16 0 8
+quiet false
+actor 64: needs 0
+"#;
+
+/// And after its four firings as a block: the source's four cells are freed first. Then channel 1 frees its eight and
+/// takes the eight that have been free the longest, channel 2 its two, and channel 3 takes four.
+const DELAYS_BLOCK_STATE: &str = r#"actor 0: 4 fired, Idle, needs 0, gives 1
+actor 1: 4 fired, Idle, needs 5, gives 5
+actor 2: 0 fired, Idle, needs 1, gives 0
+channel 0: holds 0, peak 4, open true, cells
+channel 1: holds 8, peak 8, open true, cells 14 15 16 17 10 11 12 13
+channel 2: holds 2, peak 2, open true, cells 0 1
+channel 3: holds 4, peak 4, open true, cells 2 3 4 5
+free cells 6 7 8 9
 quiet false
 actor 64: needs 0
 "#;
@@ -338,17 +367,29 @@ const DELAYS_BLOCKS: [Step; 2] = [
     },
 ];
 
-/// A graph, some blocks, the same firings move by move, and what the core then shows.
-const GRAPHS: [(&str, &[Step], &str, &str); 4] = [
-    (PIPELINE, &PIPELINE_BLOCKS, PIPELINE_MOVES, PIPELINE_STATE),
-    (PAIR, &PAIR_BLOCKS, PAIR_MOVES, PAIR_STATE),
-    (JOIN, &JOIN_BLOCKS, JOIN_MOVES, JOIN_STATE),
-    (DELAYS, &DELAYS_BLOCKS, DELAYS_MOVES, DELAYS_STATE),
+/// A graph, some blocks, what the core shows after them, the same firings move by move, and what it shows after those.
+const GRAPHS: [(&str, &[Step], &str, &str, &str); 4] = [
+    (
+        PIPELINE,
+        &PIPELINE_BLOCKS,
+        PIPELINE_STATE,
+        PIPELINE_MOVES,
+        PIPELINE_STATE,
+    ),
+    (PAIR, &PAIR_BLOCKS, PAIR_STATE, PAIR_MOVES, PAIR_STATE),
+    (JOIN, &JOIN_BLOCKS, JOIN_BLOCK_STATE, JOIN_MOVES, JOIN_STATE),
+    (
+        DELAYS,
+        &DELAYS_BLOCKS,
+        DELAYS_BLOCK_STATE,
+        DELAYS_MOVES,
+        DELAYS_STATE,
+    ),
 ];
 
 #[test]
 fn firings_in_blocks(rt: HostRuntime) -> Result<(), Fail> {
-    for (graph, blocks, _, want) in &GRAPHS {
+    for (graph, blocks, want, _, _) in &GRAPHS {
         check_graph(&rt, rt.alloc(), *graph, *blocks, *want)?;
     }
     Ok(())
@@ -369,7 +410,7 @@ fn check_moves(
 
 #[test]
 fn firings_move_by_move(rt: HostRuntime) -> Result<(), Fail> {
-    for (graph, _, moves, want) in &GRAPHS {
+    for (graph, _, _, moves, want) in &GRAPHS {
         check_moves(&rt, rt.alloc(), *graph, *moves, *want)?;
     }
     Ok(())

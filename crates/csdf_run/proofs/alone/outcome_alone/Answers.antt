@@ -13,7 +13,7 @@ returns-in-Ok-run_alone-clause-outcome g c =
 
 pub returns-in-Ok-run_alone-clause-most : goal.returns-in-Ok-run_alone-clause-most
 returns-in-Ok-run_alone-clause-most g c =
-    known_most (g.G.Told.knows_most c.args.gate.now) c.args.request.work c.in-Ok.prepared.0 c.told_of.result.outcome c.prepared.ensures.accepted
+    known_most (g.G.Told.knows_most c.args.gate.now) c.args.request.work c.in-Ok.most c.told_of.result.outcome c.most_firings.ensures.accepted
     c.in-Ok.ensures.most c.tell_most.ensures
     (told_ok (IsOutcome c.args.request.work) c.into_settled.result.outcome c.told_of.result.outcome _ c.told_of.ensures.told c.told_of.ensures.memory
     (subst (λ (w : Work). IfOk c.into_settled.result.outcome (IsOutcome w)) (c.run_alone.ensures.work ∙ c.in-Ok-into_floor.ensures.work)

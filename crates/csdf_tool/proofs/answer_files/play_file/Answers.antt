@@ -3,7 +3,8 @@ use Rattle.csdf_answers.specs.Session.{IsAnswer}
 use Rattle.csdf_answers.specs.declared.fault.DeviceName.TheVariants.{Input}
 use Rattle.csdf_answers.specs.declared.fault.ToolFault.TheVariants.{Device}
 use Rattle.csdf_answers.proofs.ToldLemmas.{if_err_fault}
-use Rattle.csdf_tool.proofs.CauseLemmas.{err_as, given_bytes, lacks_answer, puts_out}
+use Rattle.csdf_run_files.proofs.FaultLemmas.{err_as}
+use Rattle.csdf_tool.proofs.CauseLemmas.{given_bytes, lacks_answer, puts_out}
 use Rattle.csdf_tool.proofs.answer_files.play_file.Goals as goal
 
 pub returns-clause-written : goal.returns-clause-written

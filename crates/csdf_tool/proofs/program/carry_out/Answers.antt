@@ -3,7 +3,7 @@ use Rattle.csdf_words.specs.CommandLine.{asked_view}
 use Rattle.csdf_tool.specs.Carried.{flows_out, reads_input}
 use Rattle.csdf_tool.proofs.CauseLemmas.{caused_as}
 use Rattle.csdf_tool.proofs.EndLemmas.{carried_as, streamed_as}
-use Rattle.csdf_tool.proofs.RunLemmas.{on_ok}
+use Rattle.csdf_run_files.proofs.RunLemmas.{on_ok}
 use Rattle.csdf_tool.proofs.program.carry_out.Goals as goal
 
 pub returns-in-Input-clause-carried : goal.returns-in-Input-clause-carried

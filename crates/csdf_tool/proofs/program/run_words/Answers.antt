@@ -7,7 +7,7 @@ use Rattle.csdf_answers.specs.declared.fault.ToolFault.TheVariants.{Memory}
 use Rattle.std.proofs.lemmas.Result.{on_ok_weaker}
 use Rattle.csdf_disk.specs.Acts.{devices}
 use Rattle.csdf_tool.specs.Carried.{IsStreamedOut, flows_asked, reads_input}
-use Rattle.csdf_tool.specs.Flows.{standard}
+use Rattle.csdf_flows.specs.Flows.{standard}
 use Rattle.csdf_tool.proofs.CauseLemmas.{caused_as, memory_causes}
 use Rattle.csdf_tool.proofs.EndLemmas.{at_refusal, at_three, at_zero, carried_as, ended_from, ended_in, lined, lined_unread, on_ok_both, one_asked, some_asked, streamed_as, taken_words, told_as, told_of, use_of}
 use Rattle.csdf_tool.proofs.EndLemmas.{nothing_ends, taken_ends, unread_ends}

@@ -14,23 +14,16 @@ use Rattle.csdf_core.proofs.Kept.{begins}
 use Rattle.csdf_core.proofs.firing_core.Core.fire.Goals as goal
 use Rattle.csdf_core.proofs.firing_core.Core.fire.Goals.{After-fire_next}
 
-pub is_plain-requires : goal.is_plain-requires
-is_plain-requires c =
-    let can = rw (← c.self.view_is) at (c.requires.can c.args.tokens.now c.requires.all) in
-    (begins c.self.inside.plan (now_in c.self.inside) c.args.actor
-    (first_begins c.self.inside.plan (now_in c.self.inside) c.args.actor (count (now_in c.self.inside) c.args.actor) c.args.n c.args.tokens.now c.if-n-gt0.true
-    can)).there
-
-pub fire_in_one-requires-clause-actor : goal.fire_in_one-requires-clause-actor
-fire_in_one-requires-clause-actor c =
+pub fire_at_once-requires-clause-actor : goal.fire_at_once-requires-clause-actor
+fire_at_once-requires-clause-actor c =
     let can = rw (← c.self.view_is) at (c.requires.can c.args.tokens.now c.requires.all) in
     rw (← c.self.view_is)
     (begins c.self.inside.plan (now_in c.self.inside) c.args.actor
     (first_begins c.self.inside.plan (now_in c.self.inside) c.args.actor (count (now_in c.self.inside) c.args.actor) c.args.n c.args.tokens.now c.if-n-gt0.true
     can)).there
 
-pub fire_in_one-requires-clause-few : goal.fire_in_one-requires-clause-few
-fire_in_one-requires-clause-few c =
+pub fire_at_once-requires-clause-few : goal.fire_at_once-requires-clause-few
+fire_at_once-requires-clause-few c =
     let plan : Plan = c.self.inside.plan in
     let p : Present = now_in c.self.inside in
     let a : ℕ = c.args.actor in
@@ -43,14 +36,14 @@ fire_in_one-requires-clause-few c =
 pub returns-clause-accepted : goal.returns-clause-accepted
 returns-clause-accepted c = c.requires.can c.args.tokens.now c.requires.all
 
-pub returns-then-is_plain-clause-accepted : goal.returns-then-is_plain-clause-accepted
-returns-then-is_plain-clause-accepted c = c.requires.can c.args.tokens.now c.requires.all
+pub returns-then-gives_back-clause-accepted : goal.returns-then-gives_back-clause-accepted
+returns-then-gives_back-clause-accepted c = c.requires.can c.args.tokens.now c.requires.all
 
 pub returns-clause-rest : goal.returns-clause-rest
 returns-clause-rest c = λ one. absurd (omega (arith, one, c.if-n-eq1.false))
 
-pub returns-then-is_plain-clause-rest : goal.returns-then-is_plain-clause-rest
-returns-then-is_plain-clause-rest c = λ one. absurd (omega (arith, one, c.if-n-eq1.false))
+pub returns-then-gives_back-clause-rest : goal.returns-then-gives_back-clause-rest
+returns-then-gives_back-clause-rest c = λ one. absurd (omega (arith, one, c.if-n-eq1.false))
 
 -- one firing
 pub fire_next-requires-clause-begins : goal.fire_next-requires-clause-begins
@@ -94,3 +87,6 @@ limit-limit-requires c =
     (begins c.self.inside.plan (now_in c.self.inside) c.args.actor
     (first_begins c.self.inside.plan (now_in c.self.inside) c.args.actor (count (now_in c.self.inside) c.args.actor) c.args.n c.args.tokens.now c.if-n-gt0.true
     can)).there
+
+pub fire_at_once-requires-clause-back : goal.fire_at_once-requires-clause-back
+fire_at_once-requires-clause-back c = rw (← c.self.view_is) (c.gives_back.ensures c.if-gives_back.true)

@@ -4,8 +4,8 @@ use Rattle.csdf_floor.specs.Drafts.{DraftView, IsDrafted, Suits}
 use Rattle.csdf_floor.specs.Floor.{FloorView, IsKept}
 use Rattle.csdf_floor.specs.Inside.{BookView}
 use Rattle.csdf_floor.specs.Making.{AreKeptValues}
-use Rattle.csdf_floor.specs.Work.{program}
-use Rattle.csdf_floor.proofs.Drafted.{ReadsOf, drafted_values}
+use Rattle.csdf_floor.specs.Work.{IsWork, program}
+use Rattle.csdf_floor.proofs.Drafted.{drafted_values}
 use Rattle.csdf_floor.proofs.book.Book.make_suited.Goals as goal
 
 pub fire-requires-clause-values : goal.fire-requires-clause-values
@@ -15,13 +15,12 @@ fire-requires-clause-values c =
     let same : c.args.self.now.shown ≡ f = sym c.in_ok-reserve.ensures.shown in
     let suits : Suits f c.args.actor d = subst (λ (g : FloorView). Suits g c.args.actor d) same c.requires.suits in
     let drafted : IsDrafted (program f.work) d = subst (λ (g : FloorView). IsDrafted (program g.work) d) same c.requires.drafted in
+    let work : IsWork f.work = subst (λ (b : BookView). IsWork b.shown.work) c.self.view_is c.self.invariant.work in
     let kept : IsKept (program f.work) f.core f.journal =
     subst (λ (b : BookView). IsKept (program b.shown.work) b.shown.core b.shown.journal) c.self.view_is c.self.invariant.kept in
-    let reads : ReadsOf f.core c.args.actor d.firings = subst (λ (b : BookView). ReadsOf b.shown.core c.args.actor d.firings) c.self.view_is
-    (subst (λ (e : DraftView). ReadsOf c.self.inside.core c.args.actor e.firings) c.draft.view_is c.reads.ensures) in
     subst (λ (n : ℕ). AreKeptValues f c.args.actor n (get_or c.reserve.new.self.reads c.args.actor []) c.values.result.now)
     (sym (ap (λ (e : DraftView). e.firings) c.draft.view_is))
-    (drafted_values f c.args.actor d _ c.values.result.now kept c.requires.some suits drafted c.values.ensures reads)
+    (drafted_values f c.args.actor d _ c.values.result.now work kept c.requires.some suits drafted c.values.ensures)
 
 pub returns-clause-made : goal.returns-clause-made
 returns-clause-made c = rw (← c.draft.view_is, ← c.in_ok-reserve.ensures.shown) c.fire.ensures.made

@@ -1,4 +1,4 @@
-use Rattle.std.proofs.Common.{◌≡◌, ◌≤◌, ◌+◌, ◌*◌, ℕ, ap, subst, ◌∙◌, arith}
+use Rattle.std.proofs.Common.{◌≡◌, ◌≤◌, ◌+◌, ◌*◌, ℕ, Bool, true, false, ap, subst, sym, ◌∙◌, arith}
 use Rattle.std.specs.Prelude.{OnOk}
 use Rattle.std.proofs.lemmas.Nat.{mul-le}
 use Rattle.csdf_core.specs.Feedback.{IsFeedback}
@@ -27,14 +27,24 @@ overflow_add-long-2 c =
 pub own_values_into-requires-clause-can : goal.own_values_into-requires-clause-can
 own_values_into-requires-clause-can c = rw c.make_room_for.ensures.shown c.requires.can
 
-pub fire_on-requires-clause-can : goal.fire_on-requires-clause-can
-fire_on-requires-clause-can c = rw (c.own_values_into.ensures.shown, c.make_room_for.ensures.shown) c.requires.can
+pub fire-requires-clause-exists : goal.fire-requires-clause-exists
+fire-requires-clause-exists c = rw (c.own_values_into.ensures.shown, c.make_room_for.ensures.shown) c.requires.can.there
 
-pub fire_on-requires-clause-feedback : goal.fire_on-requires-clause-feedback
-fire_on-requires-clause-feedback c = rw (c.own_values_into.ensures.shown, c.make_room_for.ensures.shown) c.requires.feedback
+pub fire-requires-clause-can : goal.fire-requires-clause-can
+fire-requires-clause-can c = rw (c.own_values_into.ensures.shown, c.make_room_for.ensures.shown) c.requires.fires
 
-pub fire_on-requires-clause-values : goal.fire_on-requires-clause-values
-fire_on-requires-clause-values c = rw (c.own_values_into.ensures.shown, c.as_slice.ensures) c.in_ok-own_values_into.ensures.values
+-- an actor that is no sink keeps nothing
+not_sink : (b : Bool) → b ≡ false → b ≡ true → ⊥
+not_sink b other is = absurd (let both : false ≡ true = sym other ∙ is in cc)
+
+pub fire-requires-clause-sink : goal.fire-requires-clause-sink
+fire-requires-clause-sink c =
+    rw (c.own_values_into.ensures.shown, c.make_room_for.ensures.shown) (λ yes. absurd (not_sink _ c.requires.other yes))
+
+pub fire-requires-clause-values : goal.fire-requires-clause-values
+fire-requires-clause-values c =
+    rw (c.own_values_into.ensures.shown, c.as_slice.ensures)
+    (record { own = c.in_ok-own_values_into.ensures.values; kept = λ yes. absurd (not_sink _ (rw c.make_room_for.ensures.shown c.requires.other) yes) })
 
 pub own_values_into-requires-clause-feedback : goal.own_values_into-requires-clause-feedback
 own_values_into-requires-clause-feedback c = rw c.make_room_for.ensures.shown c.requires.feedback
@@ -47,13 +57,13 @@ pub returns-clause-made : goal.returns-clause-made
 returns-clause-made c =
     let same : c.own_values_into.new.self.shown ≡ c.args.self.now.shown =
     c.own_values_into.ensures.shown ∙ c.make_room_for.ensures.shown in
-    subst (λ (f : FloorView). OnOk c.fire_on.result (HasMade f c.fire_on.new.self.shown c.args.actor c.args.n (made_moves f c.args.actor c.args.n))) same
-    c.fire_on.ensures.made
+    subst (λ (f : FloorView). OnOk c.fire.result (HasMade f c.fire.new.self.shown c.args.actor c.args.n (made_moves f c.args.actor c.args.n))) same
+    c.fire.ensures.made
 
 pub make_room_for-requires-clause-idle : goal.make_room_for-requires-clause-idle
 make_room_for-requires-clause-idle c = c.requires.can.idle
 
 pub returns-clause-room : goal.returns-clause-room
-returns-clause-room c = on_ok c.fire_on.result _ _
-    (λ (e : c.own_values_into.new.self.room ≤ c.fire_on.new.self.room + 4 * c.args.n).
-    omega (arith, e, c.own_values_into.ensures.room, c.in_ok-make_room_for.ensures.room)) c.fire_on.ensures.room
+returns-clause-room c = on_ok c.fire.result _ _
+    (λ (e : c.own_values_into.new.self.room ≤ c.fire.new.self.room + 4 * c.args.n).
+    omega (arith, e, c.own_values_into.ensures.room, c.in_ok-make_room_for.ensures.room)) c.fire.ensures.room

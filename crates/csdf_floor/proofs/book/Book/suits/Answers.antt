@@ -6,5 +6,4 @@ returns-clause-suits c = λ e. record {
   actor = search rules;
   firing = search rules;
   can = rw (← c.draft.view_is) (c.can_make.ensures.can e);
-  held = rw (← c.draft.view_is) (c.can_make.ensures.held e);
 }

@@ -1,6 +1,0 @@
-use Rattle.std.proofs.Common.{[], inl, refl}
-use Rattle.csdf_files.proofs.DiskLemmas.{asks_none}
-use Rattle.csdf_tool.proofs.run_files.put_listed.Goals as goal
-
-pub returns-in-Err-clause-cut : goal.returns-in-Err-clause-cut
-returns-in-Err-clause-cut g c = λ same. ([], asks_none _, record { many = 0; last = []; acts_are = refl; cut = inl (refl, refl) })

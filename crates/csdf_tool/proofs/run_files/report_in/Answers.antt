@@ -1,5 +1,0 @@
-use Rattle.std.proofs.Common.{rules}
-use Rattle.csdf_tool.proofs.run_files.report_in.Goals as goal
-
-pub returns-in-Json : goal.returns-in-Json
-returns-in-Json c = search rules
