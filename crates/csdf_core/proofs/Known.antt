@@ -7,7 +7,7 @@ use Rattle.std.specs.List.{AllByRecursion}
 use Rattle.std.proofs.Math.Seq.{take-append_seam, drop-append_seam}
 use Rattle.std.proofs.lemmas.List.{take_all, take-append-le, drop-append-le, length-take-le, length-drop}
 use Rattle.csdf_core.specs.Blocks.{gifts_of, takes_at, firings_of, AreAccepted, answers_to, handed_by, reads_among, parts_of, fronts, reads_over, HoldAll, HasNoLoop}
-use Rattle.csdf_core.specs.Engine.{gives_to, reads_of, filled, there_of}
+use Rattle.csdf_core.specs.Engine.{FindsIn, gives_to, reads_of, filled, there_of}
 use Rattle.csdf_core.specs.Plan.{Plan, Channel, from_at, to_at}
 use Rattle.csdf_core.specs.Ports.{inputs_at, take_at, own_take_at, tokens_at}
 use Rattle.csdf_core.specs.Rows.{need, gift, left, shares}
@@ -17,14 +17,15 @@ use Rattle.csdf_core.proofs.BlockMachines.{Machine, IsGood}
 use Rattle.csdf_core.proofs.BlockPorts.{both, each}
 use Rattle.csdf_core.proofs.BlockTokens.{left_at, length-left, taken_fronts, fronts_same, reads_alike, reads_same, length-fronts}
 use Rattle.csdf_core.proofs.FilledUp.{filled_enough}
-use Rattle.csdf_core.proofs.Finds.{took, fired_length}
+use Rattle.csdf_core.proofs.Cycles.{sums_none}
+use Rattle.csdf_core.proofs.Finds.{gave, took, fired_length}
 use Rattle.csdf_core.proofs.FiringMoves.{IsFired, fired1, fired4, is_fired}
-use Rattle.csdf_core.proofs.Lanes.{own_give_none, shares_at, there_at}
+use Rattle.csdf_core.proofs.Lanes.{own_give_at, own_give_none, shares_at, there_at}
 use Rattle.csdf_core.proofs.Kept.{begins, reads}
 use Rattle.csdf_core.proofs.OwnChannels.{ins_there, ins_own}
 use Rattle.csdf_core.proofs.PortLemmas.{need_is, own_take}
 use Rattle.csdf_core.proofs.Ready.{are_there}
-use Rattle.csdf_core.proofs.Shares.{takes_took}
+use Rattle.csdf_core.proofs.Shares.{gives_gave, takes_took}
 
 -- a source that is not dry has the tokens of one firing more, and so of the last one of n
 fed_one : (b : Bool) (x y : ℕ) → (b && nat_lt x y) ≡ false → b ≡ true → y ≤ x
@@ -43,8 +44,15 @@ pub record IsKnown (plan : Plan) (a k n : ℕ) (v : List ℤ) (m : Machine) : Ty
   pub supply : 0 < n → is_source plan a ≡ true → given plan a (k + n) ≤ get_or plan.supplies a 0
   pub first : 0 < n → AllByRecursion (λ c. take_at plan.channels k c ≤ length (tokens_at m.now.tokens c)) (inputs_at plan.channels a)
   pub others : (c : ℕ) → c < length plan.channels → from_at plan.channels c ≢ a → took plan.channels a k n c ≤ length (tokens_at m.now.tokens c)
+  pub finds : (i c : ℕ) → i < n → c < length plan.channels → took plan.channels a k (suc i) c ≤ length (tokens_at m.now.tokens c) + gave plan.channels a k i c
   pub handed : handed_by (answers_to plan m.now (firings_of plan.channels a k n v)) ≡ reads_of plan.channels a k n m.now.tokens v
   pub reads : reads_among plan m.now (firings_of plan.channels a k n v) ≡ parts_of plan.channels a k n (reads_of plan.channels a k n m.now.tokens v)
+
+-- the first firing finds what it takes, and so do the later ones
+found_one : (cs : List Channel) (a k n i c size : ℕ) → own_take_at cs a k c ≤ size
+    → ((j : ℕ) → j < n → took cs a k (suc (suc j)) c ≤ size + gave cs a k (suc j) c) → i < suc n → took cs a k (suc i) c ≤ size + gave cs a k i c
+found_one cs a k n zero c size first later less = omega (arith, first)
+found_one cs a k n (suc i) c size first later less = later i (omega (arith, less))
 
 module _ (plan : Plan) (a : ℕ) (few : (k : ℕ) → gift a k plan.channels ≤ 8192) where
   abbrev cs : List Channel
@@ -110,6 +118,10 @@ module _ (plan : Plan) (a : ℕ) (few : (k : ℕ) → gift a k plan.channels ≤
             let none = own_give_none a k cs c other in
             let o = b.others c lt other in
             omega (arith, l, none, o));
+        finds = λ i c less lt. found_one cs a k n i c (length (tokens_at ts c)) (has c lt) (λ j below.
+            (let l = fired_length a k cs ts v1 c queued lt len1 (has c lt) in
+            let f = b.finds j c below lt in
+            let z : took cs a k (suc (suc j)) c ≤ length (tokens_at ts c) + gave cs a k (suc j) c = omega (arith, l, f) in z)) less;
         handed = ap₂ (λ (x y : List ℤ). x ++ y) answered (b.handed ∙ later);
         reads =
             let front : take r (first ++ rest) ≡ first = ap (λ (x : ℕ). take x (first ++ rest)) (sym size) ∙ take-append_seam first rest in
@@ -124,6 +136,7 @@ module _ (plan : Plan) (a : ℕ) (few : (k : ℕ) → gift a k plan.channels ≤
     supply = λ some. absurd (omega (arith, some));
     first = λ some. absurd (omega (arith, some));
     others = λ c lt other. (let z : 0 ≤ length (tokens_at m.now.tokens c) = omega arith in z);
+    finds = λ i c less lt. absurd (omega (arith, less));
     handed = refl;
     reads = refl;
   }
@@ -155,6 +168,24 @@ module _ (plan : Plan) (a : ℕ) (few : (k : ℕ) → gift a k plan.channels ≤
       reads_alike cs ins k n (tokens_at ts) (λ c. tokens_at ts c ++ gives_to cs a c k n v)
       (each ins
       (λ c (le : takes_at cs k n c ≤ length (tokens_at ts c)). sym (take-append-le (takes_at cs k n c) (tokens_at ts c) (gives_to cs a c k n v) le)) all)
+
+-- each input holds what each firing finds there
+pub find_ins : (plan : Plan) (a k n : ℕ) (v : List ℤ) (m : Machine) → IsKnown plan a k n v m → (i : ℕ) → i < n
+    → AllByRecursion (FindsIn plan.channels m.now.tokens a k i) (inputs_at plan.channels a)
+find_ins plan a k n v m b i less =
+    both (inputs_at plan.channels a)
+    (λ c (lt : c < length plan.channels) (to : to_at plan.channels c ≡ a).
+    (let f = b.finds i c less lt in
+    let t = takes_took plan.channels a c lt to k (suc i) in
+    let found : FindsIn plan.channels m.now.tokens a k i c = record {
+      others = λ other. (let g = gave_none plan.channels a c other k i in omega (arith, f, t, g));
+      own = λ from. (let g = gives_gave plan.channels a c lt from k i in omega (arith, f, t, g));
+    } in
+    found))
+    (ins_there plan.channels a) (ins_own plan.channels a)
+  where
+    gave_none : (cs : List Channel) (a c : ℕ) → from_at cs c ≢ a → (k n : ℕ) → gave cs a k n c ≡ 0
+    gave_none cs a c other k n = sums_none (λ j. own_give_at cs a j c) (λ j. own_give_none a j cs c other) k n
 
 -- what is there, where the inputs hold all
 pub there_held : (ds : List Channel) (b k n : ℕ) (ts : List (List ℤ)) → HoldAll ts (takes_at ds k n) (inputs_at ds b)

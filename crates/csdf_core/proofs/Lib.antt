@@ -44,6 +44,7 @@ pub mod BlockPools
 pub mod BlockPorts
 pub mod OnePhase
 pub mod OwnChannels
+pub mod OwnReads
 pub mod BlockTokens
 pub mod BlockBegins
 pub mod BlockMachines

@@ -21,5 +21,6 @@ pub mod Blocks
 pub mod Engine
 pub mod Feedback
 pub mod Passing
+pub mod Own
 pub mod Sides
 pub mod PlanInside

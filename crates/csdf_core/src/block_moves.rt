@@ -84,14 +84,14 @@ fn drop_apart(plan: &Plan, pool: &mut Pool, actor: u32, k: u32, n: u32)
 /// Where a firing's writes have the tokens of one output: how many it writes in all, how many of them stand before
 /// these, and how many these are.
 #[derive(Clone, Copy)]
-struct Share {
-    all: usize,
-    from: usize,
-    own: usize,
+pub(crate) struct Share {
+    pub(crate) all: usize,
+    pub(crate) from: usize,
+    pub(crate) own: usize,
 }
 
 /// Where the firing's writes have the tokens of the output.
-fn share_of(plan: &Plan, actor: u32, channel: u32, turn: Turn) -> Share
+pub(crate) fn share_of(plan: &Plan, actor: u32, channel: u32, turn: Turn) -> Share
     requires actor { actor < length plan.now.sources }
     requires channel { channel < length plan.now.channels }
     requires own { from_at plan.now.channels channel ≡ actor }

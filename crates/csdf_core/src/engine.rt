@@ -1,6 +1,7 @@
 //! The engine: how many firings an actor can make one after another, and those firings in one call.
 
 ghost use Rattle.std.specs.Prelude.{ℕ, ◌≡◌, ◌+◌, ◌-◌, ◌*◌, ◌<◌, ◌≤◌, ◌↔◌, ℤ, List, IsTrue, true, None, IfSome, length, slice_index};
+ghost use Rattle.std.specs.List.{AllByRecursion};
 ghost use Rattle.csdf_core.specs.Blocks.{HoldAll};
 ghost use Rattle.csdf_core.specs.Engine.{FindsIn, FindsOut, GoesRound, IsHeld, HasRoom};
 ghost use Rattle.csdf_core.specs.Plan.{to_at, from_at};
@@ -537,28 +538,6 @@ impl Core {
         hold_each(&self.plan, &self.pool, actor, self.turn(actor), n)
     }
 
-    /// The first of the n firings, which the actor can make, as many as find all that they read: some where
-    /// these are.
-    pub fn held(&self, actor: u32, n: u32) -> Block
-        requires actor { actor < length self.now.plan.sources }
-        requires can { CanFire self.now.plan self.now.now actor n }
-        ensures most { result.firings ≤ n }
-        ensures some { 0 < n → 0 < result.firings }
-        ensures can { CanFire self.now.plan self.now.now actor result.firings }
-        ensures holds { HoldAll self.now.now.tokens (takes_at self.now.plan.channels (count self.now.now actor) result.firings)
-            (inputs_at self.now.plan.channels actor) }
-        ensures needed { result.needed ≡ needs_of self.now.plan.channels actor (count self.now.now actor) result.firings }
-        ensures given { result.given ≡ gifts_of self.now.plan.channels actor (count self.now.now actor) result.firings }
-    {
-        self.begins(actor);
-        let mut held = n;
-        'halving: while !self.holds(actor, held) {
-            held /= 2;
-        }
-        self.keeps_within(actor, held);
-        self.block_of(actor, held)
-    }
-
     /// A law: n firings that the actor can make keep within the limits on its firings and, of a source, on
     /// its tokens. The call does nothing.
     pub fn keeps_within(&self, actor: u32, n: u32)
@@ -572,12 +551,15 @@ impl Core {
         let _limit = self.plan.limit(actor);
     }
 
-    /// A law: what the actor's next n firings read, for all that they write. The call does nothing.
+    /// Laws: what the actor's next n firings read, for all that they write; and each of them finds it. The call does
+    /// nothing.
     pub fn reads(&self, actor: u32, n: u32)
-        ensures { CanFire self.now.plan self.now.now actor n
+        ensures read { CanFire self.now.plan self.now.now actor n
             → (v : List ℤ) → length v ≡ gifts_of self.now.plan.channels actor (count self.now.now actor) n
             → AreReadWith self.now.plan self.now.now actor (count self.now.now actor) n v
             (reads_of self.now.plan.channels actor (count self.now.now actor) n self.now.now.tokens v) }
+        ensures found { CanFire self.now.plan self.now.now actor n → (i : ℕ) → i < n
+            → AllByRecursion (FindsIn self.now.plan.channels self.now.now.tokens actor (count self.now.now actor) i) (inputs_at self.now.plan.channels actor) }
     {
         self.plan.gives_few();
     }

@@ -3,7 +3,7 @@
 //! The readers that are marked so are inlined: each firing calls several of them, and a call costs more
 //! than the load that it makes.
 
-ghost use Rattle.std.specs.Prelude.{◌≡◌, ◌-◌, ◌*◌, ◌^◌, ◌<◌, ◌≤◌, ◌↔◌, suc, length, map, sum, IfOk, IsTrue, All, slice_index};
+ghost use Rattle.std.specs.Prelude.{◌≡◌, ◌-◌, ◌*◌, ◌^◌, ◌<◌, ◌≤◌, suc, length, map, sum, IfOk, All, slice_index};
 ghost use Rattle.csdf_pool.specs.Pool.{chain_of, held_cells};
 
 use crate::filling::{blank_lists, filled_pool, lengths_of};
@@ -67,7 +67,6 @@ impl Core {
     ghost use Rattle.csdf_core.specs.State.{opening};
     ghost use Rattle.csdf_core.specs.Shows.{Shows};
     ghost use Rattle.csdf_core.specs.Step.{is_open, given, reserved, count, stage};
-    ghost use Rattle.csdf_core.specs.Blocks.{HasNoLoop};
     ghost use Rattle.csdf_core.specs.Phases.{IsInPhase};
     ghost use Rattle.csdf_core.specs.Rows.{need, gift};
     ghost use Rattle.csdf_core.specs.Ports.{inputs_at, outputs_at, tokens_at};
@@ -199,15 +198,6 @@ impl Core {
     {
         let fired = self.fired(self.consumer(channel));
         self.plan.taken(channel, 0, fired) as u32
-    }
-
-    /// Whether a channel goes from the actor to itself.
-    #[inline]
-    pub fn has_loop(&self, actor: u32) -> bool
-        requires { actor < length self.now.plan.sources }
-        ensures { IsTrue result ↔ (HasNoLoop self.now.plan.channels actor → ⊥) }
-    {
-        !self.plan.has_no_loop(actor)
     }
 
     /// How many firings of the actor are finished.

@@ -12,6 +12,7 @@ mod gathering;
 mod laws;
 mod moves;
 mod nexts;
+mod own;
 mod plan;
 mod planned;
 mod playing;
@@ -30,6 +31,7 @@ pub use laws::{
     ample_by_default, has_firings, has_period, phases_return, printed_is_period, runs_for_ever,
 };
 pub use moves::Move;
+pub use own::OwnTokens;
 pub use playing::{Played, Reply, play, play_on};
 pub use refusal::Refusal;
 pub use stage::Stage;

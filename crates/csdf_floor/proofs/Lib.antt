@@ -38,7 +38,9 @@ pub mod JoinedStreams
 pub mod Joinings
 pub mod Continuing
 pub mod Lefts
+pub mod SourcePorts
 pub mod Stretches
+pub mod SuccessiveValues
 pub mod Exacts
 pub mod LoopMakings
 pub mod Mosts

@@ -71,10 +71,6 @@ pub record IsBlock (core : View) (a : ℕ) (b : Block) : Type 0 where
   pub needed : b.needed ≡ needs_of core.plan.channels a (count core.now a) b.firings
   pub given : b.given ≡ gifts_of core.plan.channels a (count core.now a) b.firings
 
--- what the actor could make with its next firing at the front it can make after it
-abbrev pub LeavesRest : View → View → ℕ → Type 0
-LeavesRest old new a = (m : ℕ) → CanFire old.plan old.now a (m + 1) → CanFire new.plan new.now a m
-
 -- the actor has made n firings more, of these moves, and nothing else has changed
 pub record HasMade (old new : FloorView) (a n : ℕ) (moves : List Move) : Type 0 where
   pub gone : HasGone old new moves

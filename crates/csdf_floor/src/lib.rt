@@ -23,6 +23,7 @@ mod phased;
 mod printed;
 mod same;
 mod settling;
+mod successive;
 mod work;
 
 pub use draft::Draft;

@@ -1,7 +1,7 @@
 //! Several firings of one actor, made at once.
 
 ghost use Rattle.std.specs.Prelude.{◌≡◌, ◌≤◌, ◌+◌, ◌*◌, ◌++◌, false, length, ◌↔◌, IsTrue, All, ◌<◌, [], None, true, IfOk, OnOk, OnErr, option_map, slice_index, slice_index_or};
-ghost use Rattle.csdf_floor.specs.Making.{AreKeptValues, HasMade, IsBlock, LeavesRest, amount_of, made_moves, made_value};
+ghost use Rattle.csdf_floor.specs.Making.{AreKeptValues, HasMade, IsBlock, amount_of, made_moves, made_value};
 ghost use Rattle.csdf_model.specs.declared.parts.Kernel.TheVariants.{Sink};
 ghost use Rattle.csdf_core.specs.declared.stage.Stage.TheVariants.{Idle};
 ghost use Rattle.csdf_core.specs.Blocks.{AreReadEach, HoldAll, gifts_of, needs_of, takes_at};
@@ -24,9 +24,6 @@ use csdf_core::Block;
 use csdf_kernel::{Counts, Outputs, eval_block};
 use csdf_model::MAX_TOTAL_PER_FIRING;
 use std::alloc::{AllocError, Global};
-
-/// For so many firings a delay line holds the tokens where they are made at once and not one after the other.
-const LONG_DELAY: u32 = 16;
 
 impl Book {
     /// Makes the buffer of the actor, which is idle, this long.
@@ -150,7 +147,6 @@ impl Book {
             → needs_of self.old.shown.core.plan.channels actor (count self.old.shown.core.now actor) n ≤ slice_index self.old.rooms actor }
         requires values { AreKeptValues self.old.shown actor n (slice_index_or self.old.reads actor []) tokens.now }
         ensures made { OnOk result (HasMade self.old.shown self.new.shown actor n (made_moves self.old.shown actor n)) }
-        ensures rest { OnOk result (n ≡ 1 → LeavesRest self.old.shown.core self.new.shown.core actor) }
         ensures room { OnOk result (self.old.room ≤ self.new.room + 4 * n) }
         ensures unchanged { OnErr result (self.new.shown ≡ self.old.shown) }
         ensures room_stays { OnErr result (self.old.room ≤ self.new.room) }
@@ -217,7 +213,6 @@ impl Book {
         requires held { HoldAll self.old.shown.core.now.tokens (takes_at self.old.shown.core.plan.channels (count self.old.shown.core.now actor) block.firings)
             (inputs_at self.old.shown.core.plan.channels actor) }
         ensures made { OnOk result (HasMade self.old.shown self.new.shown actor block.firings (made_moves self.old.shown actor block.firings)) }
-        ensures rest { OnOk result (block.firings ≡ 1 → LeavesRest self.old.shown.core self.new.shown.core actor) }
         ensures room { OnOk result (length (outputs_at self.old.shown.core.plan.channels actor) ≤ self.new.room) }
         ensures unchanged { OnErr result (self.new.shown ≡ self.old.shown) }
         ensures room_stays { OnErr result (self.old.room ≤ self.new.room) }
@@ -231,65 +226,8 @@ impl Book {
         self.fire(alloc, actor, n, outputs.as_slice())
     }
 
-    /// Makes the actor's next firing, which it can make.
-    fn make_next(
-        &mut self,
-        actor: u32,
-        counts: &mut Counts,
-        outputs: &mut Outputs,
-    ) -> Result<(), AllocError>
-        requires exists { actor < length self.old.shown.core.plan.sources }
-        requires can { CanFire self.old.shown.core.plan self.old.shown.core.now actor 1 }
-        ensures made { OnOk result (HasMade self.old.shown self.new.shown actor 1 (made_moves self.old.shown actor 1)) }
-        ensures rest { OnOk result (LeavesRest self.old.shown.core self.new.shown.core actor) }
-        ensures room { OnOk result (length (outputs_at self.old.shown.core.plan.channels actor) ≤ self.new.room) }
-        ensures unchanged { OnErr result (self.new.shown ≡ self.old.shown) }
-        ensures room_stays { OnErr result (self.old.room ≤ self.new.room) }
-        ensures before { IsHonest (program self.old.shown.work) self.old.shown.journal }
-    {
-        let _held = self.core.holds(actor, 1);
-        let block = Block {
-            firings: 1,
-            needed: self.core.need(actor) as u64,
-            given: self.core.gives(actor) as u64,
-        };
-        self.make(actor, block, counts, outputs)
-    }
-
-    /// Makes the actor's next n firings, which it can make, one after the other: what one of them writes
-    /// may be read by a later one. It makes fewer where memory runs out after the first.
-    fn make_each(
-        &mut self,
-        actor: u32,
-        n: u32,
-        counts: &mut Counts,
-        outputs: &mut Outputs,
-    ) -> Result<u32, AllocError>
-        requires exists { actor < length self.old.shown.core.plan.sources }
-        requires some { 0 < n }
-        requires can { CanFire self.old.shown.core.plan self.old.shown.core.now actor n }
-        ensures some { IfOk result (λ made. 0 < made) }
-        ensures most { IfOk result (λ made. made ≤ n) }
-        ensures made { IfOk result (λ made. HasMade self.old.shown self.new.shown actor made (made_moves self.old.shown actor made)) }
-        ensures room { OnOk result (length (outputs_at self.old.shown.core.plan.channels actor) ≤ self.new.room) }
-        ensures unchanged { OnErr result (self.new.shown ≡ self.old.shown) }
-        ensures room_stays { OnErr result (self.old.room ≤ self.new.room) }
-    {
-        self.core.begins(actor);
-        self.make_next(actor, counts, outputs)?;
-        let mut made = 1;
-        while made < n {
-            if self.make_next(actor, counts, outputs).is_err() {
-                break;
-            }
-            made += 1;
-        }
-        Ok(made)
-    }
-
-    /// Makes the block: at once where its firings find all that they read, or keep a state in one channel.
-    /// Else it makes the first of them that find all, where these are many, or all of them one after the
-    /// other, and then fewer where memory runs out after the first.
+    /// Makes the block: at once where its firings find all that they read, or keep a state in one channel, and else
+    /// with their values told one after another.
     fn make_block(
         &mut self,
         actor: u32,
@@ -315,12 +253,8 @@ impl Book {
             self.make_with_state(actor, feedback, block.firings, counts, outputs)?;
             return Ok(block.firings);
         }
-        let held = self.core.held(actor, block.firings);
-        if held.firings >= LONG_DELAY {
-            self.make(actor, held, counts, outputs)?;
-            return Ok(held.firings);
-        }
-        self.make_each(actor, block.firings, counts, outputs)
+        self.make_successive(actor, block, counts, outputs)?;
+        Ok(block.firings)
     }
 
     /// What the actor's present firing computes from.
@@ -366,16 +300,12 @@ impl Book {
         }
     }
 
-    /// Whether the actor may begin again after a block of so many firings: one of several phases, since a
-    /// block ends with a cycle of them, and is shorter where the next firing is refused; and one with a
-    /// channel to itself, since its block may have been cut where that holds no more tokens. It decides no
-    /// more than how many firings one call makes.
+    /// Whether the actor may begin again after a block of so many firings: one of several phases, since a block ends
+    /// with a cycle of them, and is shorter where the next firing is refused. It decides no more than how many firings
+    /// one call makes.
     fn may_go_on(&self, actor: u32, n: u32) -> bool
         requires { actor < length self.now.shown.core.plan.sources }
     {
-        if n >= LONG_DELAY && self.core.has_loop(actor) {
-            return true;
-        }
         let phases = self.work.phases(actor);
         phases > 1 && n >= phases
     }

@@ -11,12 +11,14 @@ mod light;
 mod looping;
 mod numbers;
 mod outputs;
+mod prepared;
 mod small;
 
 use csdf_model::{Kernel, MAX_CHANNELS, MAX_TOKENS_PER_FIRING, MAX_TOTAL_PER_FIRING};
 pub use looping::eval_loop;
 use outputs::outputs_into;
 pub use outputs::{Outputs, eval_block, push_value};
+pub use prepared::Prepared;
 use smallvec::SmallVec;
 use std::alloc::{AllocError, Global};
 use std::marker::Model;

@@ -53,6 +53,3 @@ fire-requires-clause-values c =
 
 pub returns-clause-made : goal.returns-clause-made
 returns-clause-made c = rw (← c.in_ok-make_room_for.ensures.shown, ← c.peek.ensures.shown) c.fire.ensures.made
-
-pub returns-clause-rest : goal.returns-clause-rest
-returns-clause-rest c = rw (← c.in_ok-make_room_for.ensures.shown, ← c.peek.ensures.shown) c.fire.ensures.rest
