@@ -45,6 +45,7 @@ pub mod BlockPorts
 pub mod OnePhase
 pub mod OwnChannels
 pub mod OwnReads
+pub mod OwnPlaces
 pub mod BlockTokens
 pub mod BlockBegins
 pub mod BlockMachines

@@ -1,12 +1,12 @@
 -- What firings read one after another, where what those before them left in the channels from the actor to itself is put in.
 use Rattle.std.proofs.Common.{◌≡◌, ◌≢◌, ℕ, zero, suc, ◌+◌, ◌-◌, ◌<◌, ◌≤◌, ◌==◌, cond, Bool, inl, inr, List, [], ◌∷◌, ◌++◌, length, get_or, take, drop}
-use Rattle.std.proofs.Common.{refl, ap, ap₂, ◌∙◌, sym, subst, arith, append_assoc, append-nil}
+use Rattle.std.proofs.Common.{refl, ap, ap₂, ◌∙◌, sym, arith, append_assoc, append-nil}
 use Rattle.std.specs.Prelude.{ℤ}
 use Rattle.std.specs.List.{AllByRecursion}
 use Rattle.std.proofs.Math.Seq.{take-append_seam, drop-append_seam}
 use Rattle.std.proofs.lemmas.Bool.Decides.{eqb_tells}
 use Rattle.std.proofs.lemmas.List.{drop_more, take_all, take-take, take-append-le, drop-append-le, drop-take, length-append, length-drop, length-take-le}
-use Rattle.csdf_core.specs.Blocks.{gifts_of, takes_at, gives_at, fronts, reads_over}
+use Rattle.csdf_core.specs.Blocks.{gifts_of, takes_at, fronts, reads_over}
 use Rattle.csdf_core.specs.Engine.{FindsIn, filled, gives_to, reads_of, there_of}
 use Rattle.csdf_core.specs.Own.{AreOwn, OwnEnough, own_laid, own_left, own_passed}
 use Rattle.csdf_core.specs.Plan.{Channel, from_at}

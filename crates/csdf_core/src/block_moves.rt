@@ -91,6 +91,7 @@ pub(crate) struct Share {
 }
 
 /// Where the firing's writes have the tokens of the output.
+#[inline(always)]
 pub(crate) fn share_of(plan: &Plan, actor: u32, channel: u32, turn: Turn) -> Share
     requires actor { actor < length plan.now.sources }
     requires channel { channel < length plan.now.channels }

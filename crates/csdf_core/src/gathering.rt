@@ -66,14 +66,14 @@ fn put_next(tokens: &mut Tokens<'_>, into: &mut [i32], place: usize, n: usize)
 /// Where a firing's reads have the tokens of one input: how many it reads in all, how many of them
 /// stand before these, and how many these are.
 #[derive(Clone, Copy)]
-struct Slot {
-    need: usize,
-    from: usize,
-    taken: usize,
+pub(crate) struct Slot {
+    pub(crate) need: usize,
+    pub(crate) from: usize,
+    pub(crate) taken: usize,
 }
 
 /// Where the firing's reads have the tokens of the input at this place.
-fn slot_of(plan: &Plan, actor: u32, place: usize, turn: Turn) -> Slot
+pub(crate) fn slot_of(plan: &Plan, actor: u32, place: usize, turn: Turn) -> Slot
     requires actor { actor < length plan.now.sources }
     requires place { place < length (inputs_at plan.now.channels actor) }
     requires in_phase { IsInPhase plan.now.channels actor turn.firing turn.phase }

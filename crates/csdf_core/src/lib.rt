@@ -13,6 +13,7 @@ mod laws;
 mod moves;
 mod nexts;
 mod own;
+mod own_places;
 mod plan;
 mod planned;
 mod playing;

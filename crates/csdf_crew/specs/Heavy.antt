@@ -1,6 +1,6 @@
--- Which graphs have an actor whose firings several workers gain by.
-use Rattle.std.specs.Prelude.{ℕ, ◌+◌, ◌*◌, ◌/◌, ◌==◌, ◌&&◌, ◌||◌, Bool, nat_le, nat_lt, List, length, min, sum_by, if◌then◌else◌}
-use Rattle.std.specs.List.{enumerate_from, list_all, list_any, zip}
+-- Which actors have firings that several workers gain by, and which graphs have enough of them.
+use Rattle.std.specs.Prelude.{ℕ, ◌+◌, ◌*◌, ◌/◌, ◌==◌, ◌&&◌, ◌||◌, Bool, nat_le, nat_lt, List, count_by, length, min, sum_by, if◌then◌else◌}
+use Rattle.std.specs.List.{enumerate_from, list_all, zip}
 use Rattle.csdf_model.specs.Graph.{Actor, Channel}
 use Rattle.csdf_model.specs.Rates.{consumption, production}
 use Rattle.csdf_model.specs.declared.parts.Kernel.{Kernel}
@@ -56,6 +56,10 @@ has_blocks channels capacities a actor =
 abbrev pub is_heavy : List Channel → List ℕ → ℕ → Actor → Bool
 is_heavy channels capacities a actor = nat_le 16384 (products channels a actor) || has_blocks channels capacities a actor
 
--- some actor of these is heavy
-abbrev pub has_heavy : List Actor → List Channel → List ℕ → Bool
-has_heavy actors channels capacities = list_any (λ (row : ℕ × Actor). is_heavy channels capacities row.0 row.1) (enumerate_from 0 actors)
+-- how many actors are heavy
+abbrev pub heavy_count : List Actor → List Channel → List ℕ → ℕ
+heavy_count actors channels capacities = count_by (λ (row : ℕ × Actor). is_heavy channels capacities row.0 row.1) (enumerate_from 0 actors)
+
+-- two or more are: the firings of one alone come one after another, by however many workers
+abbrev pub gains_by_workers : List Actor → List Channel → List ℕ → Bool
+gains_by_workers actors channels capacities = nat_le 2 (heavy_count actors channels capacities)

@@ -1,9 +1,9 @@
-//! Which graphs have an actor whose firings several workers gain by.
+//! Which actors have firings that several workers gain by, and which graphs have enough of them.
 
-ghost use Rattle.std.specs.Prelude.{◌≡◌, ◌≤◌, ◌*◌, length, map, sum_by};
-ghost use Rattle.std.specs.List.{enumerate_from, list_all, list_any, zip};
+ghost use Rattle.std.specs.Prelude.{◌≡◌, ◌≤◌, ◌*◌, count_by, length, map, sum_by};
+ghost use Rattle.std.specs.List.{enumerate_from, list_all, zip};
 ghost use Rattle.csdf_model.specs.Graph.{actor_view, channel_view};
-ghost use Rattle.csdf_crew.specs.Heavy.{firings_of_block, has_blocks, has_heavy, hold_all, holds, is_heavy, keeps_state, products, read_from, taps_of, written_to};
+ghost use Rattle.csdf_crew.specs.Heavy.{firings_of_block, gains_by_workers, has_blocks, hold_all, holds, is_heavy, keeps_state, products, read_from, taps_of, written_to};
 
 use csdf_analysis::Accepted;
 use csdf_model::{Actor, Channel, Kernel, MAX_CHANNELS};
@@ -134,20 +134,26 @@ fn is_heavy(channels: &[Channel], capacities: &[u32], number: usize, actor: &Act
         || has_blocks(channels, capacities, number, actor)
 }
 
-/// Whether some actor of these is heavy.
-fn is_any_heavy(actors: &[Actor], channels: &[Channel], capacities: &[u32]) -> bool
+/// How many of these actors are heavy.
+fn heavy_count(actors: &[Actor], channels: &[Channel], capacities: &[u32]) -> usize
     requires { length channels.now ≤ MAX_CHANNELS }
-    ensures { result ≡ list_any (λ row. is_heavy (map channel_view channels.now) capacities.now row.0 (actor_view row.1)) (enumerate_from 0 actors.now) }
+    ensures { result ≡ count_by (λ row. is_heavy (map channel_view channels.now) capacities.now row.0 (actor_view row.1)) (enumerate_from 0 actors.now) }
 {
-    actors.iter().enumerate().any(|(number, actor)| is_heavy(channels, capacities, number, actor))
+    actors
+        .iter()
+        .enumerate()
+        .filter(|(number, actor)| is_heavy(channels, capacities, *number, actor))
+        .count()
 }
 
-/// Whether some actor of an accepted graph is heavy: its first firing takes 16,384 products or more, which are its
-/// weights times the tokens that it reads; or it has one phase, and its channels hold the firings of a block of 98,304
-/// products. Where none is, more workers than one bring nothing.
-pub fn has_heavy(accepted: &Accepted) -> bool
-    ensures { result ≡ has_heavy accepted.now.graph.actors accepted.now.graph.channels accepted.now.capacities }
+/// Whether several workers can make a run of an accepted graph faster than one: two of its actors or more are heavy.
+///
+/// An actor is heavy whose first firing takes 16,384 products or more, which are its weights times the tokens that it
+/// reads; or which has one phase, and its channels hold the firings of a block of 98,304 products. Heavy firings of one
+/// actor alone come one after another, by however many workers.
+pub fn gains_by_workers(accepted: &Accepted) -> bool
+    ensures { result ≡ gains_by_workers accepted.now.graph.actors accepted.now.graph.channels accepted.now.capacities }
 {
     let graph = accepted.graph();
-    is_any_heavy(graph.actors(), graph.channels(), accepted.capacities())
+    heavy_count(graph.actors(), graph.channels(), accepted.capacities()) >= 2
 }

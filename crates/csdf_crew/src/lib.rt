@@ -18,7 +18,7 @@ mod worker;
 
 pub use alone::run_alone;
 pub use gate::{Gate, Open};
-pub use heavy::has_heavy;
+pub use heavy::gains_by_workers;
 pub use policy::Crew;
 pub use threads::run_crew;
 pub use told::Told;

@@ -23,14 +23,6 @@ use std::sync::Wait;
 use std::thread;
 use std::thread::{Promise, PromisedHandle, Threads};
 
-/// What a crew has come to: the floor as it was left, and how many firings of each actor were finished, or
-/// why the run was given up.
-#[derive(Drop)]
-struct CrewEnd {
-    floor: Floor,
-    totals: Result<Vec<u32>, RunFault>,
-}
-
 /// The place that a worker hands back is one of this board, and holds nothing where the worker did not give up.
 #[derive(Clone, Copy)]
 struct OfBoard<'a>(&'a Board);
@@ -258,34 +250,40 @@ fn finished_by<K: Asked + Send + Sync, R: Threads + Wait + Sync, G: Told>(
 }
 
 /// Runs the floor by a crew, where the type `K` says what is asked: each firing is computed by one worker,
-/// without the lock. The floor comes back, whether they made the run or not.
+/// without the lock. The floor is settled, whether they made the run or not.
 fn run_as<K: Asked + Send + Sync, R: Threads + Wait + Sync, G: Told>(
     rt: &R,
     alloc: Global,
     floor: Floor,
     crew: Crew,
     gate: &G,
-) -> CrewEnd
+) -> Settled
     requires actors { crew.actors ≤ MAX_ACTORS }
     requires floor { (floor.keeps ≡ K.keeps) × (floor.work ≡ K.work) }
-    ensures floor { (result.floor.keeps ≡ K.keeps) × (result.floor.work ≡ K.work) }
-    ensures count { IfOk result.totals (λ totals. length totals.items ≡ crew.actors) }
-    ensures cause { IfErr result.totals (IsCauseAmong crew.workers) }
+    ensures accepted { result.fed.accepted ≡ K.work.accepted }
+    ensures feeds { feeds_in result.fed.feeds.items ≡ K.work.feeds }
+    ensures outcome { IfOk result.outcome (IsOutcome K.work) }
+    ensures keeps { IfOk result.outcome (λ o. o.journal.keeps ≡ K.keeps) }
+    ensures cause { IfErr result.outcome (IsCauseAmong crew.workers) }
 {
     let ready = match ReadySet::new(alloc, floor.accepted()) {
         Ok(ready) => ready,
         Err(_error) => {
-            return CrewEnd {
-                floor,
-                totals: Err(RunFault::Memory),
+            return Settled {
+                fed: floor.into_fed(),
+                outcome: Err(RunFault::Memory),
             };
         }
     };
     let monitor: Monitor<K> = Monitor::new(floor, ready, crew);
     let totals = finished_by(rt, alloc, &monitor, crew, gate);
-    CrewEnd {
-        floor: monitor.into_floor(),
-        totals,
+    let floor = monitor.into_floor();
+    match totals {
+        Ok(totals) => settle_and_hand_back(alloc, floor, totals.as_slice()),
+        Err(fault) => Settled {
+            fed: floor.into_fed(),
+            outcome: Err(fault),
+        },
     }
 }
 
@@ -309,12 +307,5 @@ pub fn run_crew<R: Threads + Wait + Sync, G: Told>(
     ensures keeps { IfOk result.outcome (λ o. o.journal.keeps ≡ floor.keeps) }
     ensures cause { IfErr result.outcome (IsCauseAmong crew.workers) }
 {
-    let CrewEnd { floor, totals } = run_as::<Brand, R, G>(rt, alloc, floor, crew, gate);
-    match totals {
-        Ok(totals) => settle_and_hand_back(alloc, floor, totals.as_slice()),
-        Err(fault) => Settled {
-            fed: floor.into_fed(),
-            outcome: Err(fault),
-        },
-    }
+    run_as::<Brand, R, G>(rt, alloc, floor, crew, gate)
 }

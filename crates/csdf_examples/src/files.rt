@@ -3,7 +3,7 @@
 use anyhow::anyhow;
 use csdf_analysis::{Length, Room};
 use csdf_journal::Keeping;
-use csdf_run::{Open, RunOptions, Texts, run_texts_with};
+use csdf_run::{Host, Open, RunOptions, Texts, run_texts_with};
 use std::alloc::Global;
 use std::rt::Files;
 use std::sync::Wait;
@@ -30,7 +30,7 @@ fn texts_of<R: Threads + Wait + Sync>(
         room: Room::Auto,
         keeping: Keeping::NotKept,
     };
-    match run_texts_with(rt, alloc, graph, feeds, options, &Open) {
+    match run_texts_with(Host { rt, alloc }, graph, feeds, options, &Open) {
         Ok(texts) => Ok(texts),
         Err(fault) => Err(anyhow!("{fault}")),
     }

@@ -5,7 +5,7 @@ use crate::analysis::accepted_in;
 use crate::floor::feeds_of;
 use anyhow::{anyhow, ensure};
 use csdf_floor::{are_feeds, may_run};
-use csdf_run::{Open, Part, Stream, Stretch};
+use csdf_run::{Host, Open, Part, Stream, Stretch};
 use std::alloc::Global;
 use std::io;
 use std::sync::Wait;
@@ -44,7 +44,7 @@ fn goes_on<R: Threads + Wait + Sync>(
         stream,
         feeds: _,
         part,
-    } = stream.segment(rt, alloc, feeds, 2, periods, &Open);
+    } = stream.segment(Host { rt, alloc }, feeds, 2, periods, &Open);
     match part {
         Ok(part) => Ok((stream, part)),
         Err(fault) => Err(anyhow!("{fault}")),

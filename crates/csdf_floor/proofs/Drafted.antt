@@ -1,5 +1,5 @@
 -- Firings that are made from a draft.
-use Rattle.std.proofs.Common.{◌≡◌, ℕ, zero, suc, ◌+◌, ◌-◌, ◌*◌, ◌<◌, ◌≤◌, Bool, true, false, List, [], ◌∷◌, ◌++◌, length, get_or, take, drop, refl, ap, ap₂}
+use Rattle.std.proofs.Common.{◌≡◌, ℕ, zero, suc, ◌-◌, ◌*◌, ◌<◌, Bool, true, false, List, [], ◌++◌, length, get_or, take, drop, refl, ap, ap₂}
 use Rattle.std.proofs.Common.{sym, subst, ◌∙◌, arith, append-nil}
 use Rattle.std.specs.Prelude.{ℤ}
 use Rattle.std.proofs.lemmas.Bool.{false≢true}
@@ -14,7 +14,7 @@ use Rattle.csdf_core.specs.Plan.{Channel, Plan}
 use Rattle.csdf_core.specs.Playable.{IsPlayable}
 use Rattle.csdf_core.specs.Ports.{inputs_at}
 use Rattle.csdf_core.specs.Rows.{need}
-use Rattle.csdf_core.specs.State.{Present, State, present}
+use Rattle.csdf_core.specs.State.{Present, present}
 use Rattle.csdf_core.specs.Step.{count, is_source, stage}
 use Rattle.csdf_floor.specs.Drafts.{AreOwnIn, DraftView, IsDraftOf, IsDrafted, IsDraftedAt, Suits, values_in}
 use Rattle.csdf_floor.specs.Floor.{FloorView, IsKept}

@@ -1,13 +1,13 @@
 -- A source has no inputs, so that its firings read nothing.
-use Rattle.std.proofs.Common.{◌≡◌, ℕ, zero, suc, ◌<◌, ◌==◌, ◌&&◌, nat_le, cond, Bool, true, false, inl, inr, List, [], ◌∷◌, length, map, get_or, refl, ap, sym, subst, ◌∙◌, arith}
+use Rattle.std.proofs.Common.{◌≡◌, ℕ, suc, ◌<◌, ◌==◌, ◌&&◌, nat_le, cond, Bool, true, false, inl, inr, List, [], ◌∷◌, length, map, get_or, refl, ap, sym, subst, ◌∙◌, arith}
 use Rattle.std.specs.Prelude.{ℤ, count_by}
-use Rattle.std.specs.List.{AllByRecursion, zip}
+use Rattle.std.specs.List.{zip}
 use Rattle.std.proofs.lemmas.Bool.Decides.{eqb_tells}
 use Rattle.std.proofs.lemmas.List.{get_or-map, length-map}
 use Rattle.std.proofs.lemmas.List.Sums.{sum_by-cons}
 use Rattle.csdf_model.specs.declared.parts.Kernel.{Kernel}
 use Rattle.csdf_model.specs.declared.parts.Kernel.TheVariants as kernel
-use Rattle.csdf_model.specs.Checks.{has_ports, ports_fit}
+use Rattle.csdf_model.specs.Checks.{ports_fit}
 use Rattle.csdf_model.specs.Graph as graph
 use Rattle.csdf_model.specs.Graph.{Actor, Graph, input_count, numbers_from, output_count}
 use Rattle.csdf_core.specs.Blocks.{HoldAll}

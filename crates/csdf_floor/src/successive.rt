@@ -1,14 +1,15 @@
 //! The values of firings that read what those before them in the block write, told one after another.
 //!
 //! The actor's buffer has what the firings read, but for the tokens of channels from the actor to itself. What these
-//! hold is kept beside ([`OwnTokens`]): each firing reads out of it, and puts its share back.
+//! hold is kept beside ([`OwnTokens`]), with the places where a firing has it: each firing reads out of it, and puts its
+//! share back.
 
 ghost use Rattle.std.specs.Prelude.{ℕ, ◌≡◌, ◌+◌, ◌*◌, ◌++◌, ◌<◌, ◌≤◌, [], false, List, ℤ, All, OnOk, OnErr, length, slice_index, slice_index_or, sum};
 ghost use Rattle.smallvec.specs.SmallVec.{HasRoomFor};
 ghost use Rattle.csdf_model.specs.declared.parts.Kernel.TheVariants.{Sink};
 ghost use Rattle.csdf_core.specs.Blocks.{gifts_of, needs_of};
 ghost use Rattle.csdf_core.specs.Engine.{CanFire, reads_of, there_of};
-ghost use Rattle.csdf_core.specs.Own.{AreOwn, OwnEnough, own_laid, own_passed};
+ghost use Rattle.csdf_core.specs.Own.{AreOwn, ArePlaced, OwnEnough, own_laid, own_passed};
 ghost use Rattle.csdf_core.specs.Phases.{IsInPhase};
 ghost use Rattle.csdf_core.specs.Ports.{inputs_at, outputs_at, take_at, tokens_at};
 ghost use Rattle.csdf_core.specs.Rows.{gift, need};
@@ -42,17 +43,19 @@ fn push_next(
     requires few_counts { length counts.now ≤ MAX_CHANNELS }
     requires small_counts { All (λ count. count ≤ MAX_TOKENS_PER_FIRING) counts.now }
     requires all_counts { sum counts.now ≡ gift actor turn.firing core.now.plan.channels }
-    requires each { length own.old ≡ length (inputs_at core.now.plan.channels actor) }
-    requires enough { OwnEnough core.now.plan.channels actor (take_at core.now.plan.channels turn.firing) own.old }
+    requires placed { ArePlaced core.now.plan.channels actor turn.firing own.old.places }
+    requires each { length own.old.queues ≡ length (inputs_at core.now.plan.channels actor) }
+    requires enough { OwnEnough core.now.plan.channels actor (take_at core.now.plan.channels turn.firing) own.old.queues }
     requires part { length part.old ≡ need actor turn.firing core.now.plan.channels }
     requires few { length part.old ≤ MAX_TOTAL_PER_FIRING }
     requires room { HasRoomFor outputs.old (gift actor turn.firing core.now.plan.channels) }
-    ensures part { (tokens : ℕ → List ℤ) → AreOwn core.now.plan.channels actor tokens own.old → part.new
+    ensures part { (tokens : ℕ → List ℤ) → AreOwn core.now.plan.channels actor tokens own.old.queues → part.new
         ≡ own_laid core.now.plan.channels actor (take_at core.now.plan.channels turn.firing) (inputs_at core.now.plan.channels actor) tokens part.old }
     ensures items { outputs.new.items ≡ outputs.old.items ++ value_of kernel.now counts.now part.new }
     ensures capacity { outputs.new.capacity ≡ outputs.old.capacity }
-    ensures own { OnOk result ((tokens : ℕ → List ℤ) → AreOwn core.now.plan.channels actor tokens own.old
-        → AreOwn core.now.plan.channels actor (own_passed core.now.plan.channels actor turn.firing (value_of kernel.now counts.now part.new) tokens) own.new) }
+    ensures own { OnOk result ((tokens : ℕ → List ℤ) → AreOwn core.now.plan.channels actor tokens own.old.queues
+        → AreOwn core.now.plan.channels actor (own_passed core.now.plan.channels actor turn.firing (value_of kernel.now counts.now part.new) tokens) own.new.queues) }
+    ensures places { own.new.places ≡ own.old.places }
 {
     core.lay_own(actor, turn, own, part);
     let before = outputs.len();
@@ -77,7 +80,8 @@ impl Work {
         requires plan { core.now.plan ≡ (program self.now).plan }
         requires no_source { is_source core.now.plan actor ≡ false }
         requires can { CanFire core.now.plan core.now.now actor n }
-        requires own { AreOwn core.now.plan.channels actor (tokens_at core.now.now.tokens) own.old }
+        requires own { AreOwn core.now.plan.channels actor (tokens_at core.now.now.tokens) own.old.queues }
+        requires placed { ArePlaced core.now.plan.channels actor (count core.now.now actor) own.old.places }
         requires size { length buffer.old ≡ needs_of core.now.plan.channels actor (count core.now.now actor) n }
         requires there { buffer.old ≡ there_of core.now.plan.channels actor (count core.now.now actor) n core.now.now.tokens }
         requires empty { outputs.old.items ≡ [] }
@@ -106,6 +110,7 @@ impl Work {
                 outputs,
             )?;
             let after = core.turn_after(actor, turn);
+            core.turn_own(actor, turn, after, own);
             put_counts_after(core, actor, has_one_phase, turn, after, counts)?;
             turn = after;
             at = end;

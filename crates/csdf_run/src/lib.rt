@@ -2,6 +2,7 @@
 #![tactic(auto)]
 
 mod alone;
+mod host;
 mod no_outcome;
 mod options;
 mod periods;
@@ -16,6 +17,7 @@ mod totals;
 mod watch;
 
 pub use csdf_crew::{Gate, Open};
+pub use host::Host;
 pub use no_outcome::NoOutcome;
 pub use options::RunOptions;
 pub use running::run;

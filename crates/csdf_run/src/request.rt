@@ -10,7 +10,7 @@ ghost use Rattle.csdf_run.specs.Texts.{GoesOnFor, MayGoOnOver, work_for};
 use crate::options::RunOptions;
 use crate::periods::periods_of;
 use csdf_analysis::most_firings;
-use csdf_crew::has_heavy;
+use csdf_crew::gains_by_workers;
 use csdf_floor::{Fed, Floor, RunBounds};
 use csdf_model::MAX_ACTORS;
 use std::alloc::{AllocError, Global};
@@ -129,9 +129,27 @@ impl RunRequest {
         self.options.workers
     }
 
-    /// Whether more workers than one can be faster: some actor of its graph is heavy.
-    pub(crate) fn has_heavy(&self) -> bool {
-        has_heavy(&self.fed.accepted)
+    /// The same, by so many workers.
+    pub(crate) fn by(self, workers: u32) -> RunRequest
+        ensures work { result.work ≡ self.work }
+        ensures workers { result.workers ≡ workers }
+        ensures keeps { result.keeps ≡ self.keeps }
+    {
+        let RunRequest {
+            fed,
+            periods,
+            options,
+        } = self;
+        RunRequest {
+            fed,
+            periods,
+            options: RunOptions { workers, ..options },
+        }
+    }
+
+    /// Whether several workers can be faster than one: two actors of its graph or more are heavy.
+    pub(crate) fn gains_by_workers(&self) -> bool {
+        gains_by_workers(&self.fed.accepted)
     }
 
     /// How many firings it makes at most, by the tokens of the sources, its periods and its limit. An

@@ -30,6 +30,14 @@ fn processors(rt: &impl Threads) -> u32 {
     }
 }
 
+/// How many workers make the firings of a run: as many as are asked for, and no more than there are processors for
+/// them, since others would only sleep.
+fn busy_workers(rt: &impl Threads, asked: u32) -> u32
+    ensures { result ≤ asked }
+{
+    asked.min(processors(rt))
+}
+
 /// What [`outcome_of`] answers, by a gate that is told how far the run has come.
 fn outcome_told<R: Threads + Wait + Sync, G: Told>(
     rt: &R,
@@ -127,8 +135,9 @@ fn outcome_by_crew<R: Threads + Wait + Sync, W: Watch>(
 
 /// What a request comes to of which a watch is told, and what was run, which comes back.
 ///
-/// One worker needs no lock and no board. A run in which no actor is heavy is made by the calling thread too: others
-/// would only sleep.
+/// One worker needs no lock and no board. A run in which fewer than two actors are heavy is made by the calling thread
+/// too: the firings of one come one after another, whoever makes them, and the others are light. There are no more
+/// workers than processors.
 pub(crate) fn watched_outcome_of<R: Threads + Wait + Sync, W: Watch>(
     rt: &R,
     alloc: Global,
@@ -140,12 +149,13 @@ pub(crate) fn watched_outcome_of<R: Threads + Wait + Sync, W: Watch>(
     ensures cause { IfErr result.outcome (IsWantAmong request.workers) }
     ensures keeps { IfOk result.outcome (λ o. o.journal.keeps ≡ request.keeps) }
 {
-    if request.workers() <= 1 || !request.has_heavy() {
+    let workers = busy_workers(rt, request.workers());
+    if workers <= 1 || !request.gains_by_workers() {
         let gate = Watching { watch };
         let told = Telling { gate: &gate };
         return outcome_alone(rt, alloc, request, &told);
     }
-    outcome_by_crew(rt, alloc, request, watch)
+    outcome_by_crew(rt, alloc, request.by(workers), watch)
 }
 
 /// Runs so many periods of an accepted graph over these feeds by worker threads: each firing is computed

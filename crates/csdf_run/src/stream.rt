@@ -9,6 +9,7 @@ ghost use Rattle.csdf_floor.specs.Work.{AreFeeds, HasFewFirings, feeds_in};
 ghost use Rattle.csdf_run.specs.Causes.{IsWantAmong};
 ghost use Rattle.csdf_run.specs.Totals.{totals_of, with_report};
 
+use crate::host::Host;
 use crate::no_outcome::{NoOutcome, Ran};
 use crate::options::RunOptions;
 use crate::request::RunRequest;
@@ -180,8 +181,7 @@ impl Stream {
     /// The watch is told how far the segment has come. Where there is a fault, the stream stands where it stood.
     pub fn segment<R: Threads + Wait + Sync, W: Watch>(
         self,
-        rt: &R,
-        alloc: Global,
+        host: Host<'_, R>,
         feeds: Vec<Vec<i32>>,
         workers: u32,
         periods: u32,
@@ -213,6 +213,7 @@ impl Stream {
             room: Room::Least,
             keeping: Keeping::NotKept,
         };
+        let Host { rt, alloc } = host;
         let request = RunRequest::new(Fed { accepted, feeds }, options);
         let Ran { fed, outcome } = watched_outcome_of(rt, alloc, request, watch);
         let Fed { accepted, feeds } = fed;

@@ -14,6 +14,7 @@ ghost use Rattle.csdf_floor.specs.Work.{AreFeeds, Work, feeds_in};
 ghost use Rattle.csdf_journal.specs.View.{is_kept};
 ghost use Rattle.csdf_run.specs.Scripts.{kept_script};
 
+use crate::host::Host;
 use crate::options::RunOptions;
 use crate::request::RunRequest;
 use crate::running::outcome_of;
@@ -320,7 +321,7 @@ pub fn run_texts<R: Threads + Wait + Sync>(
         room: Room::Least,
         keeping: Keeping::NotKept,
     };
-    run_texts_with(rt, alloc, graph, feeds, options, &Open)
+    run_texts_with(Host { rt, alloc }, graph, feeds, options, &Open)
 }
 
 /// As [`run_texts`], for so many periods or until a source has run dry, where the channels that have no
@@ -329,8 +330,7 @@ pub fn run_texts<R: Threads + Wait + Sync>(
 /// The refusals are those of [`run_texts`]: room is no cause of one. Where a run is complete, its sinks'
 /// texts are those of every other complete run of the same file, texts and length, in whatever room.
 pub fn run_texts_with<R: Threads + Wait + Sync, G: Gate>(
-    rt: &R,
-    alloc: Global,
+    host: Host<'_, R>,
     graph: &[u8],
     feeds: &[Vec<u8>],
     options: RunOptions,
@@ -347,8 +347,8 @@ pub fn run_texts_with<R: Threads + Wait + Sync, G: Gate>(
     ensures refused { IfErr result (IsRefusal options.room graph.now (texts_in feeds.now)) }
     ensures cause { IfErr result (IsRunCause options.workers) }
 {
-    match read_graph(alloc, graph) {
-        Ok(graph) => run_graph_with(rt, alloc, graph, feeds, options, gate),
+    match read_graph(host.alloc, graph) {
+        Ok(graph) => run_graph_with(host, graph, feeds, options, gate),
         Err(fault) => Err(TextsFault::Graph(fault)),
     }
 }
@@ -357,8 +357,7 @@ pub fn run_texts_with<R: Threads + Wait + Sync, G: Gate>(
 ///
 /// The refusals are those of `run_texts_with` but for those of the graph file, [`TextsFault::Graph`].
 pub fn run_graph_with<R: Threads + Wait + Sync, G: Gate>(
-    rt: &R,
-    alloc: Global,
+    host: Host<'_, R>,
     graph: Graph,
     feeds: &[Vec<u8>],
     options: RunOptions,
@@ -375,7 +374,7 @@ pub fn run_graph_with<R: Threads + Wait + Sync, G: Gate>(
     ensures refused { IfErr result (IsGraphRefusal options.room graph (texts_in feeds.now)) }
     ensures cause { IfErr result (IsRunCause options.workers) }
 {
-    let GraphRun { graph: _, texts } = run_and_hand_back(rt, alloc, graph, feeds, options, gate);
+    let GraphRun { graph: _, texts } = run_and_hand_back(host, graph, feeds, options, gate);
     texts
 }
 
@@ -384,8 +383,7 @@ pub fn run_graph_with<R: Threads + Wait + Sync, G: Gate>(
 /// Names, kernels, rates and initial tokens of the graph that is handed back are those of the one that
 /// was handed in. Where that one is not accepted, it is equal to it.
 pub fn run_and_hand_back<R: Threads + Wait + Sync, G: Gate>(
-    rt: &R,
-    alloc: Global,
+    host: Host<'_, R>,
     graph: Graph,
     feeds: &[Vec<u8>],
     options: RunOptions,
@@ -403,6 +401,7 @@ pub fn run_and_hand_back<R: Threads + Wait + Sync, G: Gate>(
     ensures refused { IfErr result.texts (IsGraphRefusal options.room graph (texts_in feeds.now)) }
     ensures cause { IfErr result.texts (IsRunCause options.workers) }
 {
+    let Host { rt, alloc } = host;
     let fed = match fed_of(alloc, graph, feeds, options.room) {
         Ok(fed) => fed,
         Err(unfed) => {

@@ -8,6 +8,7 @@ ghost use Rattle.csdf_journal.specs.View.{is_kept};
 ghost use Rattle.csdf_run.specs.Texts.{AreTextsOf, IsHandedBack, MayGraphGoOn};
 ghost use Rattle.csdf_run.specs.Tokens.{AreReadOf, IsGraphRun, IsGraphRunSameInAnyRoom, IsSequentialGraphRun, IsTokensCause, IsTokensRefusal};
 
+use crate::host::Host;
 use crate::no_outcome::{NoOutcome, Ran};
 use crate::options::RunOptions;
 use crate::request::RunRequest;
@@ -118,8 +119,7 @@ fn told_of(outcome: Result<Outcome, NoOutcome>) -> Result<Outcome, TokensFault>
 /// run (the determinacy of dataflow graphs: Lee and Messerschmitt 1987), or a front of it where the limit
 /// on all firings or want of cells held the run back.
 pub fn run_tokens<R: Threads + Wait + Sync, W: Watch>(
-    rt: &R,
-    alloc: Global,
+    host: Host<'_, R>,
     graph: Graph,
     feeds: Result<Vec<Vec<i32>>, FeedFault>,
     options: RunOptions,
@@ -142,6 +142,7 @@ pub fn run_tokens<R: Threads + Wait + Sync, W: Watch>(
         → IfErr result.outcome (IsTokensRefusal options.room graph texts) }
     ensures cause { IfErr result.outcome (IsTokensCause options.workers) }
 {
+    let Host { rt, alloc } = host;
     let fed = match fed_with(alloc, graph, feeds, options.room) {
         Ok(fed) => fed,
         Err(unfed) => {

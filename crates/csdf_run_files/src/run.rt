@@ -24,7 +24,7 @@ use csdf_files::{feed_tokens, graph_bytes, keep_apart, put_file};
 use csdf_floor::{Outcome, list_at, printed_report};
 use csdf_graph::read_graph;
 use csdf_model::{Actor, Graph, MAX_ACTORS, actor_name};
-use csdf_run::{FeedFault, RunOptions, TokensFault, TokensRun, kept_script, run_tokens};
+use csdf_run::{FeedFault, Host, RunOptions, TokensFault, TokensRun, kept_script, run_tokens};
 use csdf_told::{Progress, chosen, report_object, run_fault, workers_for};
 use csdf_words::RunWords;
 use std::alloc::{AllocError, Global};
@@ -157,7 +157,13 @@ fn ran_over<R: AllocGlobal + Eprint + Threads + Wait + Sync>(
     let crew = chosen(order.workers, workers);
     let progress = Progress::new(rt, order.progress, crew);
     let options = RunOptions { workers, ..asked };
-    let TokensRun { graph, outcome } = run_tokens(rt, alloc, graph, feeds, options, &progress);
+    let TokensRun { graph, outcome } = run_tokens(
+        Host { rt, alloc },
+        graph,
+        feeds,
+        options,
+        &progress,
+    );
     progress.end();
     match outcome {
         Ok(outcome) => Ok(RunOfGraph { graph, outcome }),

@@ -2,7 +2,7 @@ use crate::shared::{accepted_in, expect_eq};
 use csdf_analysis::{Length, Room};
 use csdf_floor::{Ending, may_run, most_periods};
 use csdf_journal::Keeping;
-use csdf_run::{Open, RunOptions, Texts, run_texts_with};
+use csdf_run::{Host, Open, RunOptions, Texts, run_texts_with};
 use std::alloc::Global;
 use std::process::Abort;
 use std::sync::Wait;
@@ -56,7 +56,7 @@ fn dry_run<R: Threads + Wait + Sync>(
         room: Room::Least,
         keeping: Keeping::NotKept,
     };
-    match run_texts_with(rt, alloc, graph.as_bytes(), feeds, options, &Open) {
+    match run_texts_with(Host { rt, alloc }, graph.as_bytes(), feeds, options, &Open) {
         Ok(texts) => Ok(texts),
         Err(fault) => Err(fault.into()),
     }

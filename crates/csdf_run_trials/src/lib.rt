@@ -10,6 +10,8 @@ mod block_tests;
 #[cfg(test)]
 mod claim_tests;
 #[cfg(test)]
+mod crew_tests;
+#[cfg(test)]
 mod draft_tests;
 #[cfg(test)]
 mod flow_tests;

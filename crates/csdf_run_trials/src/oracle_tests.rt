@@ -10,13 +10,13 @@ use std::thread::Threads;
 
 /// A run that is complete, and needs all tokens of its feeds.
 #[derive(Clone, Copy)]
-struct Sample {
-    graph: &'static str,
+pub(crate) struct Sample {
+    pub(crate) graph: &'static str,
     feeds: &'static [&'static [i32]],
-    periods: u32,
+    pub(crate) periods: u32,
 }
 
-const SAMPLES: [Sample; 4] = [
+pub(crate) const SAMPLES: [Sample; 4] = [
     // rates that differ by phase
     Sample {
         graph: r#"actor = [
@@ -337,7 +337,7 @@ fn feeds_of(alloc: Global, feeds: &[&[i32]]) -> Result<Vec<Vec<i32>>, Fail> {
 }
 
 /// What the sample asks for.
-fn asked_in(alloc: Global, sample: &Sample) -> Result<Asked, Fail> {
+pub(crate) fn asked_in(alloc: Global, sample: &Sample) -> Result<Asked, Fail> {
     let accepted = accepted_in(alloc, sample.graph)?;
     let feeds = feeds_of(alloc, sample.feeds)?;
     Ok(Asked { accepted, feeds })

@@ -52,7 +52,8 @@ impl Dice {
         Ok(weights)
     }
 
-    fn tokens(&mut self, alloc: Global, count: u32) -> Result<Vec<i32>, Fail> {
+    /// So many tokens.
+    pub(crate) fn tokens(&mut self, alloc: Global, count: u32) -> Result<Vec<i32>, Fail> {
         let mut tokens = Vec::new(alloc);
         for _ in 0..count {
             tokens.push(self.token())?;

@@ -11,7 +11,11 @@ use std::process::Abort;
 use std::test::Fail;
 
 /// What is asked for over the graph, where it can go on for ever in its capacities.
-fn asked_of(alloc: Global, dice: &mut Dice, sketch: &Sketch) -> Result<Option<Asked>, Fail> {
+pub(crate) fn asked_of(
+    alloc: Global,
+    dice: &mut Dice,
+    sketch: &Sketch,
+) -> Result<Option<Asked>, Fail> {
     match accept(alloc, read_graph(alloc, sketch.text.as_bytes())?) {
         Ok(accepted) => {
             let feeds = sketch.feeds(alloc, dice)?;
@@ -22,7 +26,7 @@ fn asked_of(alloc: Global, dice: &mut Dice, sketch: &Sketch) -> Result<Option<As
     }
 }
 
-fn extent_of(dice: &mut Dice) -> Extent {
+pub(crate) fn extent_of(dice: &mut Dice) -> Extent {
     let limit = dice.roll(0, 80);
     Extent {
         periods: dice.roll(1, 6),

@@ -81,15 +81,15 @@ channel = [
 
 /// A run of a graph in which none but actor 0 is a source, and what its sinks took with its printed report.
 #[derive(Clone, Copy)]
-struct Case {
-    graph: &'static str,
-    feed: &'static [i32],
-    periods: u32,
-    firings: Option<u32>,
+pub(crate) struct Case {
+    pub(crate) graph: &'static str,
+    pub(crate) feed: &'static [i32],
+    pub(crate) periods: u32,
+    pub(crate) firings: Option<u32>,
     wanted: &'static str,
 }
 
-const CASES: [Case; 11] = [
+pub(crate) const CASES: [Case; 11] = [
     // enough tokens
     Case {
         graph: ACCUMULATED,

@@ -2,7 +2,7 @@
 
 use crate::shared::{accepted_in, asked_for, expect_eq};
 use csdf_floor::{Ending, are_exact, are_feeds, may_run};
-use csdf_run::{ChannelTotal, Open, Part, Stream, Stretch};
+use csdf_run::{ChannelTotal, Host, Open, Part, Stream, Stretch};
 use std::alloc::Global;
 use std::process::Abort;
 use std::sync::Wait;
@@ -57,7 +57,7 @@ fn segment_of<R: Threads + Wait + Abort + Sync>(
         stream,
         feeds: _,
         part,
-    } = stream.segment(rt, alloc, feeds, 2, periods, &Open);
+    } = stream.segment(Host { rt, alloc }, feeds, 2, periods, &Open);
     Ok((stream, part?))
 }
 

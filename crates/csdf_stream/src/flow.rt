@@ -21,7 +21,7 @@ use crate::writer::write_sinks;
 use csdf_analysis::Accepted;
 use csdf_bytes::{Intake, Outlet};
 use csdf_floor::are_exact;
-use csdf_run::{Part, Stream, Stretch, Watch};
+use csdf_run::{Host, Part, Stream, Stretch, Watch};
 use std::alloc::{AllocError, Global};
 use std::sync::Wait;
 use std::thread::Threads;
@@ -239,7 +239,7 @@ fn run_segment<R: Threads + Wait + Sync, O: Outlet, W: Watch>(
         stream,
         feeds,
         part,
-    } = stream.segment(rt, alloc, feeds, plan.workers, periods, watch);
+    } = stream.segment(Host { rt, alloc }, feeds, plan.workers, periods, watch);
     let part = match part {
         Ok(part) => part,
         Err(fault) => {

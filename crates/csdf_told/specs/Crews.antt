@@ -5,13 +5,13 @@ use Rattle.csdf_analysis.specs.Acceptance.{Accepted, IsAccepted, IsNotAccepted}
 use Rattle.csdf_analysis.specs.Room.{IsWithRoom}
 use Rattle.csdf_analysis.specs.declared.fault.AcceptFault.{AcceptFault}
 use Rattle.csdf_analysis.specs.declared.room.Room.{Room}
-use Rattle.csdf_crew.specs.Heavy.{has_heavy}
+use Rattle.csdf_crew.specs.Heavy.{gains_by_workers}
 use Rattle.csdf_words.specs.declared.workers.Workers.{Workers}
 use Rattle.csdf_words.specs.declared.workers.Workers.TheVariants.{Auto, Count}
 
--- where some actor is heavy as many as there are processors, at least one and at most eight of them; else one
+-- where two actors or more are heavy as many as there are processors, at least one and at most eight of them; else one
 abbrev pub paying_workers : Accepted → ℕ → ℕ
-paying_workers a processors = if has_heavy a.graph.actors a.graph.channels a.capacities then max (min processors 8) 1 else 1
+paying_workers a processors = if gains_by_workers a.graph.actors a.graph.channels a.capacities then max (min processors 8) 1 else 1
 
 -- they are as many as pay for the graph with this room, where there are so many processors; and one where it is not accepted
 abbrev pub ArePaying : Room → Graph → ℕ → Type 0

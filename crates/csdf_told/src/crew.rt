@@ -6,7 +6,7 @@ ghost use Rattle.csdf_words.specs.Workers.{AreFew, most_workers};
 ghost use Rattle.csdf_told.specs.Crews.{AreAsked, ArePaying, chosen, paying_workers, workers_of};
 
 use csdf_analysis::{Accepted, Room, accept_or_hand_back};
-use csdf_crew::has_heavy;
+use csdf_crew::gains_by_workers;
 use csdf_model::Graph;
 use csdf_words::Workers;
 use std::alloc::{AllocError, Global};
@@ -18,7 +18,7 @@ fn paying_workers(accepted: &Accepted, processors: u32) -> u32
     ensures least { 1 ≤ result }
     ensures most { result ≤ 8 }
 {
-    if has_heavy(accepted) {
+    if gains_by_workers(accepted) {
         processors.min(8).max(1)
     } else {
         1

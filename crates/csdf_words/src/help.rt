@@ -66,10 +66,10 @@ command csdf moves plays them again, of the graph file with FILE at its end. --p
 standard error how many firings were made, in a line that is written over.
 
 Memory holds the tokens that are read and those that the sinks take. A firing leaves nothing else
-behind, unless its moves are asked for. More workers pay where single firings are long, of 16,384
-products or more, or where the channels hold so many firings of a filter that these take 98,304.
-Lighter ones are made by one worker, however many there are. auto: as many as there are processors,
-and at most 8, where some actor is so, and else one. --progress tells how many these are.
+behind, unless its moves are asked for. More workers pay where two actors or more are heavy: filters
+whose single firings take 16,384 products or more, or whose channels hold so many firings that these
+take 98,304. All others are made by one worker, however many there are. auto: as many as there are
+processors, and at most 8, where two are so, and else one. --progress tells how many these are.
 
 With --json the report is {\"ending\":\"complete\",\"channels\":[..]} on one line, with an object for each
 channel, as {\"channel\":\"x\",\"written\":4,\"taken\":4,\"held\":0,\"peak\":2,\"capacity\":2,\"open\":false},

@@ -1,5 +1,4 @@
-use Rattle.std.proofs.Common.{◌+◌, ℕ, subst, sym}
-use Rattle.csdf_core.specs.Passing.{IsShare}
+use Rattle.std.proofs.Common.{◌+◌, subst}
 use Rattle.csdf_core.specs.Phases.{HasPhases}
 use Rattle.csdf_core.proofs.Shares.{one_in_phase, share_stays}
 use Rattle.csdf_core.proofs.block_moves.share_after.Goals as goal

@@ -1,4 +1,4 @@
-use Rattle.std.proofs.Common.{◌≡◌, ◌-◌, ◌++◌, ℕ, List, length, take, drop, ap, ap₂, subst, sym, ◌∙◌}
+use Rattle.std.proofs.Common.{◌≡◌, ◌-◌, ℕ, List, length, take, drop, ap, ap₂, subst, ◌∙◌}
 use Rattle.std.specs.Prelude.{ℤ}
 use Rattle.std.proofs.Math.Seq.{drop-append_seam}
 use Rattle.std.proofs.lemmas.List.{take_rest}
@@ -30,4 +30,4 @@ returns-clause-own c =
     let at : After-as_slice = (goal.at.returns-clause-own c).After-as_slice in
     on_ok c.pass_own.result _ _
     (λ e tokens own. subst (λ (u : List ℤ). AreOwn c.args.core.now.plan.channels c.args.actor
-    (own_passed c.args.core.now.plan.channels c.args.actor c.args.turn.firing u tokens) c.pass_own.new.own) (pushed at) (e tokens own)) c.pass_own.ensures
+    (own_passed c.args.core.now.plan.channels c.args.actor c.args.turn.firing u tokens) c.pass_own.new.own.queues) (pushed at) (e tokens own)) c.pass_own.ensures.passed

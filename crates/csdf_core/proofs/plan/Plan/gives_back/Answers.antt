@@ -1,4 +1,4 @@
-use Rattle.std.proofs.Common.{◌≡◌, ℕ, subst, arith}
+use Rattle.std.proofs.Common.{◌≡◌, subst, arith}
 use Rattle.std.proofs.lemmas.Bool.Decides.{nat_tests}
 use Rattle.csdf_core.specs.Phases.{HasPhases}
 use Rattle.csdf_core.proofs.Shares.{apart_gives, one_gives}

@@ -1,7 +1,7 @@
-use Rattle.std.proofs.Common.{◌≡◌, ◌-◌, ◌*◌, ℕ, [], true, length, get_or, refl, ap, sym, ◌∙◌, arith, rules}
+use Rattle.std.proofs.Common.{◌≡◌, ◌-◌, ◌*◌, ℕ, [], true, length, get_or, ap, sym, ◌∙◌, arith}
 use Rattle.std.proofs.lemmas.Grind.{common_steps}
 use Rattle.csdf_model.specs.declared.parts.Kernel.TheVariants.{Sink}
-use Rattle.csdf_core.specs.Blocks.{AreReadEach, needs_of}
+use Rattle.csdf_core.specs.Blocks.{AreReadEach}
 use Rattle.csdf_core.specs.Rows.{need}
 use Rattle.csdf_core.specs.Step.{count}
 use Rattle.csdf_floor.specs.Drafts.{DraftView}

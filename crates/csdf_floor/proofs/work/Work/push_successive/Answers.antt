@@ -1,11 +1,10 @@
 use Rattle.std.proofs.lemmas.Grind.{common_steps}
-use Rattle.std.proofs.Common.{◌≡◌, ◌<◌, ◌≤◌, ◌+◌, ◌-◌, ◌++◌, ℕ, false, List, length, take, drop, get_or, map, ap, ap₂, subst, sym, refl, ◌∙◌, rules, arith}
+use Rattle.std.proofs.Common.{◌≡◌, ◌<◌, ◌≤◌, ◌+◌, ◌-◌, ◌++◌, ℕ, false, List, length, take, drop, ap, ap₂, subst, sym, ◌∙◌, rules, arith}
 use Rattle.std.specs.Prelude.{ℤ, sum}
 use Rattle.std.specs.List.{AllByRecursion}
 use Rattle.std.proofs.lemmas.Slice.{overwrites}
 use borrow.Rule.Slice.PartMut.{put_mid}
 use Rattle.csdf_model.specs.declared.parts.Kernel.{Kernel}
-use Rattle.csdf_model.specs.declared.parts.Kernel.TheVariants.{Sink}
 use Rattle.csdf_kernel.specs.Value.{value_of}
 use Rattle.csdf_core.specs.Engine.{FindsIn}
 use Rattle.csdf_core.specs.Own.{AreOwn, OwnEnough, own_laid, own_passed}
@@ -16,7 +15,7 @@ use Rattle.csdf_core.specs.Step.{count, is_source}
 use Rattle.csdf_floor.specs.Journal.{Program, output_counts, value}
 use Rattle.csdf_floor.specs.Work.{program}
 use Rattle.csdf_floor.proofs.Sequential.{length_value, sum_of_counts}
-use Rattle.csdf_floor.proofs.SuccessiveValues.{gifts_within, needs_within, on_enough, on_first, on_more, on_read, on_values, value_read}
+use Rattle.csdf_floor.proofs.SuccessiveValues.{gifts_within, needs_within, on_enough, on_more, value_read}
 use Rattle.csdf_floor.proofs.Works.{counted}
 use Rattle.csdf_floor.proofs.work.Work.push_successive.Goals as goal
 use Rattle.csdf_floor.proofs.work.Work.push_successive.Goals.{After-need_at, After-as_slice}
@@ -87,9 +86,9 @@ push_next-requires-clause-all_counts c = total (goal.at.push_next-requires-claus
 pub push_next-requires-clause-enough : goal.push_next-requires-clause-enough
 push_next-requires-clause-enough c =
     let at : After-need_at = (goal.at.push_next-requires-clause-enough c).After-need_at in
-    subst (λ (j : ℕ). OwnEnough (cs at) c.args.actor (take_at (cs at) j) c.loop-firing.own) (sym (here at))
+    subst (λ (j : ℕ). OwnEnough (cs at) c.args.actor (take_at (cs at) j) c.loop-firing.own.queues) (sym (here at))
     (on_enough (program c.args.self.now) c.args.core.now.plan c.args.actor (k at) c.args.n c.args.core.now.now.tokens c.requires.plan (finds at) (i at)
-    c.loop-firing.at c.loop-firing.own c.loop-firing.buffer c.loop-firing.outputs.items (less at) c.loop-firing.invariant.on)
+    c.loop-firing.at c.loop-firing.own.queues c.loop-firing.buffer c.loop-firing.outputs.items (less at) c.loop-firing.invariant.on)
 
 pub push_next-requires-clause-room : goal.push_next-requires-clause-room
 push_next-requires-clause-room c =
@@ -136,13 +135,15 @@ loop-firing-preserved c =
       counts = c.in_ok-put_counts_after.ensures.value;
       few = c.in_ok-put_counts_after.ensures.few;
       small = c.in_ok-put_counts_after.ensures.small;
+      placed = c.turn_own.ensures.placed;
       room = omega (arith, c.loop-firing.invariant.room, c.push_next.ensures.capacity);
-      on = on_more w c.args.core.now.plan a (k at) c.args.n c.args.core.now.now.tokens c.requires.plan (finds at) (i at) c.loop-firing.at m c.loop-firing.own
-          c.push_next.new.own c.loop-firing.buffer old chunk _ x c.push_next.new.outputs.items (less at) c.loop-firing.invariant.on (needed at)
+      on = on_more w c.args.core.now.plan a (k at) c.args.n c.args.core.now.now.tokens c.requires.plan (finds at) (i at) c.loop-firing.at m c.loop-firing.own.queues
+          c.turn_own.new.own.queues c.loop-firing.buffer old chunk _ x c.push_next.new.outputs.items (less at) c.loop-firing.invariant.on (needed at)
           (λ tokens own. subst (λ (j : ℕ). chunk ≡ own_laid (cs at) a (take_at (cs at) j) (inputs_at (cs at) a) tokens
           (take (c.loop-firing.at + m - c.loop-firing.at) (drop c.loop-firing.at c.loop-firing.buffer))) (here at) (c.push_next.ensures.part tokens own))
           told one c.push_next.ensures.items
-          (λ tokens own. subst (λ (j : ℕ). AreOwn (cs at) a (own_passed (cs at) a j x tokens) c.push_next.new.own) (here at)
-          (c.in_ok-push_next.ensures.own tokens own))
+          (λ tokens own. subst (λ (j : ℕ). AreOwn (cs at) a (own_passed (cs at) a j x tokens) c.turn_own.new.own.queues) (here at)
+          (subst (AreOwn (cs at) a (own_passed (cs at) a c.loop-firing.turn.firing x tokens)) (sym c.turn_own.ensures.queues)
+          (c.in_ok-push_next.ensures.own tokens own)))
           front back size;
     }

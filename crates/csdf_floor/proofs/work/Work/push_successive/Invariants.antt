@@ -1,6 +1,7 @@
 use Rattle.std.proofs.Common.{◌≡◌, ◌<◌, ◌≤◌, ◌+◌, length, map}
 use Rattle.std.specs.Prelude.{All}
 use Rattle.csdf_core.specs.Blocks.{gifts_of}
+use Rattle.csdf_core.specs.Own.{ArePlaced}
 use Rattle.csdf_core.specs.Phases.{IsInPhase}
 use Rattle.csdf_core.specs.Ports.{give_at, outputs_at}
 use Rattle.csdf_core.specs.Step.{count}
@@ -18,5 +19,6 @@ invariant-loop-firing l = record {
   few : length l.counts.items ≤ 128;
   small : All (λ n. n ≤ 64) l.counts.items;
   room : gifts_of l.core.plan.channels l.actor (count l.core.now l.actor) l.n ≤ l.outputs.capacity;
-  on : IsOn (program l.fn.self) l.core.plan.channels l.actor (count l.core.now l.actor) l.n l._firing l.at l.core.now.tokens l.own l.buffer l.outputs.items;
+  placed : ArePlaced l.core.plan.channels l.actor l.turn.firing l.own.places;
+  on : IsOn (program l.fn.self) l.core.plan.channels l.actor (count l.core.now l.actor) l.n l._firing l.at l.core.now.tokens l.own.queues l.buffer l.outputs.items;
 }
