@@ -28,7 +28,7 @@ impl<'a> Model for Prepared<'a> {
 }
 
 impl<'a> Prepared<'a> {
-    /// The kernel.
+    /// Prepares the kernel: goes through the weights of its filter, where it is one.
     pub fn new(kernel: &'a Kernel) -> Prepared<'a>
         requires { HasFilterInRange kernel.now }
         ensures { result ≡ kernel.now }
