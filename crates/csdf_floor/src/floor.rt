@@ -257,8 +257,8 @@ impl Floor {
     /// Makes the actor's next firings, where it stands at this firing, and closes its outputs where it
     /// makes no firing more. It answers how many they are: at most so many, and at least one where
     /// `most` is. It goes on until so many are made, the next one is refused, or memory runs out after
-    /// the first. Those that find all that they read are made at once, and so are those of an actor that
-    /// keeps a state in one channel; any others are made one after the other.
+    /// some. They are made in blocks, and a block is made at once, though its firings may read what
+    /// earlier ones of it write.
     ///
     /// The refusals are those of [`Floor::start`], and a refusal changes nothing that a reader shows.
     /// The lists are only worked in.

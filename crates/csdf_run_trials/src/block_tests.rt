@@ -273,8 +273,7 @@ fn moves_of_firings_are_kept(rt: HostRuntime) -> Result<(), Fail> {
     check_kept(&rt, rt.alloc(), LINE, OF_LINE)
 }
 
-/// Each firing of these reads what the one before it wrote. Some are made one after the other, and then fewer
-/// where memory runs out after the first: `tests/memory/run` leaves this one out.
+/// Each firing of these reads what the one before it wrote. `tests/memory/run` leaves this one out.
 #[test]
 fn moves_of_states_are_kept(rt: HostRuntime) -> Result<(), Fail> {
     for (graph, wanted) in &GRAPHS {
